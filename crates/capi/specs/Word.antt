@@ -1,0 +1,19 @@
+-- The answer word of the C interface: 0 for success, else the refusal's number, with the minishard and the byte position where the rules give them.
+use Prim.Native.Nat.{ℕ, _+_, _*_, _^_}
+use mathlib.Core.List.{List}
+use Rattle.endian.specs.declared.Written.{Written}
+use Rattle.endian.specs.declared.Written.the-variants.{Length, Refused}
+use Rattle.endian.specs.Buffer.{written}
+
+-- number + 2^8 × minishard + 2^32 × position
+abbrev pub word : ℕ → ℕ → ℕ → ℕ
+word number minishard position = number + 2 ^ 8 * minishard + 2 ^ 32 * position
+
+-- the word of a writer's answer
+abbrev pub writtenWord : Written → ℕ
+writtenWord (Length n) = 0
+writtenWord (Refused k) = k
+
+-- the word of writing s at the front of a buffer
+abbrev pub fitAnswer : List ℕ → List ℕ → ℕ
+fitAnswer s out = writtenWord (written s out)

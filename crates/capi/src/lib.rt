@@ -1,0 +1,2 @@
+// The C interface. Each exported function hands its arguments to the library and carries the whole answer in its contract.
+pub mod bytes;

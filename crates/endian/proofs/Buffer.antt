@@ -1,0 +1,31 @@
+-- Laws of answers written into lent buffers: the two cases, and what a write at the front leaves.
+use Prim.Native.Nat.{ℕ, _≤_, _<_}
+use mathlib.Core.Path.{_≡_, refl, sym, _∙_}
+use mathlib.Core.List.{List, _++_}
+use lib.ListN.{length, drop}
+use borrow.Author.Tests.{lt-ltb, le-ltb}
+use Rattle.endian.specs.Place.{paste}
+use Rattle.endian.specs.Buffer.{written, leftBy}
+use Rattle.endian.specs.declared.Written.the-variants.{Length, Refused}
+use Rattle.endian.proofs.Paste.{paste-front}
+
+module _ (s out : List ℕ) where
+  pub written-short : length out < length s → written s out ≡ Refused 13
+  unfolding written
+  written-short h = rw (lt-ltb _ _ h)
+
+  pub leftBy-short : length out < length s → leftBy s out ≡ out
+  unfolding leftBy
+  leftBy-short h = rw (lt-ltb _ _ h)
+
+  pub written-fits : length s ≤ length out → written s out ≡ Length (length s)
+  unfolding written
+  written-fits h = rw (le-ltb _ _ h)
+
+  pub leftBy-fits : length s ≤ length out → leftBy s out ≡ s ++ drop (length s) out
+  unfolding leftBy
+  leftBy-fits h = rw (le-ltb _ _ h)
+
+  -- the text pasted at the front
+  pub leftBy-paste : length s ≤ length out → paste 0 s out ≡ leftBy s out
+  leftBy-paste h = paste-front s out (length s) refl ∙ sym (leftBy-fits h)

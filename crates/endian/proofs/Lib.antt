@@ -1,0 +1,5 @@
+pub mod Little
+pub mod Holds
+pub mod Paste
+pub mod Copy
+pub mod Buffer

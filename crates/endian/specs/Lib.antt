@@ -1,0 +1,4 @@
+pub mod Choice
+pub mod Little
+pub mod Place
+pub mod Buffer

@@ -1,0 +1,115 @@
+//! Refusals and the answer words that carry them.
+
+use std::error::Error;
+use std::fmt;
+
+/// Why a call refused: a number from the archive's table and, where the
+/// whole-shard check names one, the minishard with the fault.
+#[derive(Clone, Copy, Debug, PartialEq, Eq, Hash)]
+pub struct Refusal {
+    /// The number in the table, from 1 to 18.
+    pub number: u8,
+    /// The minishard with the fault, from the whole-shard check only.
+    pub minishard: Option<u64>,
+}
+
+impl Refusal {
+    /// The refusal in an answer word, as its number alone.
+    fn bare(word: u64) -> Self {
+        Refusal {
+            number: word as u8,
+            minishard: None,
+        }
+    }
+
+    /// What the table says about this number, as one sentence.
+    pub fn sentence(&self) -> &'static str {
+        match self.number {
+            1 => "The sharding specification has a field that is not allowed.",
+            2 => "An extent is zero, or the cell is outside the grid.",
+            3 => "The grid needs more than 64 key bits.",
+            4 => "The key is no cell of the grid.",
+            5 => "There is no such shard, or the id belongs to another one.",
+            6 => "The shard is shorter than its index or longer than 1 GiB.",
+            7 => "An entry of the shard index is reversed or ends past the file.",
+            8 => "A minishard index has a length that is no multiple of 24.",
+            9 => "The ids of a minishard do not rise, or one is too large.",
+            10 => "A listed id belongs to another shard or minishard.",
+            11 => "A chunk ends past the file.",
+            12 => "The id is not listed.",
+            13 => "The output is too short, or the settled form is longer than 1 GiB.",
+            14 => "The card is malformed.",
+            15 => "The manifest has a wrong length or level count.",
+            16 => "A real in the manifest is not finite, or a chunk shape is not above zero.",
+            17 => "The nodes of a level are not in strictly rising Z-curve order.",
+            18 => "There is no such level, node or field, or the node has no corners.",
+            _ => "The number is not in the table.",
+        }
+    }
+}
+
+impl fmt::Display for Refusal {
+    fn fmt(&self, f: &mut fmt::Formatter<'_>) -> fmt::Result {
+        write!(f, "refused {}: {}", self.number, self.sentence())?;
+        match self.minishard {
+            Some(minishard) => write!(f, " The fault is in minishard {minishard}."),
+            None => Ok(()),
+        }
+    }
+}
+
+impl Error for Refusal {}
+
+/// The meaning of an answer word: 0 is success, else the low byte is the
+/// refusal's number.
+pub(crate) fn answer(word: u64) -> Result<(), Refusal> {
+    if word == 0 {
+        Ok(())
+    } else {
+        Err(Refusal::bare(word))
+    }
+}
+
+#[cfg(test)]
+mod tests {
+    use super::*;
+
+    #[test]
+    fn words() {
+        assert_eq!(answer(0), Ok(()));
+        assert_eq!(
+            answer(13),
+            Err(Refusal {
+                number: 13,
+                minishard: None
+            })
+        );
+    }
+
+    #[test]
+    fn each_number_has_a_sentence_of_its_own() {
+        let sentence = |number| {
+            Refusal {
+                number,
+                minishard: None,
+            }
+            .sentence()
+        };
+        for number in 1..=18 {
+            assert_ne!(sentence(number), sentence(0));
+            assert!((1..number).all(|other| sentence(other) != sentence(number)));
+        }
+    }
+
+    #[test]
+    fn a_minishard_is_shown() {
+        let refusal = Refusal {
+            number: 12,
+            minishard: Some(3),
+        };
+        assert_eq!(
+            refusal.to_string(),
+            "refused 12: The id is not listed. The fault is in minishard 3."
+        );
+    }
+}

@@ -1,0 +1,55 @@
+//! An independent implementation of the archive's rules, in plain safe Rust.
+//!
+//! It follows the papers' words and looks at nothing else, so that the proved
+//! library can be compared with it. Clarity comes before speed: whatever a
+//! paper calls exact is computed in numbers too wide to overflow.
+
+#![forbid(unsafe_code)]
+
+pub mod card;
+pub mod endian;
+pub mod grid;
+pub mod locate;
+pub mod manifest;
+pub mod murmur;
+pub mod names;
+pub mod settle;
+pub mod shard;
+pub mod sharding;
+
+/// The most bytes that a shard or a settled form may have: 1 GiB.
+pub const MOST_SHARD_BYTES: u64 = 1_073_741_824;
+
+/// A refusal: its number in document 01's table, and for 7 to 11 in a
+/// whole-shard check the minishard with the fault.
+#[derive(Clone, Copy, Debug, PartialEq, Eq, Hash)]
+pub struct Refusal {
+    /// The number in document 01's table.
+    pub number: u8,
+    /// The faulty minishard, where the rules name one.
+    pub minishard: Option<u64>,
+}
+
+impl Refusal {
+    /// A refusal that names no minishard.
+    pub const fn bare(number: u8) -> Self {
+        Refusal {
+            number,
+            minishard: None,
+        }
+    }
+
+    /// A refusal found in this minishard.
+    pub const fn in_minishard(number: u8, minishard: u64) -> Self {
+        Refusal {
+            number,
+            minishard: Some(minishard),
+        }
+    }
+}
+
+impl From<u8> for Refusal {
+    fn from(number: u8) -> Self {
+        Refusal::bare(number)
+    }
+}

@@ -1,0 +1,145 @@
+//! The settled form of what a shard lists (document 01, "Settled form").
+
+use crate::shard::list;
+use crate::sharding::Sharding;
+use crate::MOST_SHARD_BYTES;
+
+/// A listed chunk: its id and its bytes.
+pub type Listed<'a> = (u64, &'a [u8]);
+
+/// The content by minishard number, each in rising id order.
+fn by_minishard<'a>(sharding: &Sharding, content: &[Listed<'a>]) -> Vec<Vec<Listed<'a>>> {
+    let mut minishards = vec![Vec::new(); sharding.minishard_count() as usize];
+    for (id, bytes) in content {
+        minishards[sharding.place(*id).minishard as usize].push((*id, *bytes));
+    }
+    for chunks in &mut minishards {
+        chunks.sort_by_key(|(id, _)| *id);
+    }
+    minishards
+}
+
+/// The minishard index of chunks that stand one after another, the first at
+/// `place`, counted from the end of the shard index.
+fn minishard_index(chunks: &[Listed], place: u64) -> Vec<u8> {
+    let before = std::iter::once(0).chain(chunks.iter().map(|(id, _)| *id));
+    let id_steps = chunks
+        .iter()
+        .zip(before)
+        .map(|((id, _), before)| id - before);
+    let start_steps = (0..chunks.len()).map(|i| if i == 0 { place } else { 0 });
+    let sizes = chunks.iter().map(|(_, bytes)| bytes.len() as u64);
+    id_steps
+        .chain(start_steps)
+        .chain(sizes)
+        .flat_map(u64::to_le_bytes)
+        .collect()
+}
+
+/// The settled form of this content, given in any order: each id stands once
+/// and belongs to the shard. The specification is allowed.
+pub fn settled_form(sharding: &Sharding, content: &[Listed]) -> Vec<u8> {
+    let mut entries = Vec::new();
+    let mut data = Vec::new();
+    for chunks in by_minishard(sharding, content) {
+        if chunks.is_empty() {
+            entries.extend([0, 0]);
+            continue;
+        }
+        let place = data.len() as u64;
+        for (_, bytes) in &chunks {
+            data.extend(*bytes);
+        }
+        let start = data.len() as u64;
+        data.extend(minishard_index(&chunks, place));
+        entries.extend([start, data.len() as u64]);
+    }
+    let mut form: Vec<u8> = entries.into_iter().flat_map(u64::to_le_bytes).collect();
+    form.extend(data);
+    form
+}
+
+/// The length of the settled form of this content, exact.
+pub fn settled_length(sharding: &Sharding, content: &[Listed]) -> u128 {
+    let chunks: u128 = content
+        .iter()
+        .map(|(_, bytes)| 24 + bytes.len() as u128)
+        .sum();
+    u128::from(sharding.index_end()) + chunks
+}
+
+/// Settles a shard: writes its settled form to the front of `out` and gives
+/// its length, or 1, 5, 6, then 7 to 11 by minishard, then 13.
+pub fn settle(sharding: &Sharding, number: u64, file: &[u8], out: &mut [u8]) -> Result<usize, u8> {
+    let entries = list(sharding, number, file).map_err(|refusal| refusal.number)?;
+    let content: Vec<Listed> = entries
+        .iter()
+        .map(|entry| (entry.id, entry.bytes(file)))
+        .collect();
+    let length = settled_length(sharding, &content);
+    if length > out.len() as u128 || length > u128::from(MOST_SHARD_BYTES) {
+        return Err(13);
+    }
+    let form = settled_form(sharding, &content);
+    out[..form.len()].copy_from_slice(&form);
+    Ok(form.len())
+}
+
+#[cfg(test)]
+mod tests {
+    use super::*;
+    use crate::endian::read_u64;
+    use crate::shard::{check, lookup};
+
+    const ONE: Sharding = Sharding {
+        preshift: 0,
+        hash: 0,
+        minishard_bits: 1,
+        shard_bits: 0,
+    };
+
+    fn numbers(bytes: &[u8]) -> Vec<u64> {
+        (0..bytes.len() / 8)
+            .map(|i| read_u64(bytes, 8 * i))
+            .collect()
+    }
+
+    #[test]
+    fn the_example() {
+        let form = settled_form(&ONE, &[(10, b"cde"), (4, b"ab")]);
+        assert_eq!(form.len(), 85);
+        assert_eq!(settled_length(&ONE, &[(10, b"cde"), (4, b"ab")]), 85);
+        assert_eq!(numbers(&form[..32]), [5, 53, 0, 0]);
+        assert_eq!(&form[32..37], b"abcde");
+        assert_eq!(numbers(&form[37..]), [4, 6, 0, 0, 2, 3]);
+        let entry = lookup(&ONE, 0, 10, &form).unwrap();
+        assert_eq!((entry.start, entry.start + entry.length), (34, 37));
+        assert_eq!(lookup(&ONE, 0, 6, &form), Err(12));
+        assert_eq!(lookup(&ONE, 0, 7, &form), Err(12));
+    }
+
+    #[test]
+    fn a_settled_form_is_sound_and_settles_to_itself() {
+        let form = settled_form(&ONE, &[(0, b""), (2, b"xyz"), (3, b"q"), (9, b"")]);
+        assert_eq!(check(&ONE, 0, &form), Ok(()));
+        let mut out = vec![0xa5; form.len() + 3];
+        assert_eq!(settle(&ONE, 0, &form, &mut out), Ok(form.len()));
+        assert_eq!(out[..form.len()], form);
+        assert_eq!(out[form.len()..], [0xa5; 3]);
+    }
+
+    #[test]
+    fn later_minishards_name_their_place() {
+        let form = settled_form(&ONE, &[(2, b"xyz"), (3, b"q"), (5, b"rs")]);
+        assert_eq!(numbers(&form[..32]), [3, 27, 30, 78]);
+        assert_eq!(numbers(&form[32 + 30..]), [3, 2, 27, 0, 1, 2]);
+    }
+
+    #[test]
+    fn a_short_output_stays_as_it_was() {
+        let form = settled_form(&ONE, &[(4, b"ab")]);
+        let mut out = vec![7; form.len() - 1];
+        assert_eq!(settle(&ONE, 0, &form, &mut out), Err(13));
+        assert!(out.iter().all(|byte| *byte == 7));
+    }
+}

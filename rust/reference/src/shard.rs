@@ -1,0 +1,370 @@
+//! Reading a shard: lookup, the whole-shard check and listings (source
+//! document 002; document 01, "From id to shard").
+
+use crate::endian::read_u64;
+use crate::sharding::Sharding;
+use crate::{Refusal, MOST_SHARD_BYTES};
+
+/// A chunk that a minishard index lists, with its place in the file.
+#[derive(Clone, Copy, Debug, PartialEq, Eq, Hash)]
+pub struct Entry {
+    /// The chunk's id.
+    pub id: u64,
+    /// Where its bytes start, counted from the start of the file.
+    pub start: u64,
+    /// How many bytes it has.
+    pub length: u64,
+}
+
+impl Entry {
+    /// The chunk's bytes in the file that lists it.
+    pub fn bytes<'a>(&self, file: &'a [u8]) -> &'a [u8] {
+        &file[self.start as usize..][..self.length as usize]
+    }
+}
+
+/// An entry as the rows give it, its sums exact and judged by no test yet.
+struct RawEntry {
+    id: u128,
+    start: u128,
+    end: u128,
+}
+
+/// Tests 1, 5 for the shard number alone, and 6.
+fn open(sharding: &Sharding, number: u64, file: &[u8]) -> Result<(), u8> {
+    sharding.allowed()?;
+    if number >= sharding.shard_count() {
+        return Err(5);
+    }
+    length_allowed(sharding, file)
+}
+
+/// Test 6.
+fn length_allowed(sharding: &Sharding, file: &[u8]) -> Result<(), u8> {
+    let length = file.len() as u64;
+    if length < sharding.index_end() || length > MOST_SHARD_BYTES {
+        return Err(6);
+    }
+    Ok(())
+}
+
+/// The minishard index that the shard index names, after tests 7 and 8;
+/// `None` for an empty entry.
+fn minishard_index<'a>(
+    sharding: &Sharding,
+    file: &'a [u8],
+    minishard: u64,
+) -> Result<Option<&'a [u8]>, u8> {
+    let at = 16 * minishard as usize;
+    let start = read_u64(file, at);
+    let end = read_u64(file, at + 8);
+    if start == end {
+        return Ok(None);
+    }
+    let index_end = u128::from(sharding.index_end());
+    if start > end || index_end + u128::from(end) > file.len() as u128 {
+        return Err(7);
+    }
+    if !(end - start).is_multiple_of(24) {
+        return Err(8);
+    }
+    let part = &file[sharding.index_end() as usize..][..end as usize];
+    Ok(Some(&part[start as usize..]))
+}
+
+/// The entries of a minishard index: three rows of n numbers, read with exact
+/// sums. Starts count from the start of the file.
+fn raw_entries(index: &[u8], index_end: u64) -> Vec<RawEntry> {
+    let n = index.len() / 24;
+    let row = |number: usize, i: usize| u128::from(read_u64(index, 8 * (number * n + i)));
+    let mut entries = Vec::with_capacity(n);
+    let mut id = 0;
+    let mut end = u128::from(index_end);
+    for i in 0..n {
+        id += row(0, i);
+        let start = end + row(1, i);
+        end = start + row(2, i);
+        entries.push(RawEntry { id, start, end });
+    }
+    entries
+}
+
+/// Test 9: ids rise strictly and none passes 2^64-1.
+fn ids_rise(entries: &[RawEntry]) -> Result<(), u8> {
+    let rising = entries.windows(2).all(|pair| pair[0].id < pair[1].id);
+    let fitting = entries.iter().all(|entry| entry.id <= u128::from(u64::MAX));
+    if rising && fitting {
+        Ok(())
+    } else {
+        Err(9)
+    }
+}
+
+/// Test 10: each id belongs to this shard and minishard.
+fn ids_belong(
+    sharding: &Sharding,
+    number: u64,
+    minishard: u64,
+    entries: &[RawEntry],
+) -> Result<(), u8> {
+    let belong = entries.iter().all(|entry| {
+        let place = sharding.place(entry.id as u64);
+        place.shard == number && place.minishard == minishard
+    });
+    if belong {
+        Ok(())
+    } else {
+        Err(10)
+    }
+}
+
+/// Test 11: no chunk's bytes end past the file.
+fn chunks_fit(file: &[u8], entries: &[RawEntry]) -> Result<(), u8> {
+    if entries.iter().all(|entry| entry.end <= file.len() as u128) {
+        Ok(())
+    } else {
+        Err(11)
+    }
+}
+
+/// What one minishard lists, in stored order, after tests 7 to 11 of it. The
+/// specification, the numbers and the file's length are fine already.
+fn judged_minishard(
+    sharding: &Sharding,
+    number: u64,
+    file: &[u8],
+    minishard: u64,
+) -> Result<Vec<Entry>, u8> {
+    let Some(index) = minishard_index(sharding, file, minishard)? else {
+        return Ok(Vec::new());
+    };
+    let raw = raw_entries(index, sharding.index_end());
+    ids_rise(&raw)?;
+    ids_belong(sharding, number, minishard, &raw)?;
+    chunks_fit(file, &raw)?;
+    let entry = |raw: &RawEntry| Entry {
+        id: raw.id as u64,
+        start: raw.start as u64,
+        length: (raw.end - raw.start) as u64,
+    };
+    Ok(raw.iter().map(entry).collect())
+}
+
+/// What one minishard lists, in stored order, or 1, 5, 6, then 7 to 11 of it.
+/// A minishard that the specification does not have lists nothing.
+pub fn list_minishard(
+    sharding: &Sharding,
+    number: u64,
+    file: &[u8],
+    minishard: u64,
+) -> Result<Vec<Entry>, u8> {
+    open(sharding, number, file)?;
+    if minishard >= sharding.minishard_count() {
+        return Ok(Vec::new());
+    }
+    judged_minishard(sharding, number, file, minishard)
+}
+
+/// What a sound shard lists, by minishard and then in stored order, or the
+/// refusal of the whole-shard check.
+pub fn list(sharding: &Sharding, number: u64, file: &[u8]) -> Result<Vec<Entry>, Refusal> {
+    open(sharding, number, file)?;
+    let mut all = Vec::new();
+    for minishard in 0..sharding.minishard_count() {
+        let entries = judged_minishard(sharding, number, file, minishard)
+            .map_err(|fault| Refusal::in_minishard(fault, minishard))?;
+        all.extend(entries);
+    }
+    Ok(all)
+}
+
+/// The whole-shard check: 1, 5, 6, then the first minishard with a fault.
+pub fn check(sharding: &Sharding, number: u64, file: &[u8]) -> Result<(), Refusal> {
+    list(sharding, number, file).map(|_| ())
+}
+
+/// The entry of an id, or 1, 5, 6, then 7 to 11 of its minishard, then 12.
+pub fn lookup(sharding: &Sharding, number: u64, id: u64, file: &[u8]) -> Result<Entry, u8> {
+    sharding.allowed()?;
+    let place = sharding.place(id);
+    if number >= sharding.shard_count() || place.shard != number {
+        return Err(5);
+    }
+    length_allowed(sharding, file)?;
+    judged_minishard(sharding, number, file, place.minishard)?
+        .into_iter()
+        .find(|entry| entry.id == id)
+        .ok_or(12)
+}
+
+/// The bytes of an id, as the part of the file; where the lookup refuses, the
+/// empty part at the file's start.
+pub fn lookup_part<'a>(sharding: &Sharding, number: u64, id: u64, file: &'a [u8]) -> &'a [u8] {
+    match lookup(sharding, number, id, file) {
+        Ok(entry) => entry.bytes(file),
+        Err(_) => &file[..0],
+    }
+}
+
+#[cfg(test)]
+mod tests {
+    use super::*;
+
+    const ONE: Sharding = Sharding {
+        preshift: 0,
+        hash: 0,
+        minishard_bits: 1,
+        shard_bits: 0,
+    };
+
+    /// Rows of u64, one after another.
+    fn row(numbers: &[u64]) -> Vec<u8> {
+        numbers.iter().flat_map(|n| n.to_le_bytes()).collect()
+    }
+
+    /// Document 01's shard: ids 4 and 10 with bytes `ab` and `cde`.
+    fn example() -> Vec<u8> {
+        let mut file = row(&[5, 53, 0, 0]);
+        file.extend(b"abcde");
+        file.extend(row(&[4, 6, 0, 0, 2, 3]));
+        file
+    }
+
+    /// A shard of two minishards: the first has this index behind 5 chunk
+    /// bytes, the second has this entry.
+    fn with_rows(rows: &[u64], second: [u64; 2]) -> Vec<u8> {
+        let mut file = row(&[5, 5 + 8 * rows.len() as u64, second[0], second[1]]);
+        file.extend(b"abcde");
+        file.extend(row(rows));
+        file
+    }
+
+    fn fault(number: u8, minishard: u64) -> Result<(), Refusal> {
+        Err(Refusal::in_minishard(number, minishard))
+    }
+
+    #[test]
+    fn the_example_is_sound_and_found() {
+        let file = example();
+        assert_eq!(file.len(), 85);
+        assert_eq!(check(&ONE, 0, &file), Ok(()));
+        assert_eq!(
+            lookup(&ONE, 0, 10, &file),
+            Ok(Entry {
+                id: 10,
+                start: 34,
+                length: 3
+            })
+        );
+        assert_eq!(lookup_part(&ONE, 0, 10, &file), b"cde");
+        assert_eq!(lookup_part(&ONE, 0, 4, &file), b"ab");
+        assert_eq!(lookup(&ONE, 0, 6, &file), Err(12));
+        assert_eq!(lookup(&ONE, 0, 7, &file), Err(12));
+        assert_eq!(lookup_part(&ONE, 0, 7, &file).as_ptr(), file.as_ptr());
+    }
+
+    #[test]
+    fn tests_1_5_and_6_come_first() {
+        let file = example();
+        let bad = Sharding {
+            minishard_bits: 13,
+            ..ONE
+        };
+        assert_eq!(lookup(&bad, 9, 4, &[]), Err(1));
+        assert_eq!(check(&bad, 9, &[]), Err(Refusal::bare(1)));
+        assert_eq!(lookup(&ONE, 1, 4, &[]), Err(5));
+        assert_eq!(check(&ONE, 1, &[]), Err(Refusal::bare(5)));
+        let two = Sharding {
+            shard_bits: 1,
+            ..ONE
+        };
+        assert_eq!(lookup(&two, 1, 4, &[]), Err(5));
+        assert_eq!(lookup(&two, 0, 4, &file[..31]), Err(6));
+        assert_eq!(check(&ONE, 0, &file[..31]), Err(Refusal::bare(6)));
+    }
+
+    #[test]
+    fn a_shard_of_more_than_a_gibibyte_is_refused() {
+        let mut file = vec![0; MOST_SHARD_BYTES as usize + 1];
+        assert_eq!(check(&ONE, 0, &file), Err(Refusal::bare(6)));
+        assert_eq!(lookup(&ONE, 0, 4, &file), Err(6));
+        file.pop();
+        assert_eq!(check(&ONE, 0, &file), Ok(()));
+        assert_eq!(lookup(&ONE, 0, 4, &file), Err(12));
+    }
+
+    #[test]
+    fn an_index_entry_out_of_the_file_is_7() {
+        let sound = [4, 6, 0, 0, 2, 3];
+        for second in [[1, 0], [0, 54], [0, u64::MAX], [u64::MAX - 1, u64::MAX]] {
+            let file = with_rows(&sound, second);
+            assert_eq!(check(&ONE, 0, &file), fault(7, 1));
+            assert_eq!(lookup(&ONE, 0, 5, &file), Err(7));
+            assert_eq!(lookup_part(&ONE, 0, 10, &file), b"cde");
+        }
+        for at in [0, 1, 54, 1 << 40, u64::MAX] {
+            let file = with_rows(&sound, [at, at]);
+            assert_eq!(check(&ONE, 0, &file), Ok(()));
+            assert_eq!(lookup(&ONE, 0, 5, &file), Err(12));
+        }
+    }
+
+    #[test]
+    fn an_index_of_another_length_is_8() {
+        let file = with_rows(&[4, 6, 0, 0, 2, 3], [0, 52]);
+        assert_eq!(check(&ONE, 0, &file), fault(8, 1));
+        let file = with_rows(&[4, 6, 0, 0, 2, 3], [0, 1]);
+        assert_eq!(check(&ONE, 0, &file), fault(8, 1));
+    }
+
+    #[test]
+    fn ids_that_do_not_rise_are_9() {
+        let file = with_rows(&[4, 0, 0, 0, 2, 3], [0, 0]);
+        assert_eq!(check(&ONE, 0, &file), fault(9, 0));
+        let file = with_rows(&[4, u64::MAX - 3, 0, 0, 2, 3], [0, 0]);
+        assert_eq!(check(&ONE, 0, &file), fault(9, 0));
+        let file = with_rows(&[4, u64::MAX - 5, 0, 0, 2, 3], [0, 0]);
+        assert_eq!(check(&ONE, 0, &file), Ok(()));
+        let file = with_rows(&[0, 2, 0, 0, 2, 3], [0, 0]);
+        assert_eq!(lookup_part(&ONE, 0, 0, &file), b"ab");
+    }
+
+    #[test]
+    fn ids_of_another_place_are_10() {
+        let file = with_rows(&[4, 7, 0, 0, 2, 300], [0, 0]);
+        assert_eq!(check(&ONE, 0, &file), fault(10, 0));
+        let two = Sharding {
+            shard_bits: 1,
+            ..ONE
+        };
+        let file = with_rows(&[4, 6, 0, 0, 2, 3], [0, 0]);
+        assert_eq!(check(&two, 0, &file), fault(10, 0));
+    }
+
+    #[test]
+    fn chunks_past_the_file_are_11() {
+        for (rows, sound) in [
+            ([4, 6, 0, 0, 2, 51], true),
+            ([4, 6, 0, 0, 2, 52], false),
+            ([4, 6, 0, 51, 2, 0], true),
+            ([4, 6, 0, 52, 2, 0], false),
+            ([4, 6, 0, u64::MAX, 2, 3], false),
+            ([4, 6, u64::MAX, 0, 0, 0], false),
+            ([4, 6, 0, 0, 2, u64::MAX], false),
+            ([4, 6, 0, u64::MAX - 1, 2, 0], false),
+        ] {
+            let expected = if sound { Ok(()) } else { fault(11, 0) };
+            assert_eq!(check(&ONE, 0, &with_rows(&rows, [0, 0])), expected);
+        }
+    }
+
+    #[test]
+    fn each_test_runs_over_all_entries_before_the_next() {
+        // The second entry breaks 9, the first breaks 10 and 11.
+        let file = with_rows(&[5, 0, 0, 0, 999, 3], [1, 0]);
+        assert_eq!(check(&ONE, 0, &file), fault(9, 0));
+        // Minishard 0 breaks 11, minishard 1 breaks 7.
+        let file = with_rows(&[4, 6, 0, 0, 999, 3], [1, 0]);
+        assert_eq!(check(&ONE, 0, &file), fault(11, 0));
+    }
+}

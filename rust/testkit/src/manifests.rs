@@ -1,0 +1,185 @@
+//! Random mesh manifests, sound and damaged.
+
+use crate::Rng;
+use reference::endian::read_u32;
+use reference::manifest::z_curve;
+
+/// A finite real of any size; zeros and the smallest and largest are common.
+fn finite(rng: &mut Rng) -> f32 {
+    const SPECIAL: [f32; 8] = [
+        0.0,
+        -0.0,
+        1.0,
+        -1.0,
+        f32::MAX,
+        f32::MIN,
+        f32::MIN_POSITIVE,
+        f32::EPSILON,
+    ];
+    match rng.below(4) {
+        0 => *rng.pick(&SPECIAL),
+        1 => f32::from_bits(rng.below(1 << 24) as u32),
+        2 => rng.within(0, 4_000) as f32 / 8.0 - 250.0,
+        _ => {
+            let real = f32::from_bits(rng.bits() as u32);
+            if real.is_finite() {
+                real
+            } else {
+                10.0
+            }
+        }
+    }
+}
+
+/// A finite real above zero.
+fn above_zero(rng: &mut Rng) -> f32 {
+    let real = finite(rng).abs();
+    if real > 0.0 {
+        real
+    } else {
+        f32::from_bits(1)
+    }
+}
+
+/// Positions in strictly rising Z-curve order, mostly small.
+fn positions(rng: &mut Rng, most: usize) -> Vec<[u32; 3]> {
+    let count = rng.index(most + 1);
+    let bits = *rng.pick(&[1, 2, 4, 23, 25, 32]);
+    let mut positions: Vec<[u32; 3]> = (0..count)
+        .map(|_| std::array::from_fn(|_| rng.edge(bits) as u32))
+        .collect();
+    positions.sort_by_key(|position| z_curve(*position));
+    positions.dedup();
+    positions
+}
+
+/// A sound manifest with up to `most` nodes on a level.
+pub fn sound(rng: &mut Rng, most: usize) -> Vec<u8> {
+    let level_count = *rng.pick(&[0, 1, 1, 2, 3, 4, 5, 31, 32]);
+    let levels: Vec<Vec<[u32; 3]>> = (0..level_count).map(|_| positions(rng, most)).collect();
+    let mut items: Vec<u32> = (0..3).map(|_| above_zero(rng).to_bits()).collect();
+    items.extend((0..3).map(|_| finite(rng).to_bits()));
+    items.push(level_count as u32);
+    items.extend((0..4 * level_count).map(|_| finite(rng).to_bits()));
+    items.extend(levels.iter().map(|nodes| nodes.len() as u32));
+    for nodes in &levels {
+        for axis in 0..3 {
+            items.extend(nodes.iter().map(|position| position[axis]));
+        }
+        items.extend(nodes.iter().map(|_| rng.edge_u32()));
+    }
+    items.into_iter().flat_map(u32::to_le_bytes).collect()
+}
+
+/// Writes item `number` of the manifest, where it has one.
+fn set(bytes: &mut [u8], number: usize, value: u32) {
+    if let Some(place) = bytes.get_mut(4 * number..4 * number + 4) {
+        place.copy_from_slice(&value.to_le_bytes());
+    }
+}
+
+/// Damages the manifest in one place: its length, its level count, a node
+/// count, a real, or a position. It may stay sound.
+pub fn damage(rng: &mut Rng, bytes: &mut Vec<u8>) {
+    const REALS: [f32; 7] = [
+        f32::NAN,
+        f32::INFINITY,
+        f32::NEG_INFINITY,
+        0.0,
+        -0.0,
+        -1.0,
+        f32::MAX,
+    ];
+    let levels = read_u32(bytes, 24).min(32) as usize;
+    let items = (bytes.len() / 4).max(1);
+    match rng.below(10) {
+        0 => {
+            let cut = rng.index(bytes.len() + 1);
+            bytes.truncate(cut);
+        }
+        1 => {
+            let more = rng.index(40);
+            bytes.extend(rng.bytes(more));
+        }
+        2 => set(bytes, 6, rng.edge_u32()),
+        3 => set(bytes, rng.index(6), rng.pick(&REALS).to_bits()),
+        4 => {
+            let number = 7 + rng.index(4 * levels + 1);
+            set(bytes, number, rng.pick(&REALS).to_bits());
+        }
+        5 if levels > 0 => {
+            let number = 7 + 4 * levels + rng.index(levels);
+            set(bytes, number, rng.edge_u32());
+        }
+        6 if levels > 1 => {
+            let counts = 7 + 4 * levels;
+            let (a, b) = (counts + rng.index(levels), counts + rng.index(levels));
+            let (from, to) = (read_u32(bytes, 4 * a), read_u32(bytes, 4 * b));
+            if a != b && from > 0 {
+                set(bytes, a, from - 1);
+                set(bytes, b, to.wrapping_add(1));
+            }
+        }
+        7 | 8 => {
+            let first = 7 + 5 * levels;
+            if first < items {
+                let a = first + rng.index(items - first);
+                let b = first + rng.index(items - first);
+                let value = read_u32(bytes, 4 * a);
+                set(bytes, b, value);
+            }
+        }
+        _ => {
+            if !bytes.is_empty() {
+                let at = rng.index(bytes.len());
+                bytes[at] ^= 1 << rng.below(8);
+            }
+        }
+    }
+}
+
+/// A manifest that was damaged in one or two places; it may still be sound.
+pub fn damaged(rng: &mut Rng, most: usize) -> Vec<u8> {
+    let mut bytes = sound(rng, most);
+    for _ in 0..rng.within(1, 2) {
+        damage(rng, &mut bytes);
+    }
+    bytes
+}
+
+/// A level and node to ask for: mostly ones that the manifest has.
+pub fn question(rng: &mut Rng, bytes: &[u8]) -> (u64, u64) {
+    let levels = read_u32(bytes, 24).min(32);
+    let level = rng.below(u64::from(levels) + 1);
+    let count = read_u32(bytes, 28 + 16 * levels as usize + 4 * level as usize);
+    let node = rng.below(u64::from(count.min(1_000)) + 1);
+    match rng.below(12) {
+        0 => (rng.edge_u64(), node),
+        1 => (level, rng.edge_u64()),
+        _ => (level, node),
+    }
+}
+
+#[cfg(test)]
+mod tests {
+    use super::*;
+    use crate::Met;
+    use reference::manifest::{check, corners, node};
+
+    #[test]
+    fn sound_ones_pass_and_damage_reaches_each_refusal() {
+        let mut rng = Rng::new(1);
+        let (mut checks, mut nodes, mut corner) = (Met::new(), Met::new(), Met::new());
+        for _ in 0..5_000 {
+            let whole = sound(&mut rng, 6);
+            assert_eq!(check(&whole), Ok(()));
+            let (level, number) = question(&mut rng, &whole);
+            nodes.note(&node(&whole, level, number));
+            corner.note(&corners(&whole, level, number));
+            checks.note(&check(&damaged(&mut rng, 6)));
+        }
+        checks.assert_exactly(&[0, 15, 16, 17]);
+        nodes.assert_exactly(&[0, 18]);
+        corner.assert_exactly(&[0, 18]);
+    }
+}

@@ -1,0 +1,453 @@
+//! Random shards: sound ones in many layouts, and damaged ones.
+
+use crate::places::identity_id;
+use crate::Rng;
+use reference::endian::{put_u64, read_u64};
+use reference::sharding::{Place, Sharding, IDENTITY};
+use std::collections::BTreeMap;
+
+/// Chunks by id: what a shard lists.
+pub type Content = BTreeMap<u64, Vec<u8>>;
+
+/// A shard file with the specification and number that it belongs to.
+#[derive(Clone, Debug)]
+pub struct Sample {
+    /// The specification.
+    pub sharding: Sharding,
+    /// The shard number.
+    pub number: u64,
+    /// The file.
+    pub file: Vec<u8>,
+}
+
+/// An allowed specification under which ids of one shard are found quickly.
+/// Its shard index is mostly short.
+pub fn sharding(rng: &mut Rng) -> Sharding {
+    let hash = rng.below(2) as u8;
+    Sharding {
+        preshift: *rng.pick(&[0, 0, 0, 1, 2, 9, 30, 60, 63]),
+        hash,
+        minishard_bits: if rng.once_in(60) {
+            rng.within(5, 12) as u8
+        } else {
+            rng.below(5) as u8
+        },
+        shard_bits: if hash == IDENTITY {
+            rng.below(33) as u8
+        } else {
+            rng.below(4) as u8
+        },
+    }
+}
+
+/// A shard number that has ids under this specification.
+pub fn number(rng: &mut Rng, sharding: &Sharding) -> u64 {
+    sharding.place(rng.edge_u64()).shard
+}
+
+/// An id of this shard, where the search finds one.
+pub fn id(rng: &mut Rng, sharding: &Sharding, number: u64) -> Option<u64> {
+    for _ in 0..60 {
+        let candidate = if sharding.hash == IDENTITY {
+            let place = Place {
+                shard: number,
+                minishard: rng.below(sharding.minishard_count()),
+            };
+            identity_id(rng, sharding, place)
+        } else {
+            Some(rng.edge_u64())
+        };
+        if let Some(id) = candidate.filter(|id| sharding.place(*id).shard == number) {
+            return Some(id);
+        }
+    }
+    None
+}
+
+/// Up to `most` ids of this shard, some of them close together.
+fn ids(rng: &mut Rng, sharding: &Sharding, number: u64, most: usize) -> Vec<u64> {
+    let mut ids = Vec::new();
+    for _ in 0..rng.index(most + 1) {
+        let near = ids.last().map(|last: &u64| last.wrapping_add(rng.below(9)));
+        let next = near
+            .filter(|id| rng.once_in(2) && sharding.place(*id).shard == number)
+            .or_else(|| id(rng, sharding, number));
+        ids.extend(next);
+    }
+    ids.sort_unstable();
+    ids.dedup();
+    ids
+}
+
+/// A few bytes; empty ones, runs of one byte and repetitions are common.
+fn chunk(rng: &mut Rng) -> Vec<u8> {
+    let length = rng.index(9);
+    match rng.below(4) {
+        0 => Vec::new(),
+        1 => vec![0; length],
+        2 => b"abcdefgh"[..length.min(8)].to_vec(),
+        _ => rng.bytes(length),
+    }
+}
+
+/// Random content of up to `most` chunks for this shard.
+pub fn content(rng: &mut Rng, sharding: &Sharding, number: u64, most: usize) -> Content {
+    ids(rng, sharding, number, most)
+        .into_iter()
+        .map(|id| (id, chunk(rng)))
+        .collect()
+}
+
+/// A minishard while it is laid out: its chunks in id order, the places given
+/// so far and the place of its index, counted from the end of the shard index.
+#[derive(Default)]
+struct Layout {
+    ids: Vec<u64>,
+    sizes: Vec<u64>,
+    starts: Vec<u64>,
+    index: Option<u64>,
+}
+
+impl Layout {
+    fn cursor(&self) -> u64 {
+        let placed = self.starts.len();
+        self.starts
+            .last()
+            .map_or(0, |start| start + self.sizes[placed - 1])
+    }
+
+    fn index_length(&self) -> u64 {
+        24 * self.ids.len() as u64
+    }
+
+    fn finished(&self) -> bool {
+        self.starts.len() == self.ids.len() && self.index.is_some()
+    }
+
+    /// The three rows of the index.
+    fn rows(&self) -> Vec<u64> {
+        let mut ids = Vec::new();
+        let mut starts = Vec::new();
+        let (mut id, mut end) = (0, 0);
+        for i in 0..self.ids.len() {
+            ids.push(self.ids[i] - id);
+            starts.push(self.starts[i] - end);
+            id = self.ids[i];
+            end = self.starts[i] + self.sizes[i];
+        }
+        ids.extend(starts);
+        ids.extend(&self.sizes);
+        ids
+    }
+}
+
+/// The file of these minishards over this data: the shard index in front, the
+/// minishard indexes at their places.
+fn finish(rng: &mut Rng, minishards: &[Layout], mut data: Vec<u8>) -> Vec<u8> {
+    let mut file = Vec::new();
+    for minishard in minishards {
+        let (start, end) = match minishard.index {
+            Some(start) => (start, start + minishard.index_length()),
+            None => {
+                let odd = if rng.once_in(2) { 0 } else { rng.edge_u64() };
+                (odd, odd)
+            }
+        };
+        file.extend(start.to_le_bytes());
+        file.extend(end.to_le_bytes());
+        for (i, number) in minishard.rows().into_iter().enumerate() {
+            put_u64(&mut data, start as usize + 8 * i, number).expect("the index has room");
+        }
+    }
+    file.extend(data);
+    file
+}
+
+/// Up to `most` bytes that nothing lists.
+fn gap(rng: &mut Rng, most: usize) -> Vec<u8> {
+    if rng.once_in(2) {
+        return Vec::new();
+    }
+    let length = rng.index(most + 1);
+    rng.bytes(length)
+}
+
+/// Where these bytes stand already as the front of an earlier chunk, at the
+/// cursor or behind it.
+fn shared(data: &[u8], chunks: &[(u64, u64)], cursor: u64, bytes: &[u8]) -> Option<u64> {
+    chunks
+        .iter()
+        .find(|(start, size)| {
+            *start >= cursor
+                && *size >= bytes.len() as u64
+                && data[*start as usize..].starts_with(bytes)
+        })
+        .map(|(start, _)| *start)
+}
+
+/// A sound shard that lists this content, in a random layout: with gaps,
+/// minishard indexes before, between or after chunks, minishards mixed, bytes
+/// shared, and odd entries for empty minishards.
+pub fn lay_out(rng: &mut Rng, sharding: &Sharding, content: &Content) -> Vec<u8> {
+    let mut minishards: Vec<Layout> = Vec::new();
+    minishards.resize_with(sharding.minishard_count() as usize, Layout::default);
+    for (id, bytes) in content {
+        let minishard = &mut minishards[sharding.place(*id).minishard as usize];
+        minishard.ids.push(*id);
+        minishard.sizes.push(bytes.len() as u64);
+    }
+    let mut open: Vec<usize> = (0..minishards.len())
+        .filter(|number| !minishards[*number].ids.is_empty())
+        .collect();
+    let mixed = rng.once_in(2);
+    let sharing = rng.once_in(2);
+    let most_gap = *rng.pick(&[0, 0, 3, 20]);
+    let mut data = Vec::new();
+    let mut chunks = Vec::new();
+    while !open.is_empty() {
+        let turn = if mixed { rng.index(open.len()) } else { 0 };
+        let minishard = &mut minishards[open[turn]];
+        data.extend(gap(rng, most_gap));
+        let next = minishard.starts.len();
+        let index_now = next == minishard.ids.len() || rng.once_in(4);
+        if minishard.index.is_none() && index_now {
+            minishard.index = Some(data.len() as u64);
+            data.resize(data.len() + minishard.index_length() as usize, 0);
+        } else if next < minishard.ids.len() {
+            let bytes = &content[&minishard.ids[next]];
+            let found = shared(&data, &chunks, minishard.cursor(), bytes).filter(|_| sharing);
+            let start = found.unwrap_or(data.len() as u64);
+            if found.is_none() {
+                data.extend(bytes);
+                chunks.push((start, bytes.len() as u64));
+            }
+            minishard.starts.push(start);
+        }
+        if minishard.finished() {
+            open.remove(turn);
+        }
+    }
+    data.extend(gap(rng, most_gap));
+    finish(rng, &minishards, data)
+}
+
+/// A sound shard whose chunks lie anywhere: over each other, over minishard
+/// indexes, at the file's end. What it lists is what its bytes say.
+pub fn overlapping(rng: &mut Rng, sharding: &Sharding, number: u64, most: usize) -> Vec<u8> {
+    let mut minishards: Vec<Layout> = Vec::new();
+    minishards.resize_with(sharding.minishard_count() as usize, Layout::default);
+    for id in ids(rng, sharding, number, most) {
+        minishards[sharding.place(id).minishard as usize]
+            .ids
+            .push(id);
+    }
+    let mut data = gap(rng, 40);
+    for minishard in minishards.iter_mut().filter(|m| !m.ids.is_empty()) {
+        minishard.index = Some(data.len() as u64);
+        data.resize(data.len() + minishard.index_length() as usize, 0);
+        data.extend(gap(rng, 40));
+    }
+    let length = data.len() as u64;
+    for minishard in &mut minishards {
+        for _ in 0..minishard.ids.len() {
+            let cursor = minishard.cursor();
+            let start = if rng.once_in(3) {
+                cursor
+            } else {
+                rng.within(cursor, length)
+            };
+            let size = match rng.below(5) {
+                0 => 0,
+                1 => length - start,
+                _ => rng.within(0, (length - start).min(20)),
+            };
+            minishard.starts.push(start);
+            minishard.sizes.push(size);
+        }
+    }
+    finish(rng, &minishards, data)
+}
+
+/// A sound shard of some kind, with up to `most` chunks.
+pub fn sound(rng: &mut Rng, most: usize) -> Sample {
+    let sharding = sharding(rng);
+    let number = number(rng, &sharding);
+    let file = if rng.once_in(2) {
+        let content = content(rng, &sharding, number, most);
+        lay_out(rng, &sharding, &content)
+    } else {
+        overlapping(rng, &sharding, number, most)
+    };
+    Sample {
+        sharding,
+        number,
+        file,
+    }
+}
+
+/// The places of the u64 numbers in some nonempty minishard index.
+fn index_numbers(rng: &mut Rng, sharding: &Sharding, file: &[u8]) -> Option<(usize, usize)> {
+    let base = sharding.index_end() as usize;
+    let entries: Vec<(usize, usize)> = (0..sharding.minishard_count() as usize)
+        .map(|m| (read_u64(file, 16 * m), read_u64(file, 16 * m + 8)))
+        .filter(|(start, end)| start < end && *end <= (file.len().saturating_sub(base)) as u64)
+        .map(|(start, end)| (base + start as usize, (end - start) as usize / 8))
+        .filter(|(_, count)| *count > 0)
+        .collect();
+    if entries.is_empty() {
+        None
+    } else {
+        Some(*rng.pick(&entries))
+    }
+}
+
+/// Another number in place of `old`: a near one, an edge, or one around the
+/// file's length or 2^64.
+fn other(rng: &mut Rng, old: u64, length: u64) -> u64 {
+    let small = rng.below(4);
+    match rng.below(8) {
+        0 => old.wrapping_add(1 + small),
+        1 => old.wrapping_sub(1 + small),
+        2 => old ^ 1 << rng.below(64),
+        3 => length.wrapping_sub(small),
+        4 => length.wrapping_add(small),
+        5 => u64::MAX - small,
+        6 => 0,
+        _ => rng.edge_u64(),
+    }
+}
+
+/// Changes the number at `at`.
+fn change(rng: &mut Rng, file: &mut [u8], at: usize, length: usize) {
+    let old = read_u64(file, at);
+    let new = other(rng, old, length as u64);
+    // A place that the file does not have stays as it is.
+    let _ = put_u64(file, at, new);
+}
+
+/// Damages the file in one place: a flipped bit or another number in any of
+/// its parts, a cut end, or bytes added behind it. It may stay sound.
+pub fn damage(rng: &mut Rng, sharding: &Sharding, file: &mut Vec<u8>) {
+    let base = sharding.index_end() as usize;
+    let length = file.len().saturating_sub(base);
+    match rng.below(10) {
+        0 if !file.is_empty() => {
+            let at = rng.index(file.len());
+            file[at] ^= 1 << rng.below(8);
+        }
+        1 | 2 => {
+            let at = 8 * rng.index(base / 8);
+            change(rng, file, at, length);
+        }
+        3 => {
+            let cut = if rng.once_in(2) {
+                rng.index(file.len() + 1)
+            } else {
+                file.len().saturating_sub(rng.index(10))
+            };
+            file.truncate(cut);
+        }
+        4 => {
+            let more = rng.index(30);
+            file.extend(rng.bytes(more));
+        }
+        _ => {
+            if let Some((start, count)) = index_numbers(rng, sharding, file) {
+                let at = start + 8 * rng.index(count);
+                change(rng, file, at, length);
+            }
+        }
+    }
+}
+
+/// A shard that was damaged in one to three places; it may still be sound.
+pub fn damaged(rng: &mut Rng, most: usize) -> Sample {
+    let mut sample = sound(rng, most);
+    for _ in 0..rng.within(1, 3) {
+        damage(rng, &sample.sharding, &mut sample.file);
+    }
+    sample
+}
+
+/// An id to ask a shard for: often one that it lists, or a neighbour of one.
+pub fn question(rng: &mut Rng, sample: &Sample) -> u64 {
+    let Sample {
+        sharding,
+        number,
+        file,
+    } = sample;
+    if sharding.allowed().is_err() {
+        return rng.edge_u64();
+    }
+    let listed = index_numbers(rng, sharding, file).map(|(start, count)| {
+        let entry = rng.index(count / 3 + 1);
+        (0..=entry).fold(0u64, |id, i| id.wrapping_add(read_u64(file, start + 8 * i)))
+    });
+    match rng.below(8) {
+        0 => rng.edge_u64(),
+        1 => listed.unwrap_or(0).wrapping_add(1),
+        2 | 3 => id(rng, sharding, *number).unwrap_or(0),
+        _ => listed.unwrap_or(1),
+    }
+}
+
+#[cfg(test)]
+mod tests {
+    use super::*;
+    use crate::Met;
+    use reference::settle::settled_form;
+    use reference::shard::{check, list, lookup};
+
+    #[test]
+    fn layouts_are_sound_and_list_the_content() {
+        let mut rng = Rng::new(1);
+        let mut chunks = 0;
+        for _ in 0..3_000 {
+            let sharding = sharding(&mut rng);
+            let number = number(&mut rng, &sharding);
+            let content = content(&mut rng, &sharding, number, 12);
+            let file = lay_out(&mut rng, &sharding, &content);
+            let listed: Content = list(&sharding, number, &file)
+                .expect("a layout is sound")
+                .into_iter()
+                .map(|entry| (entry.id, entry.bytes(&file).to_vec()))
+                .collect();
+            assert_eq!(listed, content);
+            chunks += content.len();
+        }
+        assert!(chunks > 10_000);
+    }
+
+    #[test]
+    fn some_layouts_are_shorter_than_settled() {
+        let mut rng = Rng::new(2);
+        let mut shorter = [0; 2];
+        for _ in 0..2_000 {
+            let Sample {
+                sharding,
+                number,
+                file,
+            } = sound(&mut rng, 12);
+            let entries = list(&sharding, number, &file).expect("sound");
+            let content: Vec<_> = entries.iter().map(|e| (e.id, e.bytes(&file))).collect();
+            let form = settled_form(&sharding, &content);
+            assert_eq!(check(&sharding, number, &form), Ok(()));
+            shorter[usize::from(file.len() < form.len())] += 1;
+        }
+        assert!(shorter.iter().all(|count| *count > 100), "{shorter:?}");
+    }
+
+    #[test]
+    fn damage_reaches_each_refusal() {
+        let mut rng = Rng::new(3);
+        let (mut checks, mut lookups) = (Met::new(), Met::new());
+        for _ in 0..20_000 {
+            let sample = damaged(&mut rng, 8);
+            let id = question(&mut rng, &sample);
+            checks.note(&check(&sample.sharding, sample.number, &sample.file));
+            lookups.note(&lookup(&sample.sharding, sample.number, id, &sample.file));
+        }
+        checks.assert_exactly(&[0, 6, 7, 8, 9, 10, 11]);
+        lookups.assert_exactly(&[0, 5, 6, 7, 8, 9, 10, 11, 12]);
+    }
+}
