@@ -41,6 +41,60 @@ uint64_t coronagamba_put_u64(uint8_t *out, size_t count, uint64_t value);
 uint64_t coronagamba_copy(const uint8_t *bytes, size_t count,
                           uint8_t *out, size_t out_count);
 
+/* ---- grid and keys ------------------------------------------------------ */
+
+typedef struct { uint32_t x, y, z; } coronagamba_extents;
+typedef struct { int32_t x, y, z; } coronagamba_offset;
+typedef struct { uint32_t x, y, z; } coronagamba_cell;
+
+/* A volume: its size and its chunks' size in voxels, and where it begins. */
+typedef struct {
+  coronagamba_extents size;
+  coronagamba_extents chunk;
+  coronagamba_offset offset;
+} coronagamba_volume;
+
+/* How many cells the volume has along x, y and z. 2 */
+uint64_t coronagamba_grid_of(coronagamba_volume volume, uint32_t grid[3]);
+
+/* The key of a cell: its compressed Morton code. 2, 3 */
+uint64_t coronagamba_key_of(coronagamba_volume volume, coronagamba_cell cell,
+                            uint64_t *key);
+
+/* The cell of a key, as x, y, z. 2, 3, 4 */
+uint64_t coronagamba_cell_of(coronagamba_volume volume, uint64_t key,
+                             uint32_t cell[3]);
+
+/* Where a cell begins and ends along x, y and z. 2 */
+uint64_t coronagamba_bounds_of(coronagamba_volume volume, coronagamba_cell cell,
+                               int64_t begin[3], int64_t end[3]);
+
+/* The name of a cell's file where chunks are not sharded. 2, 13 */
+uint64_t coronagamba_chunk_name(coronagamba_volume volume, coronagamba_cell cell,
+                                uint8_t *out, size_t count, uint64_t *length);
+
+/* ---- sharding ----------------------------------------------------------- */
+
+/* A sharding specification; hash 0 is identity, 1 is MurmurHash3_x86_128. */
+typedef struct {
+  uint8_t preshift, hash, minishard_bits, shard_bits;
+} coronagamba_sharding;
+
+/* The shard and the minishard of an id. 1 */
+uint64_t coronagamba_place_of(coronagamba_sharding sharding, uint64_t id,
+                              uint64_t *shard, uint64_t *minishard);
+
+/* The shards and minishards of many ids, in their order. 1, then 13 where
+ * there are more ids than room for shards or for minishards */
+uint64_t coronagamba_places_of(coronagamba_sharding sharding,
+                               const uint64_t *ids, size_t count,
+                               uint64_t *shards, size_t shards_count,
+                               uint64_t *minishards, size_t minishards_count);
+
+/* The file name of a shard. 1, 5, 13 */
+uint64_t coronagamba_shard_name(coronagamba_sharding sharding, uint64_t shard,
+                                uint8_t *out, size_t count, uint64_t *length);
+
 #ifdef __cplusplus
 }
 #endif

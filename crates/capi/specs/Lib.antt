@@ -1,1 +1,4 @@
 pub mod Word
+pub mod Places
+pub mod Cells
+pub mod Batch

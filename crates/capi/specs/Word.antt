@@ -14,6 +14,11 @@ abbrev pub writtenWord : Written → ℕ
 writtenWord (Length n) = 0
 writtenWord (Refused k) = k
 
+-- what the lent length holds after it
+abbrev pub lengthAfter : Written → ℕ → ℕ
+lengthAfter (Length n) before = n
+lengthAfter (Refused k) before = before
+
 -- the word of writing s at the front of a buffer
 abbrev pub fitAnswer : List ℕ → List ℕ → ℕ
 fitAnswer s out = writtenWord (written s out)

@@ -1,2 +1,6 @@
 // The C interface. Each exported function hands its arguments to the library and carries the whole answer in its contract.
+pub mod batch;
 pub mod bytes;
+pub mod cells;
+pub mod places;
+pub mod texts;

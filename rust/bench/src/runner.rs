@@ -6,7 +6,7 @@ use std::time::Instant;
 /// Alternating runs of each side.
 const RUNS: usize = 9;
 
-/// One line of the output: what is timed and how often a run does it.
+/// One line of the output: what is timed and how many of them a run has.
 pub struct Measure<'a> {
     /// What is timed.
     pub name: &'a str,
@@ -74,4 +74,13 @@ fn next(state: &mut u64) -> u64 {
 pub fn numbers(count: usize) -> Vec<u64> {
     let mut state = 1;
     (0..count).map(|_| next(&mut state)).collect()
+}
+
+/// This many bytes of a fixed random sequence.
+pub fn bytes(length: usize) -> Vec<u8> {
+    numbers(length.div_ceil(8))
+        .into_iter()
+        .flat_map(u64::to_le_bytes)
+        .take(length)
+        .collect()
 }

@@ -45,3 +45,19 @@ pub fn copy(from: &[u8], out: &mut [u8]) -> Result<(), Refusal> {
     // SAFETY: each pointer and length are those of one slice, `out` lent alone.
     answer(unsafe { ffi::coronagamba_copy(from.as_ptr(), from.len(), out.as_mut_ptr(), out.len()) })
 }
+
+#[cfg(test)]
+mod tests {
+    use crate::ffi;
+    use std::ptr::{null, null_mut};
+
+    #[test]
+    fn no_bytes_may_come_as_a_null_pointer() {
+        // SAFETY: the header allows a null pointer where the count is 0.
+        unsafe {
+            assert_eq!(ffi::coronagamba_read_u64(null(), 0), 0);
+            assert_eq!(ffi::coronagamba_put_u64(null_mut(), 0, 1), 13);
+            assert_eq!(ffi::coronagamba_copy(null(), 0, null_mut(), 0), 0);
+        }
+    }
+}

@@ -1,20 +1,341 @@
 //! The functions of the C archive, as its header declares them.
 //!
-//! Each answers a word: 0 for success, else the refusal's number + 2^8 times
-//! the minishard + 2^32 times the position. Results go through pointers, which
-//! stay untouched on refusal.
+//! Each that can refuse answers a word: 0 for success, else the refusal's
+//! number + 2^8 times the minishard + 2^32 times the position. Results go
+//! through pointers; a refusal leaves everything behind them as it was.
+
+#[cfg(feature = "grid")]
+use crate::grid::{Cell, Volume};
+#[cfg(feature = "manifest")]
+use crate::manifest::{Corners, Header, Node};
+#[cfg(feature = "sharding")]
+use crate::sharding::Sharding;
 
 extern "C" {
-    pub fn coronagamba_read_u16(bytes: *const u8, length: usize) -> u16;
-    pub fn coronagamba_read_u32(bytes: *const u8, length: usize) -> u32;
-    pub fn coronagamba_read_u64(bytes: *const u8, length: usize) -> u64;
-    pub fn coronagamba_put_u16(out: *mut u8, length: usize, value: u16) -> u64;
-    pub fn coronagamba_put_u32(out: *mut u8, length: usize, value: u32) -> u64;
-    pub fn coronagamba_put_u64(out: *mut u8, length: usize, value: u64) -> u64;
-    pub fn coronagamba_copy(
+    pub fn coronagamba_read_u16(bytes: *const u8, count: usize) -> u16;
+    pub fn coronagamba_read_u32(bytes: *const u8, count: usize) -> u32;
+    pub fn coronagamba_read_u64(bytes: *const u8, count: usize) -> u64;
+    pub fn coronagamba_put_u16(out: *mut u8, count: usize, value: u16) -> u64;
+    pub fn coronagamba_put_u32(out: *mut u8, count: usize, value: u32) -> u64;
+    pub fn coronagamba_put_u64(out: *mut u8, count: usize, value: u64) -> u64;
+    pub fn coronagamba_copy(bytes: *const u8, count: usize, out: *mut u8, out_count: usize) -> u64;
+}
+
+#[cfg(feature = "grid")]
+extern "C" {
+    pub fn coronagamba_grid_of(volume: Volume, grid: *mut [u32; 3]) -> u64;
+    pub fn coronagamba_key_of(volume: Volume, cell: Cell, key: *mut u64) -> u64;
+    pub fn coronagamba_cell_of(volume: Volume, key: u64, cell: *mut [u32; 3]) -> u64;
+    pub fn coronagamba_bounds_of(
+        volume: Volume,
+        cell: Cell,
+        begin: *mut [i64; 3],
+        end: *mut [i64; 3],
+    ) -> u64;
+}
+
+#[cfg(feature = "sharding")]
+extern "C" {
+    pub fn coronagamba_place_of(
+        sharding: Sharding,
+        id: u64,
+        shard: *mut u64,
+        minishard: *mut u64,
+    ) -> u64;
+    pub fn coronagamba_places_of(
+        sharding: Sharding,
+        ids: *const u64,
+        count: usize,
+        shards: *mut u64,
+        shards_count: usize,
+        minishards: *mut u64,
+        minishards_count: usize,
+    ) -> u64;
+}
+
+#[cfg(feature = "names")]
+extern "C" {
+    pub fn coronagamba_chunk_name(
+        volume: Volume,
+        cell: Cell,
+        out: *mut u8,
+        count: usize,
+        length: *mut u64,
+    ) -> u64;
+    pub fn coronagamba_shard_name(
+        sharding: Sharding,
+        shard: u64,
+        out: *mut u8,
+        count: usize,
+        length: *mut u64,
+    ) -> u64;
+}
+
+#[cfg(feature = "shards")]
+extern "C" {
+    pub fn coronagamba_lookup(
+        sharding: Sharding,
+        shard: u64,
+        file: *const u8,
+        count: usize,
+        id: u64,
+        start: *mut u64,
+        length: *mut u64,
+    ) -> u64;
+    pub fn coronagamba_check(sharding: Sharding, shard: u64, file: *const u8, count: usize) -> u64;
+    pub fn coronagamba_listed_count(
+        sharding: Sharding,
+        shard: u64,
+        file: *const u8,
+        count: usize,
+        minishard: u64,
+        chunks: *mut u64,
+    ) -> u64;
+    pub fn coronagamba_listing(
+        sharding: Sharding,
+        shard: u64,
+        file: *const u8,
+        count: usize,
+        minishard: u64,
+        out: *mut u64,
+        out_count: usize,
+        length: *mut u64,
+    ) -> u64;
+}
+
+#[cfg(feature = "settle")]
+extern "C" {
+    pub fn coronagamba_settled_length(
+        sharding: Sharding,
+        shard: u64,
+        file: *const u8,
+        count: usize,
+        length: *mut u64,
+    ) -> u64;
+    pub fn coronagamba_settle(
+        sharding: Sharding,
+        shard: u64,
+        file: *const u8,
+        count: usize,
+        out: *mut u8,
+        out_count: usize,
+        length: *mut u64,
+    ) -> u64;
+}
+
+#[cfg(feature = "card")]
+extern "C" {
+    pub fn coronagamba_card_read(
         bytes: *const u8,
         length: usize,
+        sharding: *mut Sharding,
+        volume: *mut Volume,
+    ) -> u64;
+    pub fn coronagamba_card_write(
+        sharding: Sharding,
+        volume: Volume,
         out: *mut u8,
         out_length: usize,
+        card_length: *mut u64,
     ) -> u64;
+}
+
+#[cfg(feature = "manifest")]
+extern "C" {
+    pub fn coronagamba_manifest_check(bytes: *const u8, length: usize) -> u64;
+    pub fn coronagamba_manifest_header(bytes: *const u8, length: usize, header: *mut Header)
+        -> u64;
+    pub fn coronagamba_manifest_field(
+        bytes: *const u8,
+        length: usize,
+        number: u64,
+        is_real: *mut u32,
+        bits: *mut u32,
+    ) -> u64;
+    pub fn coronagamba_manifest_node(
+        bytes: *const u8,
+        length: usize,
+        level: u64,
+        node: u64,
+        found: *mut Node,
+    ) -> u64;
+    pub fn coronagamba_manifest_corners(
+        bytes: *const u8,
+        length: usize,
+        level: u64,
+        node: u64,
+        corners: *mut Corners,
+    ) -> u64;
+}
+
+/// A refusal's word is its number alone where the rules give no more, and it
+/// leaves everything behind the result pointers as it was.
+#[cfg(test)]
+mod tests {
+    // Which of these are used depends on the parts.
+    #![allow(dead_code, unused_imports)]
+
+    use super::*;
+
+    const KEPT: u64 = 0x0123_4567_89ab_cdef;
+
+    #[test]
+    fn bytes() {
+        let mut out = [7; 8];
+        // SAFETY: each pointer and count are those of one array.
+        unsafe {
+            assert_eq!(coronagamba_put_u16(out.as_mut_ptr(), 1, 0), 13);
+            assert_eq!(coronagamba_put_u32(out.as_mut_ptr(), 3, 0), 13);
+            assert_eq!(coronagamba_put_u64(out.as_mut_ptr(), 7, 0), 13);
+            assert_eq!(
+                coronagamba_copy([0; 8].as_ptr(), 8, out.as_mut_ptr(), 7),
+                13
+            );
+        }
+        assert_eq!(out, [7; 8]);
+    }
+
+    #[cfg(feature = "grid")]
+    #[test]
+    fn grid() {
+        let (volume, cell) = (Volume::default(), Cell::default());
+        let (mut numbers, mut key) = ([7; 3], KEPT);
+        let (mut begin, mut end) = ([7; 3], [7; 3]);
+        // SAFETY: the results go to live values.
+        unsafe {
+            assert_eq!(coronagamba_grid_of(volume, &mut numbers), 2);
+            assert_eq!(coronagamba_key_of(volume, cell, &mut key), 2);
+            assert_eq!(coronagamba_cell_of(volume, 0, &mut numbers), 2);
+            assert_eq!(coronagamba_bounds_of(volume, cell, &mut begin, &mut end), 2);
+        }
+        assert_eq!((numbers, key, begin, end), ([7; 3], KEPT, [7; 3], [7; 3]));
+    }
+
+    /// A specification that is refused with 1.
+    #[cfg(feature = "sharding")]
+    const REFUSED: Sharding = Sharding {
+        preshift: 64,
+        hash: 0,
+        minishard_bits: 0,
+        shard_bits: 0,
+    };
+
+    #[cfg(feature = "sharding")]
+    #[test]
+    fn sharding() {
+        let (mut shard, mut minishard) = (KEPT, KEPT);
+        // SAFETY: the results go to live values.
+        unsafe {
+            assert_eq!(
+                coronagamba_place_of(REFUSED, 0, &mut shard, &mut minishard),
+                1
+            );
+        }
+        assert_eq!((shard, minishard), (KEPT, KEPT));
+    }
+
+    #[cfg(feature = "names")]
+    #[test]
+    fn names() {
+        let (volume, cell) = (Volume::default(), Cell::default());
+        let (mut out, mut length) = ([7; 20], KEPT);
+        let place = out.as_mut_ptr();
+        // SAFETY: pointer and count are those of one array, and the result goes
+        // to a live value.
+        unsafe {
+            assert_eq!(
+                coronagamba_chunk_name(volume, cell, place, 20, &mut length),
+                2
+            );
+            assert_eq!(
+                coronagamba_shard_name(REFUSED, 0, place, 20, &mut length),
+                1
+            );
+            let allowed = Sharding::default();
+            assert_eq!(
+                coronagamba_shard_name(allowed, 1, place, 20, &mut length),
+                5
+            );
+            assert_eq!(
+                coronagamba_shard_name(allowed, 0, place, 6, &mut length),
+                13
+            );
+        }
+        assert_eq!((out, length), ([7; 20], KEPT));
+    }
+
+    /// A shard of two minishards: the first is empty, the second reversed.
+    #[cfg(feature = "shards")]
+    const REVERSED: (Sharding, [u8; 32]) = (
+        Sharding {
+            preshift: 0,
+            hash: 0,
+            minishard_bits: 1,
+            shard_bits: 0,
+        },
+        {
+            let mut file = [0; 32];
+            file[16] = 1;
+            file
+        },
+    );
+
+    #[cfg(feature = "shards")]
+    #[test]
+    fn shards() {
+        let (sharding, file) = REVERSED;
+        let (file, count) = (file.as_ptr(), file.len());
+        let (mut start, mut length, mut out) = (KEPT, KEPT, [KEPT; 3]);
+        // SAFETY: each pointer and count are those of one array, and the
+        // results go to live values.
+        unsafe {
+            assert_eq!(
+                coronagamba_lookup(sharding, 0, file, count, 1, &mut start, &mut length),
+                7
+            );
+            assert_eq!(
+                coronagamba_lookup(sharding, 0, file, count, 2, &mut start, &mut length),
+                12
+            );
+            assert_eq!(coronagamba_check(sharding, 0, file, count), 7 + 256);
+            assert_eq!(coronagamba_check(sharding, 1, file, count), 5);
+            assert_eq!(
+                coronagamba_listed_count(sharding, 0, file, count, 1, &mut length),
+                7
+            );
+            let place = out.as_mut_ptr();
+            assert_eq!(
+                coronagamba_listing(sharding, 0, file, count, 1, place, 3, &mut length),
+                7
+            );
+        }
+        assert_eq!((start, length, out), (KEPT, KEPT, [KEPT; 3]));
+    }
+
+    #[cfg(feature = "settle")]
+    #[test]
+    fn settle() {
+        let (sharding, file) = REVERSED;
+        let (file, count) = (file.as_ptr(), file.len());
+        let (mut out, mut length) = ([7; 40], KEPT);
+        let place = out.as_mut_ptr();
+        // SAFETY: each pointer and count are those of one array, and the
+        // result goes to a live value.
+        unsafe {
+            assert_eq!(
+                coronagamba_settled_length(sharding, 0, file, count, &mut length),
+                7
+            );
+            assert_eq!(
+                coronagamba_settle(sharding, 0, file, count, place, 40, &mut length),
+                7
+            );
+            let sound = Sharding::default();
+            assert_eq!(
+                coronagamba_settle(sound, 0, file, count, place, 15, &mut length),
+                13
+            );
+        }
+        assert_eq!((out, length), ([7; 40], KEPT));
+    }
 }

@@ -14,14 +14,6 @@ pub struct Refusal {
 }
 
 impl Refusal {
-    /// The refusal in an answer word, as its number alone.
-    fn bare(word: u64) -> Self {
-        Refusal {
-            number: word as u8,
-            minishard: None,
-        }
-    }
-
     /// What the table says about this number, as one sentence.
     pub fn sentence(&self) -> &'static str {
         match self.number {
@@ -61,13 +53,30 @@ impl fmt::Display for Refusal {
 impl Error for Refusal {}
 
 /// The meaning of an answer word: 0 is success, else the low byte is the
-/// refusal's number.
+/// refusal's number and the next 24 bits are its minishard, 0 where the rules
+/// give none.
 pub(crate) fn answer(word: u64) -> Result<(), Refusal> {
     if word == 0 {
-        Ok(())
-    } else {
-        Err(Refusal::bare(word))
+        return Ok(());
     }
+    let minishard = word >> 8 & 0xff_ffff;
+    Err(Refusal {
+        number: word as u8,
+        minishard: Some(minishard).filter(|minishard| *minishard != 0),
+    })
+}
+
+/// The meaning of the whole-shard check's answer word, in which 7 to 11 always
+/// name a minishard.
+#[cfg(any(feature = "shards", test))]
+pub(crate) fn checked(word: u64) -> Result<(), Refusal> {
+    answer(word).map_err(|refusal| match refusal.number {
+        7..=11 => Refusal {
+            minishard: refusal.minishard.or(Some(0)),
+            ..refusal
+        },
+        _ => refusal,
+    })
 }
 
 #[cfg(test)]
@@ -84,6 +93,16 @@ mod tests {
                 minishard: None
             })
         );
+    }
+
+    #[test]
+    fn words_of_the_check() {
+        let refusal = |number, minishard| Err(Refusal { number, minishard });
+        assert_eq!(checked(0), Ok(()));
+        assert_eq!(checked(6), refusal(6, None));
+        assert_eq!(checked(7), refusal(7, Some(0)));
+        assert_eq!(checked(11 + 256 * 4095), refusal(11, Some(4095)));
+        assert_eq!(checked(9 + 256 * 3 + (77 << 32)), refusal(9, Some(3)));
     }
 
     #[test]

@@ -16,6 +16,7 @@ pub mod names;
 pub mod settle;
 pub mod shard;
 pub mod sharding;
+pub mod vectors;
 
 /// The most bytes that a shard or a settled form may have: 1 GiB.
 pub const MOST_SHARD_BYTES: u64 = 1_073_741_824;

@@ -55,6 +55,20 @@ pub struct Corners {
     pub far: [u32; 3],
 }
 
+/// A manifest of the right length, in its parts.
+struct Parts {
+    header: Header,
+    /// Level scales, then vertex offsets, three for each level.
+    other_reals: Vec<f32>,
+    levels: Vec<Level>,
+}
+
+/// The nodes of a level: their positions and fragment sizes.
+struct Level {
+    positions: Vec<[u32; 3]>,
+    sizes: Vec<u32>,
+}
+
 /// Item `number` as its 4 bytes say.
 fn item(bytes: &[u8], number: usize) -> u32 {
     read_u32(bytes, 4 * number)
@@ -65,61 +79,65 @@ fn real(bytes: &[u8], number: usize) -> f32 {
     f32::from_bits(item(bytes, number))
 }
 
-/// The level count of a manifest whose length and count are right.
-fn level_count(bytes: &[u8]) -> usize {
-    item(bytes, 6) as usize
-}
-
-/// The node count of a level.
-fn node_count(bytes: &[u8], level: usize) -> usize {
-    item(bytes, 7 + 4 * level_count(bytes) + level) as usize
-}
-
-/// The item at which the positions of a level start.
-fn level_start(bytes: &[u8], level: usize) -> usize {
-    let earlier: usize = (0..level).map(|l| node_count(bytes, l)).sum();
-    7 + 5 * level_count(bytes) + 4 * earlier
-}
-
-/// The position of a node.
-fn position(bytes: &[u8], level: usize, node: usize) -> [u32; 3] {
-    let count = node_count(bytes, level);
-    let start = level_start(bytes, level);
-    std::array::from_fn(|axis| item(bytes, start + axis * count + node))
-}
-
-/// The fragment size of a node.
-fn size(bytes: &[u8], level: usize, node: usize) -> u32 {
-    let count = node_count(bytes, level);
-    item(bytes, level_start(bytes, level) + 3 * count + node)
-}
-
-/// Test 15: the length and the level count.
-fn length_right(bytes: &[u8]) -> Result<(), u8> {
+/// The node counts by level, after test 15.
+fn node_counts(bytes: &[u8]) -> Result<Vec<usize>, u8> {
     if bytes.len() > MOST_BYTES || bytes.len() < 28 || item(bytes, 6) > MOST_LEVELS {
         return Err(15);
     }
-    let levels = level_count(bytes);
+    let levels = item(bytes, 6) as usize;
     if bytes.len() < 28 + 20 * levels {
         return Err(15);
     }
-    let nodes: u128 = (0..levels)
-        .map(|level| node_count(bytes, level) as u128)
-        .sum();
+    let first = 7 + 4 * levels;
+    let counts: Vec<usize> = (first..first + levels)
+        .map(|number| item(bytes, number) as usize)
+        .collect();
+    let nodes: u128 = counts.iter().map(|count| *count as u128).sum();
     if bytes.len() as u128 == 28 + 20 * levels as u128 + 16 * nodes {
-        Ok(())
+        Ok(counts)
     } else {
         Err(15)
     }
 }
 
+/// The level of `count` nodes whose items start at `first`: all x, all y, all
+/// z, all sizes.
+fn level(bytes: &[u8], first: usize, count: usize) -> Level {
+    let row = |number: usize, node: usize| item(bytes, first + number * count + node);
+    Level {
+        positions: (0..count)
+            .map(|node| std::array::from_fn(|axis| row(axis, node)))
+            .collect(),
+        sizes: (0..count).map(|node| row(3, node)).collect(),
+    }
+}
+
+/// The parts of a manifest, after test 15.
+fn parts(bytes: &[u8]) -> Result<Parts, u8> {
+    let counts = node_counts(bytes)?;
+    let mut levels = Vec::new();
+    let mut first = 7 + 5 * counts.len();
+    for count in &counts {
+        levels.push(level(bytes, first, *count));
+        first += 4 * count;
+    }
+    Ok(Parts {
+        header: Header {
+            shape: std::array::from_fn(|axis| real(bytes, axis)),
+            origin: std::array::from_fn(|axis| real(bytes, 3 + axis)),
+        },
+        other_reals: (7..7 + 4 * counts.len())
+            .map(|number| real(bytes, number))
+            .collect(),
+        levels,
+    })
+}
+
 /// Test 16: the reals are finite and the shape is above zero.
-fn reals_right(bytes: &[u8]) -> Result<(), u8> {
-    let levels = level_count(bytes);
-    let reals = (0..6).chain(7..7 + 4 * levels);
-    let finite = reals.map(|number| real(bytes, number)).all(f32::is_finite);
-    let above_zero = (0..3).all(|axis| real(bytes, axis) > 0.0);
-    if finite && above_zero {
+fn reals_right(parts: &Parts) -> Result<(), u8> {
+    let Header { shape, origin } = parts.header;
+    let mut reals = shape.iter().chain(&origin).chain(&parts.other_reals);
+    if reals.all(|real| real.is_finite()) && shape.iter().all(|real| *real > 0.0) {
         Ok(())
     } else {
         Err(16)
@@ -138,48 +156,48 @@ pub fn z_curve(position: [u32; 3]) -> u128 {
 }
 
 /// Test 17: in each level the nodes rise strictly on the Z curve.
-fn nodes_rise(bytes: &[u8]) -> Result<(), u8> {
-    for level in 0..level_count(bytes) {
-        let places: Vec<u128> = (0..node_count(bytes, level))
-            .map(|node| z_curve(position(bytes, level, node)))
-            .collect();
-        if places.windows(2).any(|pair| pair[0] >= pair[1]) {
-            return Err(17);
-        }
+fn nodes_rise(parts: &Parts) -> Result<(), u8> {
+    let rising = |level: &Level| {
+        let places: Vec<u128> = level.positions.iter().map(|at| z_curve(*at)).collect();
+        places.windows(2).all(|pair| pair[0] < pair[1])
+    };
+    if parts.levels.iter().all(rising) {
+        Ok(())
+    } else {
+        Err(17)
     }
-    Ok(())
+}
+
+/// The parts of a sound manifest, or 15, then 16, then 17.
+fn judged(bytes: &[u8]) -> Result<Parts, u8> {
+    let parts = parts(bytes)?;
+    reals_right(&parts)?;
+    nodes_rise(&parts)?;
+    Ok(parts)
 }
 
 /// Checks a manifest: 15, then 16, then 17.
 pub fn check(bytes: &[u8]) -> Result<(), u8> {
-    length_right(bytes)?;
-    reals_right(bytes)?;
-    nodes_rise(bytes)
+    judged(bytes).map(|_| ())
 }
 
 /// The level count of a manifest, or 15 to 17.
-pub fn levels(bytes: &[u8]) -> Result<u32, u8> {
-    check(bytes)?;
-    Ok(item(bytes, 6))
+pub fn level_count(bytes: &[u8]) -> Result<u32, u8> {
+    Ok(judged(bytes)?.levels.len() as u32)
 }
 
 /// The shape and origin, or 15 to 17.
 pub fn header(bytes: &[u8]) -> Result<Header, u8> {
-    check(bytes)?;
-    Ok(Header {
-        shape: std::array::from_fn(|axis| real(bytes, axis)),
-        origin: std::array::from_fn(|axis| real(bytes, 3 + axis)),
-    })
+    Ok(judged(bytes)?.header)
 }
 
 /// The field of this number, or 15 to 18.
 pub fn field(bytes: &[u8], number: u64) -> Result<Field, u8> {
-    check(bytes)?;
+    let levels = judged(bytes)?.levels.len();
     if number >= bytes.len() as u64 / 4 {
         return Err(18);
     }
     let number = number as usize;
-    let levels = level_count(bytes);
     let is_real = number < 6 || (7..7 + 4 * levels).contains(&number);
     Ok(if is_real {
         Field::Real(real(bytes, number))
@@ -188,57 +206,59 @@ pub fn field(bytes: &[u8], number: u64) -> Result<Field, u8> {
     })
 }
 
+/// The element of this number, or 18.
+fn nth<T>(items: &[T], number: u64) -> Result<&T, u8> {
+    let number = usize::try_from(number).map_err(|_| 18)?;
+    items.get(number).ok_or(18)
+}
+
 /// The node count of a level, or 15 to 18.
-pub fn nodes(bytes: &[u8], level: u64) -> Result<u32, u8> {
-    check(bytes)?;
-    if level >= level_count(bytes) as u64 {
-        return Err(18);
-    }
-    Ok(node_count(bytes, level as usize) as u32)
+pub fn node_count(bytes: &[u8], level: u64) -> Result<u32, u8> {
+    let parts = judged(bytes)?;
+    Ok(nth(&parts.levels, level)?.sizes.len() as u32)
+}
+
+/// A node of a sound manifest, or 18.
+fn node_of(parts: &Parts, level: u64, node: u64) -> Result<Node, u8> {
+    let nodes = nth(&parts.levels, level)?;
+    let position = *nth(&nodes.positions, node)?;
+    let earlier_levels = parts.levels[..level as usize].iter();
+    let earlier = earlier_levels
+        .flat_map(|level| &level.sizes)
+        .chain(&nodes.sizes[..node as usize]);
+    Ok(Node {
+        position,
+        size: nodes.sizes[node as usize],
+        start: earlier.map(|size| u64::from(*size)).sum(),
+    })
 }
 
 /// A node's position, fragment size and fragment start, or 15 to 18.
 pub fn node(bytes: &[u8], level: u64, node: u64) -> Result<Node, u8> {
-    if node >= u64::from(nodes(bytes, level)?) {
-        return Err(18);
-    }
-    let (level, node) = (level as usize, node as usize);
-    let all_of = |l: usize| (0..node_count(bytes, l)).map(move |n| (l, n));
-    let earlier = (0..level)
-        .flat_map(all_of)
-        .chain((0..node).map(|n| (level, n)));
-    Ok(Node {
-        position: position(bytes, level, node),
-        size: size(bytes, level, node),
-        start: earlier.map(|(l, n)| u64::from(size(bytes, l, n))).sum(),
-    })
+    node_of(&judged(bytes)?, level, node)
 }
 
 /// The near and far corner on one axis, each operation rounded once.
 fn corner(origin: f32, shape: f32, position: u32, level: u64) -> (f32, f32) {
-    let scale = f32::from_bits((127 + level as u32) << 23);
+    let scale = (1u64 << level) as f32;
     let near = origin + (position as f32 * shape) * scale;
     (near, near + shape * scale)
 }
 
 /// A node's corners, or 15 to 18.
-pub fn corners(bytes: &[u8], level: u64, node_number: u64) -> Result<Corners, u8> {
-    let node = node(bytes, level, node_number)?;
-    let header = header(bytes)?;
-    if node.position.iter().any(|number| *number >= POSITION_LIMIT) {
+pub fn corners(bytes: &[u8], level: u64, node: u64) -> Result<Corners, u8> {
+    let parts = judged(bytes)?;
+    let position = node_of(&parts, level, node)?.position;
+    if position.iter().any(|number| *number >= POSITION_LIMIT) {
         return Err(18);
     }
+    let Header { shape, origin } = parts.header;
     let mut corners = Corners {
         near: [0; 3],
         far: [0; 3],
     };
     for axis in 0..3 {
-        let (near, far) = corner(
-            header.origin[axis],
-            header.shape[axis],
-            node.position[axis],
-            level,
-        );
+        let (near, far) = corner(origin[axis], shape[axis], position[axis], level);
         if !near.is_finite() || !far.is_finite() {
             return Err(18);
         }
@@ -366,6 +386,9 @@ mod tests {
         assert_eq!(last.end(), 2 * u64::from(u32::MAX) + 15);
         assert_eq!(node(&bytes, 1, 2), Err(18));
         assert_eq!(node(&bytes, 2, 0), Err(18));
+        assert_eq!(node(&bytes, u64::MAX, u64::MAX), Err(18));
+        assert_eq!((level_count(&bytes), node_count(&bytes, 1)), (Ok(2), Ok(2)));
+        assert_eq!(node_count(&bytes, 2), Err(18));
     }
 
     #[test]

@@ -1,5 +1,6 @@
 //! The settled form of what a shard lists (document 01, "Settled form").
 
+use crate::endian::write_front;
 use crate::shard::list;
 use crate::sharding::Sharding;
 use crate::MOST_SHARD_BYTES;
@@ -68,21 +69,34 @@ pub fn settled_length(sharding: &Sharding, content: &[Listed]) -> u128 {
     u128::from(sharding.index_end()) + chunks
 }
 
+/// What a sound shard lists, or 1, 5, 6, then 7 to 11 by minishard.
+fn content<'a>(sharding: &Sharding, number: u64, file: &'a [u8]) -> Result<Vec<Listed<'a>>, u8> {
+    let entries = list(sharding, number, file).map_err(|refusal| refusal.number)?;
+    Ok(entries
+        .iter()
+        .map(|entry| (entry.id, entry.bytes(file)))
+        .collect())
+}
+
+/// The length of a shard's settled form, or 1, 5, 6, then 7 to 11 by
+/// minishard, then 13 where the form would exceed 1 GiB.
+pub fn length_of(sharding: &Sharding, number: u64, file: &[u8]) -> Result<u64, u8> {
+    let length = settled_length(sharding, &content(sharding, number, file)?);
+    if length > u128::from(MOST_SHARD_BYTES) {
+        return Err(13);
+    }
+    Ok(length as u64)
+}
+
 /// Settles a shard: writes its settled form to the front of `out` and gives
 /// its length, or 1, 5, 6, then 7 to 11 by minishard, then 13.
 pub fn settle(sharding: &Sharding, number: u64, file: &[u8], out: &mut [u8]) -> Result<usize, u8> {
-    let entries = list(sharding, number, file).map_err(|refusal| refusal.number)?;
-    let content: Vec<Listed> = entries
-        .iter()
-        .map(|entry| (entry.id, entry.bytes(file)))
-        .collect();
+    let content = content(sharding, number, file)?;
     let length = settled_length(sharding, &content);
     if length > out.len() as u128 || length > u128::from(MOST_SHARD_BYTES) {
         return Err(13);
     }
-    let form = settled_form(sharding, &content);
-    out[..form.len()].copy_from_slice(&form);
-    Ok(form.len())
+    write_front(&settled_form(sharding, &content), out)
 }
 
 #[cfg(test)]

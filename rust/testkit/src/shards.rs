@@ -396,7 +396,7 @@ mod tests {
     use super::*;
     use crate::Met;
     use reference::settle::settled_form;
-    use reference::shard::{check, list, lookup};
+    use reference::shard::{check, list, list_minishard, lookup};
 
     #[test]
     fn layouts_are_sound_and_list_the_content() {
@@ -449,5 +449,84 @@ mod tests {
         }
         checks.assert_exactly(&[0, 6, 7, 8, 9, 10, 11]);
         lookups.assert_exactly(&[0, 5, 6, 7, 8, 9, 10, 11, 12]);
+    }
+
+    /// The exact sums of a minishard's rows: ids, and ends of chunks counted
+    /// from the end of the shard index.
+    fn exact_sums(file: &[u8], base: usize, minishard: usize) -> (Vec<u128>, Vec<u128>) {
+        let at = |place: usize| read_u64(file, place) as usize;
+        let (start, end) = (at(16 * minishard), at(16 * minishard + 8));
+        let n = (end - start) / 24;
+        let row = |k: usize, i: usize| u128::from(read_u64(file, base + start + 8 * (k * n + i)));
+        let running = |sum: &mut u128, step: u128| {
+            *sum += step;
+            Some(*sum)
+        };
+        let ids = (0..n).map(|i| row(0, i)).scan(0, running).collect();
+        let ends = (0..n)
+            .map(|i| row(1, i) + row(2, i))
+            .scan(0, running)
+            .collect();
+        (ids, ends)
+    }
+
+    #[test]
+    fn damage_makes_sums_pass_64_bits() {
+        let mut rng = Rng::new(4);
+        let (mut ids_pass, mut ends_pass) = (0, 0);
+        for _ in 0..20_000 {
+            let sample = damaged(&mut rng, 8);
+            let Err(refusal) = check(&sample.sharding, sample.number, &sample.file) else {
+                continue;
+            };
+            if let (9 | 11, Some(minishard)) = (refusal.number, refusal.minishard) {
+                let base = sample.sharding.index_end() as usize;
+                let (ids, ends) = exact_sums(&sample.file, base, minishard as usize);
+                let passes = |sums: &[u128]| sums.iter().any(|sum| *sum > u64::MAX.into());
+                ids_pass += usize::from(refusal.number == 9 && passes(&ids));
+                ends_pass += usize::from(refusal.number == 11 && passes(&ends));
+            }
+        }
+        assert!(ids_pass > 50 && ends_pass > 50, "{ids_pass} {ends_pass}");
+    }
+
+    #[test]
+    fn layouts_have_each_oddity() {
+        let mut rng = Rng::new(5);
+        let (mut empty_chunks, mut at_the_end, mut odd_entries) = (0, 0, 0);
+        let (mut indexes_before, mut indexes_after, mut overlaps) = (0, 0, 0);
+        for _ in 0..2_000 {
+            let Sample {
+                sharding,
+                number,
+                file,
+            } = sound(&mut rng, 12);
+            let base = sharding.index_end();
+            let mut last_end = 0;
+            for minishard in 0..sharding.minishard_count() {
+                let at = 16 * minishard as usize;
+                let (start, end) = (read_u64(&file, at), read_u64(&file, at + 8));
+                odd_entries += usize::from(start == end && start > file.len() as u64);
+                let entries = list_minishard(&sharding, number, &file, minishard);
+                for entry in entries.expect("sound") {
+                    empty_chunks += usize::from(entry.length == 0);
+                    at_the_end += usize::from(entry.start == file.len() as u64);
+                    indexes_before += usize::from(base + end <= entry.start);
+                    indexes_after += usize::from(base + start >= entry.start + entry.length);
+                    overlaps += usize::from(entry.start < last_end);
+                    last_end = last_end.max(entry.start + entry.length);
+                }
+            }
+        }
+        for count in [
+            empty_chunks,
+            at_the_end,
+            odd_entries,
+            indexes_before,
+            indexes_after,
+            overlaps,
+        ] {
+            assert!(count > 100, "{count}");
+        }
     }
 }

@@ -1,0 +1,8 @@
+pub mod Covers
+pub mod From
+pub mod Lengths
+pub mod Turns
+pub mod Ways
+pub mod Signed
+pub mod Laws
+pub mod Halves

@@ -1,0 +1,232 @@
+-- Each way out of a function, as a case of its definition.
+use Prim.Native.Nat.{ℕ, _*_, _%_, _^_, _≤_, _<_}
+use mathlib.Core.Path.{_≡_, refl, sym, ap, _∙_}
+use mathlib.Core.Bool.{Bool, true, false, not, _&&_, _||_}
+use native.Mathlib.Omega.{arith}
+use lib.Dec.{ltb, leb, eqb}
+use borrow.Author.Needs.{needs}
+use borrow.Author.Tests.{not-true, not-false, ltb-true, eqb-false, leb-true, leb-false, lt-ltb, le-ltb, lt-leb, eq-eqb, ne-eqb}
+use lib.Pow.{shl-exact}
+use mir.Syntax.{w64}
+use mir.Val.{Fits}
+use Rattle.grid.specs.declared.Extents.{Extents}
+use Rattle.grid.specs.declared.Cell.{Cell}
+use Rattle.grid.specs.declared.Volume.{Volume}
+use Rattle.grid.specs.declared.Point.{Point}
+use Rattle.grid.specs.declared.GridAnswer.the-variants.{Grid, Refused as GridRefused}
+use Rattle.grid.specs.declared.KeyAnswer.the-variants.{Key, Refused as KeyRefused}
+use Rattle.grid.specs.declared.CellAnswer.the-variants.{At, Refused as CellRefused}
+use Rattle.grid.specs.declared.BoundsAnswer.the-variants.{Within, Refused as BoundsRefused}
+use Rattle.grid.specs.Grid.{gridSize, gridOf, hasZero, zeroExtent, inGrid}
+use Rattle.grid.specs.Key.{used, keyBits, tooManyBits, keyOf, cellOf, isKey}
+use Rattle.grid.specs.Bounds.{beginPoint, endPoint, boundsOf, BeginsInside}
+use Rattle.grid.specs.Answers.{noCell, gridAnswer, keyAnswer, cellAnswer, boundsAnswer}
+use Rattle.grid.proofs.Covers.{cell-begins-inside}
+
+-- ---- what a test that passed, or did not, says of its parts
+pub both : (a b : Bool) → a && b ≡ true → (a ≡ true) × (b ≡ true)
+both true b e = (refl, e)
+both false b e = (cc, cc)
+
+pub neither : (a b : Bool) → a || b ≡ false → (a ≡ false) × (b ≡ false)
+neither true b e = (cc, cc)
+neither false b e = (refl, e)
+
+positive : (n : ℕ) → eqb n 0 ≡ false → 0 < n
+positive n e = let f = eqb-false n 0 e in omega arith
+
+-- ---- extents
+module _ (e : Extents) where
+  pub zero-x : e .x ≡ 0 → true ≡ hasZero e
+  unfolding hasZero
+  zero-x p = simp (eq-eqb _ _ p)
+
+  pub zero-y : (e .x ≡ 0 → ⊥) → e .y ≡ 0 → true ≡ hasZero e
+  unfolding hasZero
+  zero-y n p = simp (ne-eqb _ _ n, eq-eqb _ _ p)
+
+  pub zero-z : (e .x ≡ 0 → ⊥) → (e .y ≡ 0 → ⊥) → eqb (e .z) 0 ≡ hasZero e
+  unfolding hasZero
+  zero-z n m = simp (ne-eqb _ _ n, ne-eqb _ _ m)
+
+  pub no-zero : hasZero e ≡ false → (0 < e .x) × (0 < e .y) × (0 < e .z)
+  unfolding hasZero
+  no-zero h =
+      let p = neither _ _ h in
+      let q = neither _ _ (p .1) in
+      (positive _ (p .0), positive _ (q .0), positive _ (q .1))
+
+module _ (v : Volume) where
+  pub zero-size : hasZero (v .size) ≡ true → true ≡ zeroExtent v
+  unfolding zeroExtent
+  zero-size e = rw e
+
+  pub zero-chunk : hasZero (v .size) ≡ false → hasZero (v .chunk) ≡ zeroExtent v
+  unfolding zeroExtent
+  zero-chunk e = rw e
+
+  -- no extent is 0: each chunk has a voxel
+  pub chunk-some : zeroExtent v ≡ false → (0 < v .chunk .x) × (0 < v .chunk .y) × (0 < v .chunk .z)
+  unfolding zeroExtent
+  chunk-some e = no-zero _ (neither (hasZero (v .size)) (hasZero (v .chunk)) e .1)
+
+  pub chunk-x : zeroExtent v ≡ false → 0 < v .chunk .x
+  chunk-x e = chunk-some e .0
+
+  pub chunk-y : zeroExtent v ≡ false → 0 < v .chunk .y
+  chunk-y e = chunk-some e .1
+
+  pub chunk-z : zeroExtent v ≡ false → 0 < v .chunk .z
+  chunk-z e = chunk-some e .2
+
+  pub grid-made : {x y z : ℕ} → x ≡ gridSize (v .size .x) (v .chunk .x) → y ≡ gridSize (v .size .y) (v .chunk .y)
+      → z ≡ gridSize (v .size .z) (v .chunk .z) → _≡_ {A = Extents} (record { x = x; y = y; z = z }) (gridOf v)
+  unfolding gridOf
+  grid-made p q r = λ t. record { x = p t; y = q t; z = r t }
+
+-- ---- cells of a grid
+module _ (g : Extents) (c : Cell) where
+  pub out-x : g .x ≤ c .x → false ≡ inGrid g c
+  unfolding inGrid
+  out-x h = simp (le-ltb _ _ h)
+
+  pub out-y : c .x < g .x → g .y ≤ c .y → false ≡ inGrid g c
+  unfolding inGrid
+  out-y p h = simp (lt-ltb _ _ p, le-ltb _ _ h)
+
+  pub in-z : c .x < g .x → c .y < g .y → ltb (c .z) (g .z) ≡ inGrid g c
+  unfolding inGrid
+  in-z p h = simp (lt-ltb _ _ p, lt-ltb _ _ h)
+
+  pub inside-all : inGrid g c ≡ true → (c .x < g .x) × (c .y < g .y) × (c .z < g .z)
+  unfolding inGrid
+  inside-all e =
+      let p = both _ _ e in
+      let q = both _ _ (p .1) in
+      (ltb-true _ _ (p .0), ltb-true _ _ (q .0), ltb-true _ _ (q .1))
+
+-- a cell of the grid begins inside the volume
+begins-within : (v : Volume) (c : Cell) → zeroExtent v ≡ false → inGrid (gridOf v) c ≡ true → BeginsInside v c
+unfolding gridOf
+begins-within v c e o =
+    let s = chunk-some v e in
+    let h = inside-all _ c o in
+    record {
+      x = cell-begins-inside _ _ (s .0) _ (h .0);
+      y = cell-begins-inside _ _ (s .1) _ (h .1);
+      z = cell-begins-inside _ _ (s .2) _ (h .2);
+    }
+
+-- ---- the entry points: z is whether an extent is 0, g the grid, o whether the cell is inside, b the number of key bits
+module _ (v : Volume) {z : Bool} (ez : z ≡ zeroExtent v) where
+  pub tested : z ≡ false → zeroExtent v ≡ false
+  tested h = sym ez ∙ h
+
+  pub grid-2 : z ≡ true → GridRefused 2 ≡ gridAnswer v
+  unfolding gridAnswer
+  grid-2 h = rw (sym ez ∙ h)
+
+  pub grid-yes : z ≡ false → {g : Extents} → g ≡ gridOf v → Grid g ≡ gridAnswer v
+  unfolding gridAnswer
+  grid-yes h eg = rw (tested h, eg)
+
+  module _ (c : Cell) where
+    pub key-2 : z ≡ true → KeyRefused 2 ≡ keyAnswer v c
+    unfolding keyAnswer noCell
+    key-2 h = rw (sym ez ∙ h)
+
+    pub bounds-2 : z ≡ true → BoundsRefused 2 ≡ boundsAnswer v c
+    unfolding boundsAnswer noCell
+    bounds-2 h = rw (sym ez ∙ h)
+
+    module _ (nz : z ≡ false) {g : Extents} (eg : g ≡ gridOf v) {o : Bool} (eo : o ≡ inGrid g c) where
+      in-is : {t : Bool} → o ≡ t → inGrid (gridOf v) c ≡ t
+      in-is h = rw eg at (sym eo ∙ h)
+
+      pub key-2-cell : not o ≡ true → KeyRefused 2 ≡ keyAnswer v c
+      unfolding keyAnswer noCell
+      key-2-cell h = rw (tested nz, in-is (not-true o h))
+
+      pub bounds-2-cell : not o ≡ true → BoundsRefused 2 ≡ boundsAnswer v c
+      unfolding boundsAnswer noCell
+      bounds-2-cell h = rw (tested nz, in-is (not-true o h))
+
+      module _ (no : not o ≡ false) where
+        inside-is : inGrid (gridOf v) c ≡ true
+        inside-is = in-is (not-false o no)
+
+        pub key-3 : {b : ℕ} → b ≡ keyBits g → 64 < b → KeyRefused 3 ≡ keyAnswer v c
+        unfolding keyAnswer noCell tooManyBits
+        key-3 eb l = rw (tested nz, inside-is, ← eg, ← eb, lt-ltb _ _ l)
+
+        pub key-yes : {b k : ℕ} → b ≡ keyBits g → b ≤ 64 → k ≡ keyOf g c → Key k ≡ keyAnswer v c
+        unfolding keyAnswer noCell tooManyBits
+        key-yes eb l ek = rw (tested nz, inside-is, ← eg, ← eb, le-ltb _ _ l, ek)
+
+        pub within-is : BeginsInside v c
+        within-is = begins-within v c (tested nz) inside-is
+
+        pub bounds-yes : {p q : Point} → p ≡ beginPoint v c → q ≡ endPoint v c
+            → Within (record { begin = p; end = q }) ≡ boundsAnswer v c
+        unfolding boundsAnswer noCell boundsOf
+        bounds-yes ep eq = rw (tested nz, inside-is, ep, eq)
+
+  module _ (key : ℕ) where
+    pub cell-2 : z ≡ true → CellRefused 2 ≡ cellAnswer v key
+    unfolding cellAnswer
+    cell-2 h = rw (sym ez ∙ h)
+
+    module _ (nz : z ≡ false) {g : Extents} (eg : g ≡ gridOf v) {b : ℕ} (eb : b ≡ keyBits g) where
+      pub cell-3 : 64 < b → CellRefused 3 ≡ cellAnswer v key
+      unfolding cellAnswer tooManyBits
+      cell-3 l = rw (tested nz, ← eg, ← eb, lt-ltb _ _ l)
+
+      module _ (l : b ≤ 64) {p : Bool} (ep : p ≡ leb (2 ^ b) key) where
+        pub cell-4-key : p ≡ true → CellRefused 4 ≡ cellAnswer v key
+        unfolding cellAnswer tooManyBits isKey
+        cell-4-key h = rw (tested nz, ← eg, ← eb, le-ltb _ _ l, le-ltb _ _ (leb-true _ _ (sym ep ∙ h)))
+
+        module _ (np : p ≡ false) {c : Cell} (ec : c ≡ cellOf g key) {o : Bool} (eo : o ≡ inGrid g c) where
+          pub cell-4-cell : not o ≡ true → CellRefused 4 ≡ cellAnswer v key
+          unfolding cellAnswer tooManyBits isKey
+          cell-4-cell h =
+              rw (tested nz, ← eg, ← eb, le-ltb _ _ l, lt-ltb _ _ (leb-false _ _ (sym ep ∙ np)), ← ec, sym eo ∙ not-true o h)
+
+          pub cell-yes : not o ≡ false → At c ≡ cellAnswer v key
+          unfolding cellAnswer tooManyBits isKey
+          cell-yes h =
+              rw (tested nz, ← eg, ← eb, le-ltb _ _ l, lt-ltb _ _ (leb-false _ _ (sym ep ∙ np)), ← ec, sym eo ∙ not-false o h)
+
+-- ---- bits above the last used one
+pub one-shl : (k w : ℕ) → k < w → 1 * 2 ^ k % 2 ^ w ≡ 2 ^ k
+one-shl k w h = shl-exact {a = 1} 1 k w (omega arith) (omega arith) ∙ omega arith
+
+pub never-past : (key bits : ℕ) → bits ≡ 64 → Fits w64 key → false ≡ leb (2 ^ bits) key
+never-past key bits e f = rw e (sym (lt-leb (2 ^ 64) key (f .fits)))
+
+pub past-at : (key bits : ℕ) → bits ≤ 64 → (bits ≡ 64 → ⊥) → leb (1 * 2 ^ bits % 2 ^ 64) key ≡ leb (2 ^ bits) key
+past-at key bits h n = ap (λ (x : ℕ). leb x key) (one-shl bits 64 (omega arith))
+
+pub below-size : (g i : ℕ) → i < 32 → ltb (1 * 2 ^ i % 2 ^ 32) g ≡ used g i
+unfolding used
+below-size g i h = ap (λ (x : ℕ). ltb x g) (one-shl i 32 h)
+
+pub ruleset ways = (
+  tested,
+  grid-2,
+  grid-yes,
+  key-2,
+  key-2-cell,
+  key-3,
+  key-yes,
+  cell-2,
+  cell-3,
+  cell-4-key,
+  cell-4-cell,
+  cell-yes,
+  bounds-2,
+  bounds-2-cell,
+  bounds-yes,
+  within-is,
+  needs,
+)

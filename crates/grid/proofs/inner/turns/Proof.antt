@@ -1,0 +1,16 @@
+-- `grid::inner::turns` meets its contract.
+use borrow.Author.Needs.{needs}
+use Rattle.grid.proofs.Lengths.{top-of}
+use Rattle.grid.proofs.inner.turns.Statement.{statement}
+use Rattle.grid.proofs.inner.turns.Tie as tie
+
+pub turns-spec : {M : Type 1} → statement M
+turns-spec =
+    tie.close
+    (tie.spec
+    (λ c κs. search needs)
+    (λ c κs. search needs)
+    (λ c κs. search needs)
+    (λ c κs. search needs)
+    (λ c κs. search needs)
+    (λ c. search top-of))

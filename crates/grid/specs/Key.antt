@@ -1,0 +1,90 @@
+-- The compressed Morton key of a cell, by the numbered steps of source 000, and the cell of a key (01, "Cells and keys").
+use Prim.Native.Nat.{ℕ, zero, suc, _+_, _*_, _/_, _%_, _^_}
+use mathlib.Core.Bool.{Bool, true, false, _&&_}
+use lib.Dec.{ltb}
+use Rattle.grid.specs.declared.Extents.{Extents}
+use Rattle.grid.specs.declared.Cell.{Cell}
+use Rattle.grid.specs.Grid.{inGrid}
+
+-- bit i of n
+unfoldable pub bitOf : ℕ → ℕ → ℕ
+bitOf n i = n / 2 ^ i % 2
+
+-- turn i uses an axis of g cells: "If 2**i < grid_size[dim]"
+unfoldable pub used : ℕ → ℕ → Bool
+used g i = ltb (2 ^ i) g
+
+-- ---- the key of a cell
+-- the state of the steps: j, the next output bit, and the key so far
+pub record Output : Type 0 where
+  pub j : ℕ
+  pub key : ℕ
+
+-- one axis of a turn, b its bit: "Set output bit j of the compressed Morton code to bit i of g[dim]. Set j := j + 1."
+unfoldable pub step : Bool → ℕ → Output → Output
+step true b w = record { j = w .j + 1; key = w .key + b * 2 ^ (w .j) }
+step false b w = w
+
+-- n turns from turn i on: "For dim in 0, 1, 2 (corresponding to x, y, z)"
+unfoldable pub steps : ℕ → ℕ → Extents → Cell → Output → Output
+steps zero i g c w = w
+steps (suc n) i g c w =
+    steps n (suc i) g c
+    (step (used (g .z) i) (bitOf (c .z) i)
+    (step (used (g .y) i) (bitOf (c .y) i)
+    (step (used (g .x) i) (bitOf (c .x) i) w)))
+
+-- "Set j := 0." Coordinates are u32: 32 turns reach each bit, and a turn that no axis uses gives nothing.
+unfoldable pub keyOf : Extents → Cell → ℕ
+keyOf g c = steps 32 0 g c (record { j = 0; key = 0 }) .key
+
+-- how many output bits the steps give: the cell does not matter
+unfoldable pub keyBits : Extents → ℕ
+keyBits g = steps 32 0 g (record { x = 0; y = 0; z = 0 }) (record { j = 0; key = 0 }) .j
+
+-- refusal 3: "the grid needs more than 64 key bits"
+unfoldable pub tooManyBits : Extents → Bool
+tooManyBits g = ltb 64 (keyBits g)
+
+-- ---- the cell of a key: the same steps, which now read
+-- 1 for a bit that is used
+unfoldable pub count : Bool → ℕ
+count true = 1
+count false = 0
+
+-- the state: j, the next bit of the key, and the coordinates so far
+pub record Input : Type 0 where
+  pub j : ℕ
+  pub x : ℕ
+  pub y : ℕ
+  pub z : ℕ
+
+-- bit j of the key is bit i of the coordinate, so far v, if turn i uses the axis
+unfoldable pub into : Bool → ℕ → ℕ → ℕ → ℕ → ℕ
+into true key j i v = v + bitOf key j * 2 ^ i
+into false key j i v = v
+
+-- one turn: x, y, z, each after the bits of those before it
+unfoldable pub stepBack : Bool → Bool → Bool → ℕ → ℕ → Input → Input
+stepBack ux uy uz key i w =
+    record {
+      j = w .j + count ux + count uy + count uz;
+      x = into ux key (w .j) i (w .x);
+      y = into uy key (w .j + count ux) i (w .y);
+      z = into uz key (w .j + count ux + count uy) i (w .z);
+    }
+
+-- n turns from turn i on
+unfoldable pub stepsBack : ℕ → ℕ → Extents → ℕ → Input → Input
+stepsBack zero i g key w = w
+stepsBack (suc n) i g key w =
+    stepsBack n (suc i) g key (stepBack (used (g .x) i) (used (g .y) i) (used (g .z) i) key i w)
+
+unfoldable pub cellOf : Extents → ℕ → Cell
+cellOf g key =
+    let w : Input = stepsBack 32 0 g key (record { j = 0; x = 0; y = 0; z = 0 }) in
+    record { x = w .x; y = w .y; z = w .z }
+
+-- refusal 4, denied: no "bit above the last used one", and no "cell outside the grid"
+unfoldable pub isKey : Extents → ℕ → Bool
+isKey g key = ltb key (2 ^ keyBits g) && inGrid g (cellOf g key)

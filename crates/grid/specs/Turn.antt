@@ -1,0 +1,37 @@
+-- What the inner functions' contracts say of one turn: a key that grows below, or is read and shortened, by one bit.
+use Prim.Native.Nat.{ℕ, zero, suc, _+_, _*_, _/_, _%_, _^_, _≤_}
+use mathlib.Core.Bool.{Bool, true, false}
+use mathlib.Core.Path.{_≡_}
+use Rattle.grid.specs.declared.Extents.{Extents}
+use Rattle.grid.specs.Key.{used, count}
+
+-- the bit b below the key k, a key's lowest bit, and a key without it: each if the axis is used
+unfoldable pub put : Bool → ℕ → ℕ → ℕ
+put true b k = b + 2 * k
+put false b k = k
+
+unfoldable pub low : Bool → ℕ → ℕ
+low true k = k % 2
+low false k = 0
+
+unfoldable pub rest : Bool → ℕ → ℕ
+rest true k = k / 2
+rest false k = k
+
+-- of n turns from turn i on, how many use an axis of g cells
+unfoldable pub usedTurns : ℕ → ℕ → ℕ → ℕ
+usedTurns zero i g = 0
+usedTurns (suc n) i g = count (used g i) + usedTurns n (suc i) g
+
+-- an axis of g cells gives r bits to a key: r turns use it, and none from turn r on
+pub record AxisBits (g r : ℕ) : Type 0 where
+  pub is : r ≡ usedTurns 32 0 g
+  pub most : r ≤ 32
+  pub holds : g ≤ 2 ^ r
+
+-- from turn r on no axis is used
+pub record Top (g : Extents) (r : ℕ) : Type 0 where
+  pub most : r ≤ 32
+  pub x : g .x ≤ 2 ^ r
+  pub y : g .y ≤ 2 ^ r
+  pub z : g .z ≤ 2 ^ r

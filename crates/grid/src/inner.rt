@@ -1,0 +1,147 @@
+// What other crates ask of a volume or a grid that they have tested.
+ghost use mathlib.Core.Path.{_≡_};
+ghost use mathlib.Core.Bool.{false};
+ghost use Prim.Native.Nat.{_<_, _≤_};
+ghost use Rattle.grid.specs.Grid.{gridSize, gridOf, hasZero, zeroExtent, inGrid};
+ghost use Rattle.grid.specs.Key.{keyBits, keyOf, cellOf};
+ghost use Rattle.grid.specs.Turn.{Top};
+use crate::Cell;
+use crate::Extents;
+use crate::Volume;
+use crate::axis;
+
+// An extent is 0.
+fn has_zero(e: Extents) -> bool
+    ensures { λ r. ⌜ r ≡ hasZero e ⌝ }
+{
+    if e.x == 0 {
+        return true;
+    }
+    if e.y == 0 {
+        return true;
+    }
+    e.z == 0
+}
+
+// A volume or chunk extent is 0.
+pub fn zero_extent(volume: Volume) -> bool
+    ensures { λ r. ⌜ r ≡ zeroExtent volume ⌝ }
+{
+    let size = volume.size;
+    let chunk = volume.chunk;
+    if has_zero(size) {
+        return true;
+    }
+    has_zero(chunk)
+}
+
+// An extent in chunks, rounded up.
+pub fn grid_size(extent: u32, chunk: u32) -> u32
+    requires { ⌜ 0 < chunk ⌝ }
+    ensures { λ r. ⌜ r ≡ gridSize extent chunk ⌝ }
+{
+    let whole = extent / chunk;
+    if extent % chunk == 0 {
+        whole
+    } else {
+        whole + 1
+    }
+}
+
+// How many cells the volume has along each axis.
+pub fn grid(volume: Volume) -> Extents
+    requires { ⌜ zeroExtent volume ≡ false ⌝ }
+    ensures { λ r. ⌜ r ≡ gridOf volume ⌝ }
+{
+    let size = volume.size;
+    let chunk = volume.chunk;
+    Extents {
+        x: grid_size(size.x, chunk.x),
+        y: grid_size(size.y, chunk.y),
+        z: grid_size(size.z, chunk.z),
+    }
+}
+
+// The cell is one of the grid's.
+pub fn inside(grid: Extents, cell: Cell) -> bool
+    ensures { λ r. ⌜ r ≡ inGrid grid cell ⌝ }
+{
+    if grid.x <= cell.x {
+        return false;
+    }
+    if grid.y <= cell.y {
+        return false;
+    }
+    cell.z < grid.z
+}
+
+// How many bits the grid's keys have.
+pub fn key_bits(grid: Extents) -> u32
+    ensures { λ r. ⌜ r ≡ keyBits grid ⌝ }
+{
+    axis::axis_bits(grid.x) + axis::axis_bits(grid.y) + axis::axis_bits(grid.z)
+}
+
+// The same of a volume's grid: a card whose grid needs more than 64 is refused.
+pub fn volume_key_bits(volume: Volume) -> u32
+    requires { ⌜ zeroExtent volume ≡ false ⌝ }
+    ensures { λ r. ⌜ r ≡ keyBits (gridOf volume) ⌝ }
+{
+    key_bits(grid(volume))
+}
+
+// The larger.
+fn most(a: u32, b: u32) -> u32
+    requires { ⌜ (a ≤ 32) × (b ≤ 32) ⌝ }
+    ensures { λ r. ⌜ (a ≤ r) × (b ≤ r) × (r ≤ 32) ⌝ }
+{
+    if a < b { b } else { a }
+}
+
+// How many turns use an axis at all.
+fn turns(grid: Extents) -> u32
+    ensures { λ r. ⌜ Top grid r ⌝ }
+{
+    most(
+        most(axis::axis_bits(grid.x), axis::axis_bits(grid.y)),
+        axis::axis_bits(grid.z),
+    )
+}
+
+// The key of a cell, from its highest bit down.
+pub fn key(grid: Extents, cell: Cell) -> u64
+    requires { ⌜ keyBits grid ≤ 64 ⌝ }
+    ensures { λ r. ⌜ r ≡ keyOf grid cell ⌝ }
+{
+    let mut i = turns(grid);
+    let mut k = 0u64;
+    while 0 < i {
+        i -= 1;
+        k = axis::put_bit(grid.z, cell.z, i, k);
+        k = axis::put_bit(grid.y, cell.y, i, k);
+        k = axis::put_bit(grid.x, cell.x, i, k);
+    }
+    k
+}
+
+// The cell that the key's used bits make, inside the grid or not.
+pub fn cell(grid: Extents, key: u64) -> Cell
+    ensures { λ r. ⌜ r ≡ cellOf grid key ⌝ }
+{
+    let n = turns(grid);
+    let mut i = 0u32;
+    let mut k = key;
+    let mut x = 0u32;
+    let mut y = 0u32;
+    let mut z = 0u32;
+    while i < n {
+        x += axis::low_bit(grid.x, i, k);
+        k = axis::rest_key(grid.x, i, k);
+        y += axis::low_bit(grid.y, i, k);
+        k = axis::rest_key(grid.y, i, k);
+        z += axis::low_bit(grid.z, i, k);
+        k = axis::rest_key(grid.z, i, k);
+        i += 1;
+    }
+    Cell { x, y, z }
+}

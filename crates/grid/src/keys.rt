@@ -1,0 +1,60 @@
+// The key of a cell, and the cell of a key.
+ghost use mathlib.Core.Path.{_≡_};
+ghost use Prim.Native.Nat.{_^_, _≤_};
+ghost use lib.Dec.{leb};
+ghost use Rattle.grid.specs.Answers.{keyAnswer, cellAnswer};
+use crate::Cell;
+use crate::CellAnswer;
+use crate::KeyAnswer;
+use crate::Volume;
+use crate::inner;
+
+// The key of a cell: 2 where there is no such cell, 3 where the grid needs more than 64 key bits.
+pub fn key_of(volume: Volume, cell: Cell) -> KeyAnswer
+    ensures answer { λ r. ⌜ r ≡ keyAnswer volume cell ⌝ }
+{
+    if inner::zero_extent(volume) {
+        return KeyAnswer::Refused(2);
+    }
+    let grid = inner::grid(volume);
+    if !inner::inside(grid, cell) {
+        return KeyAnswer::Refused(2);
+    }
+    if 64 < inner::key_bits(grid) {
+        return KeyAnswer::Refused(3);
+    }
+    KeyAnswer::Key(inner::key(grid, cell))
+}
+
+// The key has a bit above its first `bits`.
+fn reaches_past(key: u64, bits: u32) -> bool
+    requires { ⌜ bits ≤ 64 ⌝ }
+    ensures { λ r. ⌜ r ≡ leb (2 ^ bits) key ⌝ }
+{
+    if bits == 64 {
+        return false;
+    }
+    (1u64 << bits) <= key
+}
+
+// The cell whose key it is: 2 where an extent is 0, 3 as above, 4 where the key is no cell's.
+pub fn cell_of(volume: Volume, key: u64) -> CellAnswer
+    ensures answer { λ r. ⌜ r ≡ cellAnswer volume key ⌝ }
+{
+    if inner::zero_extent(volume) {
+        return CellAnswer::Refused(2);
+    }
+    let grid = inner::grid(volume);
+    let bits = inner::key_bits(grid);
+    if 64 < bits {
+        return CellAnswer::Refused(3);
+    }
+    if reaches_past(key, bits) {
+        return CellAnswer::Refused(4);
+    }
+    let cell = inner::cell(grid, key);
+    if !inner::inside(grid, cell) {
+        return CellAnswer::Refused(4);
+    }
+    CellAnswer::At(cell)
+}

@@ -1,0 +1,85 @@
+-- What the writers of chunk names need: the name of bounds, and a law for each way out of `chunk_name`.
+use Prim.Native.Nat.{ℕ}
+use mathlib.Core.Path.{_≡_, refl, sym, ap, _∙_}
+use mathlib.Core.Bool.{Bool, true, false}
+use mathlib.Core.List.{List}
+use native.Mathlib.Omega.{arith}
+use borrow.Author.Needs.{needs}
+use mir.Syntax.{w64}
+use mir.Val.{SFits}
+use mir.Facts.{toZ-ofZ}
+use Rattle.endian.specs.Choice.{pick}
+use Rattle.endian.specs.Buffer.{written, leftBy}
+use Rattle.endian.specs.declared.Written.{Written}
+use Rattle.endian.specs.declared.Written.the-variants.{Refused}
+use Rattle.grid.specs.Answers.{noCell, boundsAnswer}
+use Rattle.grid.specs.Bounds.{boundsOf}
+use Rattle.grid.specs.declared.Bounds.{Bounds}
+use Rattle.grid.specs.declared.Cell.{Cell}
+use Rattle.grid.specs.declared.Volume.{Volume}
+use Rattle.grid.specs.declared.BoundsAnswer.{BoundsAnswer}
+use Rattle.grid.specs.declared.BoundsAnswer.the-variants.{Within, Refused as BoundsRefused}
+use Rattle.names.specs.Signs.{spanOf, spansText}
+use Rattle.names.specs.Chunks.{boundsName, chunkName, chunkNameAnswer, chunkNameLeft}
+use Rattle.names.specs.declared.inner.Span.{Span}
+use Rattle.names.proofs.Texts.{back}
+
+-- ---- the bounds' spans, each of two i64s read back from their bits
+
+module _ (b : Bounds) (x y z : Span)
+    (px : x ≡ spanOf (back (b .begin .x)) (back (b .end .x)))
+    (py : y ≡ spanOf (back (b .begin .y)) (back (b .end .y)))
+    (pz : z ≡ spanOf (back (b .begin .z)) (back (b .end .z)))
+    (fx : SFits w64 (b .begin .x)) (gx : SFits w64 (b .end .x))
+    (fy : SFits w64 (b .begin .y)) (gy : SFits w64 (b .end .y))
+    (fz : SFits w64 (b .begin .z)) (gz : SFits w64 (b .end .z)) where
+  same-spans : spansText x y z ≡ boundsName b
+  unfolding boundsName
+  same-spans = rw (px, py, pz, toZ-ofZ fx, toZ-ofZ gx, toZ-ofZ fy, toZ-ofZ gy, toZ-ofZ fz, toZ-ofZ gz)
+
+  pub bounds-answer : (r : Written) (d : List ℕ) → r ≡ written (spansText x y z) d → r ≡ written (boundsName b) d
+  bounds-answer r d w = w ∙ ap (λ (t : List ℕ). written t d) same-spans
+
+  pub bounds-left : (s d : List ℕ) → s ≡ leftBy (spansText x y z) d → s ≡ leftBy (boundsName b) d
+  bounds-left s d w = w ∙ ap (λ (t : List ℕ). leftBy t d) same-spans
+
+pub ruleset bounding = (bounds-answer, bounds-left, needs)
+
+-- ---- the ways out
+
+refused-by : (t : Bool) (b : Bounds) (k : ℕ) → pick t (BoundsRefused 2) (Within b) ≡ BoundsRefused k → (t ≡ true) × (k ≡ 2)
+refused-by true b k e = (refl, cc)
+refused-by false b k e = let z : _≡_ {A = ℕ} 0 1 = cc in absurd (omega arith)
+
+within-by : (t : Bool) (a b : Bounds) → pick t (BoundsRefused 2) (Within b) ≡ Within a → (t ≡ false) × (a ≡ b)
+within-by true a b e = let z : _≡_ {A = ℕ} 0 1 = cc in absurd (omega arith)
+within-by false a b e = (refl, cc)
+
+module _ (v : Volume) (c : Cell) (d : List ℕ) (r : BoundsAnswer) (p : r ≡ boundsAnswer v c) where
+  module _ (k : ℕ) (q : r ≡ BoundsRefused k) where
+    refused : (noCell v c ≡ true) × (k ≡ 2)
+    unfolding boundsAnswer
+    refused = refused-by (noCell v c) (boundsOf v c) k (sym p ∙ q)
+
+    pub no-name : Refused k ≡ chunkNameAnswer v c d
+    unfolding chunkNameAnswer
+    no-name = rw (refused .0, refused .1)
+
+    pub no-name-left : d ≡ chunkNameLeft v c d
+    unfolding chunkNameLeft
+    no-name-left = rw (refused .0)
+
+  module _ (b : Bounds) (q : r ≡ Within b) where
+    within : (noCell v c ≡ false) × (b ≡ boundsOf v c)
+    unfolding boundsAnswer
+    within = within-by (noCell v c) b (boundsOf v c) (sym p ∙ q)
+
+    pub cell-name : (a : Written) → a ≡ written (boundsName b) d → a ≡ chunkNameAnswer v c d
+    unfolding chunkNameAnswer chunkName
+    cell-name a w = w ∙ rw (within .0, within .1)
+
+    pub cell-name-left : (s : List ℕ) → s ≡ leftBy (boundsName b) d → s ≡ chunkNameLeft v c d
+    unfolding chunkNameLeft chunkName
+    cell-name-left s w = w ∙ rw (within .0, within .1)
+
+pub ruleset celling = (no-name, no-name-left, cell-name, cell-name-left, needs)

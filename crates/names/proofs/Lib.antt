@@ -1,0 +1,7 @@
+pub mod Numerals
+pub mod Absolute
+pub mod Texts
+pub mod Chunked
+pub mod Apart
+pub mod Cases
+pub mod Sharded

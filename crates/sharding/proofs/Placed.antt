@@ -1,0 +1,81 @@
+-- Laws of the place of an id.
+use Prim.Native.Nat.{ℕ, _/_, _%_, _^_, _<_}
+use mathlib.Core.Path.{_≡_, refl, sym, _∙_}
+use mathlib.Core.Bool.{Bool, true, false}
+use native.Mathlib.Nat.{mod-lt, lt-of-le-of-lt}
+use lib.Dec.{eqb}
+use lib.Pow.{pow-pos, shr-le}
+use borrow.Author.Tests.{eq-eqb, ne-eqb}
+use Rattle.endian.specs.Choice.{pick}
+use Rattle.sharding.specs.declared.Sharding.{Sharding}
+use Rattle.sharding.specs.declared.Place.{Place}
+use Rattle.sharding.specs.declared.PlaceAnswer.{PlaceAnswer}
+use Rattle.sharding.specs.declared.PlaceAnswer.the-variants.{At, Refused}
+use Rattle.sharding.specs.Specification.{murmur, allowed, minishardCount, shardCount, minishardBits, shardBits}
+use Rattle.sharding.specs.Place.{murmurHash, hashedId, shardOf, minishardOf, placeOf, placeAnswer}
+use Rattle.sharding.proofs.Hash.{murmur-below}
+
+-- ---- the hashed id by its two kinds
+
+pub murmur-hashed : (spec : Sharding) (id : ℕ) {n r : ℕ} → spec .hash ≡ murmur → n ≡ id / 2 ^ spec .preshift → r ≡ murmurHash n → r ≡ hashedId spec id
+unfolding hashedId
+murmur-hashed spec id h p e = rw (eq-eqb (spec .hash) murmur h, ← p) e
+
+pub identity-hashed : (spec : Sharding) (id : ℕ) {r : ℕ} → (spec .hash ≡ murmur → ⊥) → r ≡ id / 2 ^ spec .preshift → r ≡ hashedId spec id
+unfolding hashedId
+identity-hashed spec id h e = rw (ne-eqb (spec .hash) murmur h) e
+
+-- ---- bounds
+
+pub hashed-below : (spec : Sharding) (id : ℕ) → id < 2 ^ 64 → hashedId spec id < 2 ^ 64
+unfolding hashedId
+hashed-below spec id h = by-kind (eqb (spec .hash) murmur)
+  where
+    by-kind : (b : Bool) → pick b (murmurHash (id / 2 ^ spec .preshift)) (id / 2 ^ spec .preshift) < 2 ^ 64
+    by-kind true = murmur-below (id / 2 ^ spec .preshift)
+    by-kind false = lt-of-le-of-lt (shr-le id (spec .preshift)) h
+
+-- the rest of a division by a power of two
+pub rest-below : (n k : ℕ) {r : ℕ} → r ≡ n % 2 ^ k → r < 2 ^ k
+rest-below n k p = rw p (mod-lt n (pow-pos k))
+
+pub minishard-below : (spec : Sharding) (id : ℕ) → minishardOf spec id < minishardCount spec
+unfolding minishardOf
+minishard-below spec id = rest-below (hashedId spec id) (minishardBits spec) refl
+
+pub shard-below : (spec : Sharding) (id : ℕ) → shardOf spec id < shardCount spec
+unfolding shardOf
+shard-below spec id = rest-below (hashedId spec id / minishardCount spec) (shardBits spec) refl
+
+-- ---- the two parts of a hashed id
+
+pub minishard-bits : (spec : Sharding) (id : ℕ) {h r : ℕ} → h ≡ hashedId spec id → r ≡ h % minishardCount spec → r ≡ minishardOf spec id
+unfolding minishardOf
+minishard-bits spec id p q = cc
+
+pub shard-bits : (spec : Sharding) (id : ℕ) {h r : ℕ} → h ≡ hashedId spec id → r ≡ h / minishardCount spec % shardCount spec → r ≡ shardOf spec id
+unfolding shardOf
+shard-bits spec id p q = cc
+
+-- ---- the answer
+
+pub answer-at : (spec : Sharding) (id : ℕ) {b : Bool} {p : Place} → b ≡ allowed spec → b ≡ true → p ≡ placeOf spec id → At p ≡ placeAnswer spec id
+unfolding placeAnswer
+answer-at spec id e t q = rw (← e, t, q)
+
+pub answer-refused : (spec : Sharding) (id : ℕ) {b : Bool} → b ≡ allowed spec → b ≡ false → Refused 1 ≡ placeAnswer spec id
+unfolding placeAnswer
+answer-refused spec id e t = rw (← e, t)
+
+-- ---- the place depends on the specification and the id, and of the id on the bits above the preshift
+
+pub same-answer : (spec : Sharding) (id : ℕ) {a b : PlaceAnswer} → a ≡ placeAnswer spec id → b ≡ placeAnswer spec id → a ≡ b
+same-answer spec id p q = p ∙ sym q
+
+pub same-hashed : (spec : Sharding) (a b : ℕ) → a / 2 ^ spec .preshift ≡ b / 2 ^ spec .preshift → hashedId spec a ≡ hashedId spec b
+unfolding hashedId
+same-hashed spec a b e = rw e
+
+pub same-place : (spec : Sharding) (a b : ℕ) → a / 2 ^ spec .preshift ≡ b / 2 ^ spec .preshift → placeOf spec a ≡ placeOf spec b
+unfolding shardOf minishardOf
+same-place spec a b e = rw (same-hashed spec a b e)

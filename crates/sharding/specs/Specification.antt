@@ -1,0 +1,57 @@
+-- The sharding specification as it stands in a card, and which ones are allowed (01, 'Refusal numbers', 1).
+use Prim.Native.Nat.{ℕ, _^_, _≤_}
+use mathlib.Core.Path.{_≡_}
+use mathlib.Core.Bool.{Bool, not, _||_}
+use mathlib.Core.Logic.{_⊎_}
+use lib.Dec.{ltb, eqb}
+use Rattle.endian.specs.Choice.{pick}
+use Rattle.sharding.specs.declared.Sharding.{Sharding}
+
+-- the limits, named once
+abbrev pub mostPreshift : ℕ
+mostPreshift = 63
+
+abbrev pub mostMinishardBits : ℕ
+mostMinishardBits = 12
+
+abbrev pub mostShardBits : ℕ
+mostShardBits = 32
+
+-- the two hashes, by their numbers in a card (01, 'Deposit card', tag 2)
+abbrev pub identity : ℕ
+identity = 0
+
+abbrev pub murmur : ℕ
+murmur = 1
+
+abbrev pub minishardBits : Sharding → ℕ
+minishardBits spec = spec .«minishard_bits»
+
+abbrev pub shardBits : Sharding → ℕ
+shardBits spec = spec .«shard_bits»
+
+-- refusal 1 does not hold: neither is the preshift too high, nor the hash another than the two, nor are there too many bits
+unfoldable pub allowed : Sharding → Bool
+allowed spec =
+    not
+    (ltb mostPreshift (spec .preshift)
+    || (not (eqb (spec .hash) identity || eqb (spec .hash) murmur)
+    || (ltb mostMinishardBits (minishardBits spec) || ltb mostShardBits (shardBits spec))))
+
+-- the same with its parts as facts
+pub record Within (spec : Sharding) : Type 0 where
+  pub preshift : spec .preshift ≤ mostPreshift
+  pub hash : (spec .hash ≡ identity) ⊎ (spec .hash ≡ murmur)
+  pub minishard : minishardBits spec ≤ mostMinishardBits
+  pub shard : shardBits spec ≤ mostShardBits
+
+-- the number of the refusal that a specification alone can give, or 0: for callers that test it first
+abbrev pub judged : Sharding → ℕ
+judged spec = pick (allowed spec) 0 1
+
+-- how many minishards a shard has, and how many shards there are (source 002, 'Sharding specification')
+abbrev pub minishardCount : Sharding → ℕ
+minishardCount spec = 2 ^ minishardBits spec
+
+abbrev pub shardCount : Sharding → ℕ
+shardCount spec = 2 ^ shardBits spec

@@ -1,0 +1,2 @@
+-- What the vectors are.
+pub mod Vectors

@@ -1,0 +1,91 @@
+//! Keys and places of ids in plain Rust, with the same tests in the same order.
+
+use coronagamba::{Cell, Sharding, Volume};
+
+/// The grid size, or 2.
+fn grid(volume: &Volume) -> Result<[u32; 3], u8> {
+    let (size, chunk) = (volume.size, volume.chunk);
+    let size = [size.x, size.y, size.z];
+    let chunk = [chunk.x, chunk.y, chunk.z];
+    if size.contains(&0) || chunk.contains(&0) {
+        return Err(2);
+    }
+    Ok(std::array::from_fn(|axis| size[axis].div_ceil(chunk[axis])))
+}
+
+/// How many bits a coordinate below `size` needs.
+fn bits(size: u32) -> u32 {
+    32 - (size - 1).leading_zeros()
+}
+
+/// The key of a cell, bit by bit, or 2 or 3.
+pub fn key(volume: &Volume, cell: Cell) -> Result<u64, u8> {
+    let grid = grid(volume)?;
+    let cell = [cell.x, cell.y, cell.z];
+    if (0..3).any(|axis| cell[axis] >= grid[axis]) {
+        return Err(2);
+    }
+    let bits = grid.map(bits);
+    if bits.iter().sum::<u32>() > 64 {
+        return Err(3);
+    }
+    let (mut key, mut place) = (0, 0);
+    for bit in 0..bits[0].max(bits[1]).max(bits[2]) {
+        for axis in 0..3 {
+            if bit < bits[axis] {
+                key |= u64::from(cell[axis] >> bit & 1) << place;
+                place += 1;
+            }
+        }
+    }
+    Ok(key)
+}
+
+/// Spreads every bit of `h` over all of them.
+fn finish(mut h: u32) -> u32 {
+    h = (h ^ (h >> 16)).wrapping_mul(0x85eb_ca6b);
+    h = (h ^ (h >> 13)).wrapping_mul(0xc2b2_ae35);
+    h ^ (h >> 16)
+}
+
+/// The first 8 bytes of MurmurHash3_x86_128 of an 8-byte number, seed 0.
+fn murmur(number: u64) -> u64 {
+    let (low, high) = (number as u32, (number >> 32) as u32);
+    let one = low
+        .wrapping_mul(0x239b_961b)
+        .rotate_left(15)
+        .wrapping_mul(0xab0e_9789);
+    let two = high
+        .wrapping_mul(0xab0e_9789)
+        .rotate_left(16)
+        .wrapping_mul(0x38b3_4ae5);
+    // Lanes three and four are equal throughout.
+    let (mut a, mut b, mut c) = (one ^ 8, two ^ 8, 8u32);
+    a = a.wrapping_add(b).wrapping_add(c).wrapping_add(c);
+    b = b.wrapping_add(a);
+    c = c.wrapping_add(a);
+    (a, b, c) = (finish(a), finish(b), finish(c));
+    a = a.wrapping_add(b).wrapping_add(c).wrapping_add(c);
+    b = b.wrapping_add(a);
+    u64::from(a) | u64::from(b) << 32
+}
+
+/// The shard and minishard of an id, or 1.
+pub fn place(sharding: &Sharding, id: u64) -> Result<(u64, u64), u8> {
+    let allowed = sharding.preshift <= 63
+        && sharding.hash <= 1
+        && sharding.minishard_bits <= 12
+        && sharding.shard_bits <= 32;
+    if !allowed {
+        return Err(1);
+    }
+    let shifted = id >> sharding.preshift;
+    let hashed = if sharding.hash == 0 {
+        shifted
+    } else {
+        murmur(shifted)
+    };
+    let low = |number: u64, bits: u8| number & ((1 << bits) - 1);
+    let shard = low(hashed >> sharding.minishard_bits, sharding.shard_bits);
+    Ok((shard, low(hashed, sharding.minishard_bits)))
+}

@@ -1,0 +1,107 @@
+//! Lookup, the whole-shard check and settling.
+
+mod plain;
+
+use crate::runner::{bytes, numbers, Measure};
+use coronagamba::{Shard, Sharding};
+use reference::settle::settled_form;
+use std::hint::black_box;
+
+/// A settled shard of number 0, with the ids that it lists in random order.
+struct Sample {
+    sharding: Sharding,
+    ids: Vec<u64>,
+    file: Vec<u8>,
+}
+
+/// A shard of this many chunks of `length` bytes each.
+fn sample(hash: u8, minishard_bits: u8, chunks: usize, length: usize) -> Sample {
+    let sharding = reference::sharding::Sharding {
+        preshift: 0,
+        hash,
+        minishard_bits,
+        shard_bits: 0,
+    };
+    let ids = numbers(chunks);
+    let body = bytes(length);
+    let content: Vec<(u64, &[u8])> = ids.iter().map(|id| (*id, &body[..])).collect();
+    Sample {
+        sharding: Sharding {
+            preshift: 0,
+            hash,
+            minishard_bits,
+            shard_bits: 0,
+        },
+        file: settled_form(&sharding, &content),
+        ids,
+    }
+}
+
+impl Sample {
+    /// The library's view of it.
+    fn open(&self) -> Shard<'_> {
+        Shard::open(self.sharding, 0, black_box(&self.file))
+    }
+}
+
+/// Lookups of listed ids.
+fn lookups(name: &str, sample: &Sample, count: usize) {
+    let shard = sample.open();
+    let ids: Vec<u64> = sample.ids.iter().cycle().take(count).copied().collect();
+    let measure = Measure {
+        name,
+        operations: ids.len(),
+    };
+    let library = |id: &u64| shard.lookup(*id).unwrap_or_default().start;
+    let plain = |id: &u64| {
+        let place = plain::lookup(&sample.sharding, 0, black_box(&sample.file), *id);
+        place.unwrap_or_default().0
+    };
+    measure.run(
+        || ids.iter().fold(0, |all, id| all ^ library(id)),
+        || ids.iter().fold(0, |all, id| all ^ plain(id)),
+    );
+}
+
+/// The whole-shard check, timed by chunk.
+fn checks(name: &str, sample: &Sample) {
+    let measure = Measure {
+        name,
+        operations: sample.ids.len(),
+    };
+    measure.run(
+        || u64::from(sample.open().check().is_ok()),
+        || u64::from(plain::check(&sample.sharding, 0, black_box(&sample.file)).is_ok()),
+    );
+}
+
+/// Settling, timed by KiB of output.
+fn settling(name: &str, sample: &Sample) {
+    let length = sample.file.len();
+    let (mut ours, mut theirs) = (vec![0; length], vec![0; length]);
+    let measure = Measure {
+        name,
+        operations: length >> 10,
+    };
+    measure.run(
+        || sample.open().settle(black_box(&mut ours)).unwrap_or(0) as u64,
+        || {
+            let file = black_box(&sample.file);
+            plain::settle(&sample.sharding, 0, file, black_box(&mut theirs)).unwrap_or(0) as u64
+        },
+    );
+    assert!(ours == theirs, "{name}: the bytes");
+}
+
+/// Prints the lines.
+pub fn run() {
+    let short = sample(1, 9, 1 << 15, 64);
+    lookups("lookup, 64 chunks in the minishard", &short, 1 << 15);
+    checks("check, murmur, a chunk", &short);
+    settling("settling, chunks of 64 bytes, a KiB", &short);
+    let long = sample(0, 0, 1 << 15, 64);
+    lookups("lookup, 32768 chunks in the minishard", &long, 50);
+    checks("check, identity, a chunk", &long);
+    let large = sample(1, 6, 1 << 10, 1 << 16);
+    settling("settling, chunks of 64 KiB, a KiB", &large);
+}

@@ -1,0 +1,60 @@
+//! Names of unsharded chunks and of shard files.
+
+use crate::ffi;
+use crate::grid::{Cell, Volume};
+use crate::refusal::{answer, Refusal};
+use crate::sharding::Sharding;
+
+/// The most bytes that a chunk name has: six numbers of at most 11 characters
+/// and five marks between them.
+const MOST_CHUNK_NAME_BYTES: usize = 6 * 11 + 5;
+
+/// The most bytes that a shard file name has: 8 digits and `.shard`.
+const MOST_SHARD_NAME_BYTES: usize = 8 + 6;
+
+/// A name as text.
+fn text(bytes: &[u8]) -> String {
+    String::from_utf8_lossy(bytes).into_owned()
+}
+
+impl Volume {
+    /// Writes the unsharded name of a cell to the front of `out` and gives its
+    /// length, or refusal 2 or 13.
+    pub fn write_chunk_name(&self, cell: Cell, out: &mut [u8]) -> Result<usize, Refusal> {
+        let mut length = 0;
+        // SAFETY: pointer and length are those of one slice, lent alone, and
+        // the result goes to a live value.
+        answer(unsafe {
+            ffi::coronagamba_chunk_name(*self, cell, out.as_mut_ptr(), out.len(), &mut length)
+        })?;
+        Ok(length as usize)
+    }
+
+    /// The unsharded name of a cell, or refusal 2.
+    pub fn chunk_name(&self, cell: Cell) -> Result<String, Refusal> {
+        let mut out = [0; MOST_CHUNK_NAME_BYTES];
+        let length = self.write_chunk_name(cell, &mut out)?;
+        Ok(text(&out[..length]))
+    }
+}
+
+impl Sharding {
+    /// Writes the file name of a shard to the front of `out` and gives its
+    /// length, or refusal 1, 5 or 13.
+    pub fn write_shard_name(&self, shard: u64, out: &mut [u8]) -> Result<usize, Refusal> {
+        let mut length = 0;
+        // SAFETY: pointer and length are those of one slice, lent alone, and
+        // the result goes to a live value.
+        answer(unsafe {
+            ffi::coronagamba_shard_name(*self, shard, out.as_mut_ptr(), out.len(), &mut length)
+        })?;
+        Ok(length as usize)
+    }
+
+    /// The file name of a shard, or refusal 1 or 5.
+    pub fn shard_name(&self, shard: u64) -> Result<String, Refusal> {
+        let mut out = [0; MOST_SHARD_NAME_BYTES];
+        let length = self.write_shard_name(shard, &mut out)?;
+        Ok(text(&out[..length]))
+    }
+}

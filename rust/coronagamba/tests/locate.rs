@@ -1,0 +1,128 @@
+//! The program `locate`, run on random inputs, against the reference.
+
+use reference::card::{self, Card};
+use std::env;
+use std::io::Write;
+use std::path::PathBuf;
+use std::process::{Command, Stdio};
+use testkit::{places, Rng};
+
+const SAMPLES: usize = 1_500;
+
+/// The program: in the folder that the variable names, else where the
+/// repository's build leaves it.
+fn program() -> PathBuf {
+    let folder = env::var_os("CORONAGAMBA_BIN_DIR").map_or_else(
+        || PathBuf::from(env!("CARGO_MANIFEST_DIR")).join("../../target/bin"),
+        PathBuf::from,
+    );
+    folder.join("locate")
+}
+
+/// What the program prints for this input.
+fn run(input: &[u8]) -> Vec<u8> {
+    let path = program();
+    let mut child = Command::new(&path)
+        .stdin(Stdio::piped())
+        .stdout(Stdio::piped())
+        .spawn()
+        .unwrap_or_else(|error| panic!("{} can't be run: {error}", path.display()));
+    let mut stdin = child.stdin.take().expect("a piped input");
+    std::thread::scope(|scope| {
+        // A program that has seen enough may close its input early.
+        scope.spawn(move || stdin.write_all(input).ok());
+        child.wait_with_output().expect("the program ends").stdout
+    })
+}
+
+/// A card and cells of its volume, with an end that may be cut.
+fn input(rng: &mut Rng) -> Vec<u8> {
+    let (card, bytes) = loop {
+        let mut volume = places::volume(rng);
+        if rng.once_in(2) {
+            volume.offset = [0; 3];
+        }
+        let card = Card {
+            sharding: places::wild_sharding(rng),
+            volume,
+        };
+        if let Ok(bytes) = card::to_bytes(&card) {
+            break (card, bytes);
+        }
+    };
+    let mut input = (bytes.len() as u16).to_le_bytes().to_vec();
+    input.extend(bytes);
+    for _ in 0..rng.index(30) {
+        let cell = places::cell(rng, &card.volume);
+        input.extend(cell.into_iter().flat_map(u32::to_le_bytes));
+    }
+    if rng.once_in(3) {
+        input.truncate(rng.index(input.len() + 1));
+    }
+    if rng.once_in(4) && !input.is_empty() {
+        let at = rng.index(input.len().min(63));
+        input[at] = rng.edge(8) as u8;
+    }
+    input
+}
+
+#[test]
+fn random_inputs() {
+    let mut rng = Rng::new(1);
+    let mut seen = String::new();
+    for _ in 0..SAMPLES {
+        let input = input(&mut rng);
+        let output = run(&input);
+        assert_eq!(output, reference::locate::locate(&input), "{input:?}");
+        seen += &String::from_utf8_lossy(&output);
+    }
+    for line in ["refused 1", "refused 2", "refused 3", "refused 14", "cut"] {
+        assert!(seen.lines().any(|seen| seen == line), "{line} is printed");
+    }
+    assert!(seen.lines().any(|line| line.contains(".shard ")));
+}
+
+#[test]
+fn a_long_input() {
+    let mut rng = Rng::new(2);
+    let mut long = loop {
+        let start = input(&mut rng);
+        let bytes = start.get(2..48).unwrap_or_default();
+        if start.starts_with(&[46, 0]) && card::read(bytes).is_ok() {
+            break start[..48].to_vec();
+        }
+    };
+    let card = card::read(&long[2..48]).expect("the card was read before");
+    for _ in 0..50_000 {
+        let cell = places::cell(&mut rng, &card.volume);
+        long.extend(cell.into_iter().flat_map(u32::to_le_bytes));
+    }
+    long.push(0);
+    assert!(run(&long) == reference::locate::locate(&long));
+}
+
+#[test]
+fn the_case_of_the_paper() {
+    let card = Card {
+        sharding: reference::sharding::Sharding {
+            preshift: 0,
+            hash: 0,
+            minishard_bits: 1,
+            shard_bits: 2,
+        },
+        volume: reference::grid::Volume {
+            size: [100; 3],
+            chunk: [64; 3],
+            offset: [0; 3],
+        },
+    };
+    let mut input = vec![46, 0];
+    input.extend(card::to_bytes(&card).expect("an allowed card"));
+    for number in [1, 0, 1, 1, 1, 0, 2, 0, 0u32] {
+        input.extend(number.to_le_bytes());
+    }
+    assert_eq!(
+        String::from_utf8_lossy(&run(&input)),
+        "5 2.shard 1\n3 1.shard 1\nrefused 2\n"
+    );
+}

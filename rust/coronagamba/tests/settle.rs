@@ -1,0 +1,179 @@
+//! Settling, against the reference.
+
+mod common;
+
+use common::answer;
+use common::sharding::sharding;
+use coronagamba::Shard;
+use reference::settle;
+use testkit::shards::{self, Sample};
+use testkit::{same_writing, Lent, Met, Rng};
+
+const SAMPLES: usize = 40_000;
+
+/// Settles on both sides into an output of this length.
+fn same_settling(rng: &mut Rng, sample: &Sample, room: usize) -> Result<usize, u8> {
+    let Sample {
+        sharding: specification,
+        number,
+        file,
+    } = sample;
+    same_writing(
+        &Lent::new(rng, room),
+        |out| {
+            Shard::open(sharding(specification), *number, file)
+                .settle(out)
+                .map_err(|refusal| refusal.number)
+        },
+        |out| settle::settle(specification, *number, file, out),
+    )
+}
+
+/// Asks both for the settled length.
+fn same_length(sample: &Sample) -> Result<u64, u8> {
+    let Sample {
+        sharding: specification,
+        number,
+        file,
+    } = sample;
+    let expected = settle::length_of(specification, *number, file);
+    let shard = Shard::open(sharding(specification), *number, file);
+    assert_eq!(shard.settled_length(), answer(expected), "{sample:?}");
+    expected
+}
+
+#[test]
+fn sound_shards() {
+    let mut rng = Rng::new(1);
+    let mut met = Met::new();
+    for _ in 0..SAMPLES {
+        let sample = shards::sound(&mut rng, 12);
+        let length = same_length(&sample).expect("the sample is sound") as usize;
+        let rooms = [
+            length,
+            length - 1,
+            length + 1 + rng.index(50),
+            rng.index(length),
+        ];
+        for room in rooms {
+            met.note(&same_settling(&mut rng, &sample, room));
+        }
+    }
+    met.assert_exactly(&[0, 13]);
+}
+
+#[test]
+fn damaged_shards() {
+    let mut rng = Rng::new(2);
+    let (mut met, mut lengths) = (Met::new(), Met::new());
+    for _ in 0..SAMPLES {
+        let sample = shards::damaged(&mut rng, 8);
+        let room = sample.file.len() + rng.index(200);
+        met.note(&same_settling(&mut rng, &sample, room));
+        lengths.note(&same_length(&sample));
+    }
+    met.assert_exactly(&[0, 6, 7, 8, 9, 10, 11, 13]);
+    lengths.assert_exactly(&[0, 6, 7, 8, 9, 10, 11]);
+}
+
+#[test]
+fn two_layouts_of_one_content_settle_to_one_form() {
+    let mut rng = Rng::new(3);
+    for _ in 0..SAMPLES / 4 {
+        let specification = shards::sharding(&mut rng);
+        let number = shards::number(&mut rng, &specification);
+        let content = shards::content(&mut rng, &specification, number, 12);
+        let mut forms = Vec::new();
+        for _ in 0..2 {
+            let file = shards::lay_out(&mut rng, &specification, &content);
+            let shard = Shard::open(sharding(&specification), number, &file);
+            forms.push(shard.settled().expect("a layout is sound"));
+        }
+        assert!(forms[0] == forms[1]);
+        let settled = Shard::open(sharding(&specification), number, &forms[0]);
+        assert_eq!(settled.check(), Ok(()));
+        for (id, bytes) in &content {
+            assert_eq!(settled.chunk(*id), Ok(&bytes[..]));
+        }
+        let mut again = vec![0; forms[0].len()];
+        assert_eq!(settled.settle(&mut again), Ok(again.len()));
+        assert!(again == forms[0]);
+    }
+}
+
+/// One byte, or a run of them, listed so often that the settled form would
+/// pass a gibibyte, just reaches it, or stays below it.
+#[test]
+fn forms_around_a_gibibyte() {
+    const CHUNKS: u64 = 128;
+    let gibibyte = 1u64 << 30;
+    let specification = coronagamba::Sharding {
+        minishard_bits: 7,
+        ..Default::default()
+    };
+    let index_end = 16 * CHUNKS;
+    let whole = (gibibyte - index_end - 24 * CHUNKS) / CHUNKS;
+    let rest = (gibibyte - index_end - 24 * CHUNKS) % CHUNKS;
+    for (more, fits) in [(0, true), (1, false)] {
+        // Each minishard lists one chunk, all over the same bytes.
+        let sizes: Vec<u64> = (0..CHUNKS)
+            .map(|m| whole + if m == 0 { rest + more } else { 0 })
+            .collect();
+        let data = whole + rest + more;
+        let mut file = Vec::new();
+        for m in 0..CHUNKS {
+            file.extend((data + 24 * m).to_le_bytes());
+            file.extend((data + 24 * (m + 1)).to_le_bytes());
+        }
+        file.resize((index_end + data) as usize, 0x5a);
+        for (m, size) in sizes.iter().enumerate() {
+            for number in [m as u64, 0, *size] {
+                file.extend(number.to_le_bytes());
+            }
+        }
+        let shard = Shard::open(specification, 0, &file);
+        assert_eq!(shard.check(), Ok(()));
+        let mut out = vec![0; gibibyte as usize + 100];
+        if fits {
+            assert_eq!(shard.settled_length(), Ok(gibibyte));
+            assert_eq!(shard.settle(&mut out), Ok(gibibyte as usize));
+            assert!(out[gibibyte as usize..].iter().all(|byte| *byte == 0));
+        } else {
+            assert_eq!(shard.settled_length().unwrap_err().number, 13);
+            assert_eq!(shard.settle(&mut out).unwrap_err().number, 13);
+            assert!(out.iter().all(|byte| *byte == 0));
+        }
+    }
+}
+
+#[test]
+fn the_case_of_the_paper() {
+    let mut rng = Rng::new(4);
+    let specification = reference::sharding::Sharding {
+        preshift: 0,
+        hash: 0,
+        minishard_bits: 1,
+        shard_bits: 0,
+    };
+    let content = [(4, b"ab".to_vec()), (10, b"cde".to_vec())].into();
+    let file = shards::lay_out(&mut rng, &specification, &content);
+    let shard = Shard::open(sharding(&specification), 0, &file);
+    let form = shard.settled().expect("a layout is sound");
+    let row = |numbers: &[u64]| -> Vec<u8> {
+        let bytes = numbers.iter().flat_map(|number| number.to_le_bytes());
+        bytes.collect()
+    };
+    let expected = [
+        row(&[5, 53, 0, 0]),
+        b"abcde".to_vec(),
+        row(&[4, 6, 0, 0, 2, 3]),
+    ]
+    .concat();
+    assert_eq!((form.len(), &form), (85, &expected));
+    let settled = Shard::open(sharding(&specification), 0, &form);
+    let span = settled.lookup(10).expect("id 10 is listed");
+    assert_eq!((span.start, span.start + span.length), (34, 37));
+    for absent in [6, 7] {
+        assert_eq!(settled.lookup(absent).unwrap_err().number, 12);
+    }
+}

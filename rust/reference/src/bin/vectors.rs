@@ -1,0 +1,5 @@
+//! Prints the hash vectors.
+
+fn main() {
+    print!("{}", reference::vectors::vectors());
+}
