@@ -1,4 +1,4 @@
-/* Coronagamba: proved reading, checking and settling of sharded chip scans.
+/* Coronagamba: a proved library for sharded volume scans.
  *
  * Each function takes any numbers and bytes and returns. A function that can
  * refuse returns an answer word:
@@ -7,12 +7,14 @@
  *   number + 2^8 * minishard + 2^32 * position       refusal
  *
  * The minishard and the position are 0 where the rules give none. Results go
- * through pointers; a refusal leaves everything behind them as it was. Bytes
- * are lent as a pointer and a count; the pointer may be NULL where the count
- * is 0. Lent buffers may not overlap each other.
+ * through pointers; a refusal leaves everything behind them as it was.
  *
- * The refusals that a function can give stand in its comment in the order in
- * which they are tested. docs/ENTRY-POINTS.md says what each number means.
+ * Bytes and numbers are lent as a pointer and a count; the pointer may be NULL
+ * where the count is 0. A pointer to a result is never NULL. What a function
+ * may write, buffers and results, overlaps nothing else that it is given.
+ *
+ * A comment ends with the refusals that its function can give, in the order in
+ * which they are tested; docs/ENTRY-POINTS.md says what each number means.
  */
 #ifndef CORONAGAMBA_H
 #define CORONAGAMBA_H
@@ -32,12 +34,12 @@ uint16_t coronagamba_read_u16(const uint8_t *bytes, size_t count);
 uint32_t coronagamba_read_u32(const uint8_t *bytes, size_t count);
 uint64_t coronagamba_read_u64(const uint8_t *bytes, size_t count);
 
-/* Puts the number's bytes, lowest first, at the front of out. 13 */
+/* Puts the number's bytes, lowest first, at the front of out. Refusals: 13 */
 uint64_t coronagamba_put_u16(uint8_t *out, size_t count, uint16_t value);
 uint64_t coronagamba_put_u32(uint8_t *out, size_t count, uint32_t value);
 uint64_t coronagamba_put_u64(uint8_t *out, size_t count, uint64_t value);
 
-/* Copies all of the bytes to the front of out. 13 */
+/* Copies all of the bytes to the front of out. Refusals: 13 */
 uint64_t coronagamba_copy(const uint8_t *bytes, size_t count,
                           uint8_t *out, size_t out_count);
 
@@ -54,22 +56,22 @@ typedef struct {
   coronagamba_offset offset;
 } coronagamba_volume;
 
-/* How many cells the volume has along x, y and z. 2 */
+/* How many cells the volume has along x, y and z. Refusals: 2 */
 uint64_t coronagamba_grid_of(coronagamba_volume volume, uint32_t grid[3]);
 
-/* The key of a cell: its compressed Morton code. 2, 3 */
+/* The key of a cell: its compressed Morton code. Refusals: 2, 3 */
 uint64_t coronagamba_key_of(coronagamba_volume volume, coronagamba_cell cell,
                             uint64_t *key);
 
-/* The cell of a key, as x, y, z. 2, 3, 4 */
+/* The cell of a key, as x, y, z. Refusals: 2, 3, 4 */
 uint64_t coronagamba_cell_of(coronagamba_volume volume, uint64_t key,
                              uint32_t cell[3]);
 
-/* Where a cell begins and ends along x, y and z. 2 */
+/* Where a cell begins and ends along x, y and z. Refusals: 2 */
 uint64_t coronagamba_bounds_of(coronagamba_volume volume, coronagamba_cell cell,
                                int64_t begin[3], int64_t end[3]);
 
-/* The name of a cell's file where chunks are not sharded. 2, 13 */
+/* The name of a cell's file where chunks are not sharded. Refusals: 2, 13 */
 uint64_t coronagamba_chunk_name(coronagamba_volume volume, coronagamba_cell cell,
                                 uint8_t *out, size_t count, uint64_t *length);
 
@@ -80,7 +82,7 @@ typedef struct {
   uint8_t preshift, hash, minishard_bits, shard_bits;
 } coronagamba_sharding;
 
-/* The shard and the minishard of an id. 1 */
+/* The shard and the minishard of an id. Refusals: 1 */
 uint64_t coronagamba_place_of(coronagamba_sharding sharding, uint64_t id,
                               uint64_t *shard, uint64_t *minishard);
 
@@ -91,7 +93,7 @@ uint64_t coronagamba_places_of(coronagamba_sharding sharding,
                                uint64_t *shards, size_t shards_count,
                                uint64_t *minishards, size_t minishards_count);
 
-/* The file name of a shard. 1, 5, 13 */
+/* The file name of a shard. Refusals: 1, 5, 13 */
 uint64_t coronagamba_shard_name(coronagamba_sharding sharding, uint64_t shard,
                                 uint8_t *out, size_t count, uint64_t *length);
 

@@ -13,7 +13,7 @@ use Rattle.endian.specs.Buffer.{leftBy}
 use Rattle.endian.proofs.Little.{length-le, leAt-zeros}
 use Rattle.endian.proofs.Paste.{paste-front}
 use Rattle.endian.proofs.Buffer.{written-short, written-fits, leftBy-short, leftBy-paste}
-use Rattle.capi.specs.Word.{writtenWord, fitAnswer}
+use Rattle.capi.specs.Word.{writtenWord, fitWord}
 
 drop-zeros : (n k : ℕ) → drop n (replicate {A = ℕ} k 0) ≡ replicate (k - n) 0
 drop-zeros zero k = rw sub-zero
@@ -31,13 +31,13 @@ padded k s {b} u w =
 -- ---- a writer of s, whose length is n
 
 module _ (s out : List ℕ) {n : ℕ} (l : length s ≡ n) where
-  pub word-short : length out < n → 13 ≡ fitAnswer s out
+  pub word-short : length out < n → 13 ≡ fitWord s out
   word-short h = sym (ap writtenWord (written-short s out (omega arith)))
 
   pub left-short : length out < n → out ≡ leftBy s out
   left-short h = sym (leftBy-short s out (omega arith))
 
-  pub word-done : n ≤ length out → 0 ≡ fitAnswer s out
+  pub word-done : n ≤ length out → 0 ≡ fitWord s out
   word-done h = sym (ap writtenWord (written-fits s out (omega arith)))
 
   pub left-done : {out′ : List ℕ} → out′ ≡ paste 0 s out → n ≤ length out → out′ ≡ leftBy s out

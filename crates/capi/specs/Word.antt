@@ -5,7 +5,7 @@ use Rattle.endian.specs.declared.Written.{Written}
 use Rattle.endian.specs.declared.Written.the-variants.{Length, Refused}
 use Rattle.endian.specs.Buffer.{written}
 
--- number + 2^8 × minishard + 2^32 × position
+-- number + 2^8 × minishard + 2^32 × position; a bare number where the rules give neither
 abbrev pub word : ℕ → ℕ → ℕ → ℕ
 word number minishard position = number + 2 ^ 8 * minishard + 2 ^ 32 * position
 
@@ -20,5 +20,5 @@ lengthAfter (Length n) before = n
 lengthAfter (Refused k) before = before
 
 -- the word of writing s at the front of a buffer
-abbrev pub fitAnswer : List ℕ → List ℕ → ℕ
-fitAnswer s out = writtenWord (written s out)
+abbrev pub fitWord : List ℕ → List ℕ → ℕ
+fitWord s out = writtenWord (written s out)

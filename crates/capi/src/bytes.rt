@@ -1,9 +1,8 @@
 // Little-endian numbers and copies in lent bytes.
 ghost use mathlib.Core.Path.{_≡_};
-ghost use lib.ListN.{length};
 ghost use Rattle.endian.specs.Little.{le, leAt};
 ghost use Rattle.endian.specs.Buffer.{leftBy};
-ghost use Rattle.capi.specs.Word.{fitAnswer};
+ghost use Rattle.capi.specs.Word.{fitWord};
 use endian::inner::copy_bytes;
 use endian::inner::put_u16;
 use endian::inner::put_u32;
@@ -52,7 +51,7 @@ pub extern "C" fn coronagamba_read_u64(bytes: &[u8]) -> u64
 // The number's bytes at the front: 13 where they do not fit.
 #[no_mangle]
 pub extern "C" fn coronagamba_put_u16(out: &mut [u8], value: u16) -> u64
-    ensures answer { λ r. ⌜ r ≡ fitAnswer (le 2 value) (now (out .entry)) ⌝ }
+    ensures answer { λ r. ⌜ r ≡ fitWord (le 2 value) (now (out .entry)) ⌝ }
     ensures out { λ _. ⌜ now (out .exit) ≡ leftBy (le 2 value) (now (out .entry)) ⌝ }
 {
     if out.len() < 2 {
@@ -64,7 +63,7 @@ pub extern "C" fn coronagamba_put_u16(out: &mut [u8], value: u16) -> u64
 
 #[no_mangle]
 pub extern "C" fn coronagamba_put_u32(out: &mut [u8], value: u32) -> u64
-    ensures answer { λ r. ⌜ r ≡ fitAnswer (le 4 value) (now (out .entry)) ⌝ }
+    ensures answer { λ r. ⌜ r ≡ fitWord (le 4 value) (now (out .entry)) ⌝ }
     ensures out { λ _. ⌜ now (out .exit) ≡ leftBy (le 4 value) (now (out .entry)) ⌝ }
 {
     if out.len() < 4 {
@@ -76,7 +75,7 @@ pub extern "C" fn coronagamba_put_u32(out: &mut [u8], value: u32) -> u64
 
 #[no_mangle]
 pub extern "C" fn coronagamba_put_u64(out: &mut [u8], value: u64) -> u64
-    ensures answer { λ r. ⌜ r ≡ fitAnswer (le 8 value) (now (out .entry)) ⌝ }
+    ensures answer { λ r. ⌜ r ≡ fitWord (le 8 value) (now (out .entry)) ⌝ }
     ensures out { λ _. ⌜ now (out .exit) ≡ leftBy (le 8 value) (now (out .entry)) ⌝ }
 {
     if out.len() < 8 {
@@ -89,7 +88,7 @@ pub extern "C" fn coronagamba_put_u64(out: &mut [u8], value: u64) -> u64
 // All of `bytes` at the front of `out`: 13 where they do not fit.
 #[no_mangle]
 pub extern "C" fn coronagamba_copy(bytes: &[u8], out: &mut [u8]) -> u64
-    ensures answer { λ r. ⌜ r ≡ fitAnswer (now (bytes .entry)) (now (out .entry)) ⌝ }
+    ensures answer { λ r. ⌜ r ≡ fitWord (now (bytes .entry)) (now (out .entry)) ⌝ }
     ensures out { λ _. ⌜ now (out .exit) ≡ leftBy (now (bytes .entry)) (now (out .entry)) ⌝ }
 {
     if out.len() < bytes.len() {

@@ -13,15 +13,15 @@ pub extern "C" fn coronagamba_chunk_name(
     volume: Volume,
     cell: Cell,
     out: &mut [u8],
-    length: &mut u64,
+    written: &mut u64,
 ) -> u64
     ensures answer { λ r. ⌜ r ≡ writtenWord (chunkNameAnswer volume cell (now (out .entry))) ⌝ }
     ensures out { λ _. ⌜ now (out .exit) ≡ chunkNameLeft volume cell (now (out .entry)) ⌝ }
-    ensures length { λ _. ⌜ now (length .exit) ≡ lengthAfter (chunkNameAnswer volume cell (now (out .entry))) (now (length .entry)) ⌝ }
+    ensures written { λ _. ⌜ now (written .exit) ≡ lengthAfter (chunkNameAnswer volume cell (now (out .entry))) (now (written .entry)) ⌝ }
 {
     match names::chunk_name(volume, cell, out) {
         Written::Length(n) => {
-            *length = n as u64;
+            *written = n as u64;
             0
         }
         Written::Refused(number) => number as u64,
@@ -33,15 +33,15 @@ pub extern "C" fn coronagamba_shard_name(
     spec: Sharding,
     shard: u64,
     out: &mut [u8],
-    length: &mut u64,
+    written: &mut u64,
 ) -> u64
     ensures answer { λ r. ⌜ r ≡ writtenWord (shardNameAnswer spec shard (now (out .entry))) ⌝ }
     ensures out { λ _. ⌜ now (out .exit) ≡ shardNameLeft spec shard (now (out .entry)) ⌝ }
-    ensures length { λ _. ⌜ now (length .exit) ≡ lengthAfter (shardNameAnswer spec shard (now (out .entry))) (now (length .entry)) ⌝ }
+    ensures written { λ _. ⌜ now (written .exit) ≡ lengthAfter (shardNameAnswer spec shard (now (out .entry))) (now (written .entry)) ⌝ }
 {
     match names::shard_name(spec, shard, out) {
         Written::Length(n) => {
-            *length = n as u64;
+            *written = n as u64;
             0
         }
         Written::Refused(number) => number as u64,

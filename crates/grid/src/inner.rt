@@ -90,7 +90,7 @@ pub fn volume_key_bits(volume: Volume) -> u32
     key_bits(grid(volume))
 }
 
-// The larger.
+// Enough turns for both of two axes.
 fn most(a: u32, b: u32) -> u32
     requires { ⌜ (a ≤ 32) × (b ≤ 32) ⌝ }
     ensures { λ r. ⌜ (a ≤ r) × (b ≤ r) × (r ≤ 32) ⌝ }
@@ -98,7 +98,7 @@ fn most(a: u32, b: u32) -> u32
     if a < b { b } else { a }
 }
 
-// How many turns use an axis at all.
+// As many turns as some axis uses: no later turn uses any.
 fn turns(grid: Extents) -> u32
     ensures { λ r. ⌜ Top grid r ⌝ }
 {

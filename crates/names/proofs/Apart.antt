@@ -1,21 +1,21 @@
 -- Distinct cells of one volume have distinct chunk names: a number's text ends where its digits do, so a name is read back part by part.
-use Prim.Native.Nat.{ℕ, zero, suc, _+_, _*_, _/_, _%_, _<_}
+use Prim.Native.Nat.{ℕ, zero, suc, _+_, _/_, _%_, _<_}
 use mathlib.Core.Path.{_≡_, refl, sym, ap, _∙_}
 use mathlib.Core.Bool.{Bool, true, false, _&&_}
 use mathlib.Core.List.{List, [], _∷_, _++_, append-assoc}
 use native.Mathlib.Omega.{arith}
-use native.Mathlib.Nat.{mul-div-cancel}
 use borrow.Author.Tests.{le-leb}
 use lib.Dec.{leb}
-use lib.IntN.{ℤ, pos, negsuc, _+ℤ_, _-ℤ_, +ℤ-comm, +ℤ-negℤ-cancel}
+use lib.IntN.{ℤ, pos, negsuc}
 use lib.ListN.{length}
 use Rattle.endian.specs.Choice.{pick}
 use Rattle.grid.specs.Answers.{noCell}
 use Rattle.grid.specs.Grid.{zeroExtent}
-use Rattle.grid.specs.Bounds.{beginOf, beginPoint, boundsOf}
+use Rattle.grid.specs.Bounds.{beginPoint, boundsOf}
 use Rattle.grid.specs.declared.Bounds.{Bounds}
 use Rattle.grid.specs.declared.Cell.{Cell}
 use Rattle.grid.specs.declared.Volume.{Volume}
+use Rattle.grid.proofs.Laws.{same-begin-same-cell}
 use Rattle.grid.proofs.Ways.{neither, chunk-some}
 use Rattle.names.specs.Digits.{digitByte, digits, digitCount, decimal}
 use Rattle.names.specs.Signs.{negative, signed, signedText, spanOf, spanText, twoText, spansText}
@@ -144,24 +144,13 @@ same-bounds a b e =
 
 -- ---- names of cells
 
-shift-back : (o : ℤ) (m n : ℕ) → o +ℤ pos m ≡ o +ℤ pos n → m ≡ n
-shift-back o m n e =
-    let f : pos m ≡ pos n =
-    sym (+ℤ-negℤ-cancel (pos m) o) ∙ ap (λ (k : ℤ). k -ℤ o) (+ℤ-comm (pos m) o ∙ e ∙ +ℤ-comm o (pos n)) ∙ +ℤ-negℤ-cancel (pos n) o in
-    cc
-
--- cells that begin at one place of an axis are one
-same-begin : (o : ℤ) (chunk g h : ℕ) → 0 < chunk → beginOf o chunk g ≡ beginOf o chunk h → g ≡ h
-unfolding beginOf
-same-begin o chunk g h p e =
-    sym (mul-div-cancel g p) ∙ ap (λ (n : ℕ). n / chunk) (shift-back o (g * chunk) (h * chunk) e) ∙ mul-div-cancel h p
-
+-- cells with one name begin at one place on each axis, so they are one
 pub same-cell : (v : Volume) (c d : Cell) → noCell v c ≡ false → chunkName v c ≡ chunkName v d → c ≡ d
 unfolding noCell chunkName boundsOf beginPoint
 same-cell v c d f e =
     let s = chunk-some v (neither (zeroExtent v) _ f .0) in
     let b = same-bounds (boundsOf v c) (boundsOf v d) e in
-    let x = same-begin _ _ (c .x) (d .x) (s .0) (ap (λ (w : Bounds). w .begin .x) b) in
-    let y = same-begin _ _ (c .y) (d .y) (s .1) (ap (λ (w : Bounds). w .begin .y) b) in
-    let z = same-begin _ _ (c .z) (d .z) (s .2) (ap (λ (w : Bounds). w .begin .z) b) in
+    let x = same-begin-same-cell _ _ (c .x) (d .x) (s .0) (ap (λ (w : Bounds). w .begin .x) b) in
+    let y = same-begin-same-cell _ _ (c .y) (d .y) (s .1) (ap (λ (w : Bounds). w .begin .y) b) in
+    let z = same-begin-same-cell _ _ (c .z) (d .z) (s .2) (ap (λ (w : Bounds). w .begin .z) b) in
     λ i. record { x = x i; y = y i; z = z i }

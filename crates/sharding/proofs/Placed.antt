@@ -9,7 +9,6 @@ use borrow.Author.Tests.{eq-eqb, ne-eqb}
 use Rattle.endian.specs.Choice.{pick}
 use Rattle.sharding.specs.declared.Sharding.{Sharding}
 use Rattle.sharding.specs.declared.Place.{Place}
-use Rattle.sharding.specs.declared.PlaceAnswer.{PlaceAnswer}
 use Rattle.sharding.specs.declared.PlaceAnswer.the-variants.{At, Refused}
 use Rattle.sharding.specs.Specification.{murmur, allowed, minishardCount, shardCount, minishardBits, shardBits}
 use Rattle.sharding.specs.Place.{murmurHash, hashedId, shardOf, minishardOf, placeOf, placeAnswer}
@@ -67,10 +66,7 @@ pub answer-refused : (spec : Sharding) (id : ℕ) {b : Bool} → b ≡ allowed s
 unfolding placeAnswer
 answer-refused spec id e t = rw (← e, t)
 
--- ---- the place depends on the specification and the id, and of the id on the bits above the preshift
-
-pub same-answer : (spec : Sharding) (id : ℕ) {a b : PlaceAnswer} → a ≡ placeAnswer spec id → b ≡ placeAnswer spec id → a ≡ b
-same-answer spec id p q = p ∙ sym q
+-- ---- of the id only the bits above the preshift count
 
 pub same-hashed : (spec : Sharding) (a b : ℕ) → a / 2 ^ spec .preshift ≡ b / 2 ^ spec .preshift → hashedId spec a ≡ hashedId spec b
 unfolding hashedId
