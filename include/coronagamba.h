@@ -86,7 +86,7 @@ typedef struct {
 uint64_t coronagamba_place_of(coronagamba_sharding sharding, uint64_t id,
                               uint64_t *shard, uint64_t *minishard);
 
-/* The shards and minishards of many ids, in their order. 1, then 13 where
+/* The shards and minishards of many ids, in their order. Refusals: 1, 13 where
  * there are more ids than room for shards or for minishards */
 uint64_t coronagamba_places_of(coronagamba_sharding sharding,
                                const uint64_t *ids, size_t count,
@@ -96,6 +96,74 @@ uint64_t coronagamba_places_of(coronagamba_sharding sharding,
 /* The file name of a shard. Refusals: 1, 5, 13 */
 uint64_t coronagamba_shard_name(coronagamba_sharding sharding, uint64_t shard,
                                 uint8_t *out, size_t count, uint64_t *length);
+
+/* ---- shards ------------------------------------------------------------- */
+
+/* Where the chunk of an id begins in the file, and its length.
+ * Refusals: 1, 5, 6, 7 to 11 of the id's minishard, 12 */
+uint64_t coronagamba_lookup(coronagamba_sharding sharding, uint64_t shard,
+                            const uint8_t *file, size_t count, uint64_t id,
+                            uint64_t *start, uint64_t *length);
+
+/* Whether the whole shard is sound. Refusals: 1, 5, 6, 7 to 11 with the first
+ * minishard that has a fault */
+uint64_t coronagamba_check(coronagamba_sharding sharding, uint64_t shard,
+                           const uint8_t *file, size_t count);
+
+/* How many chunks a minishard lists. Refusals: 1, 5 (also for a minishard
+ * that is not there), 6, 7 to 11 of that minishard */
+uint64_t coronagamba_listed_count(coronagamba_sharding sharding, uint64_t shard,
+                                  const uint8_t *file, size_t count,
+                                  uint64_t minishard, uint64_t *chunks);
+
+/* The chunks that a minishard lists, in stored order, three numbers each: id,
+ * place in the file, length; `length` is how many numbers were written.
+ * Refusals: 1, 5, 6, 7 to 11 of that minishard, 13 */
+uint64_t coronagamba_listing(coronagamba_sharding sharding, uint64_t shard,
+                             const uint8_t *file, size_t count,
+                             uint64_t minishard, uint64_t *out,
+                             size_t out_count, uint64_t *length);
+
+/* The length of a shard's settled form. Refusals: 1, 5, 6, 7 to 11 of the first
+ * faulty minishard, 13 where it would pass 1 GiB */
+uint64_t coronagamba_settled_length(coronagamba_sharding sharding, uint64_t shard,
+                                    const uint8_t *file, size_t count,
+                                    uint64_t *length);
+
+/* Writes a shard's settled form to the front of out. Refusals: 1, 5, 6, 7 to 11
+ * of the first faulty minishard, 13 */
+uint64_t coronagamba_settle(coronagamba_sharding sharding, uint64_t shard,
+                            const uint8_t *file, size_t count, uint8_t *out,
+                            size_t out_count, uint64_t *length);
+
+/* ---- mesh manifests ------------------------------------------------------ */
+
+/* Whether the bytes are a sound manifest. Refusals: 15, 16, 17 */
+uint64_t coronagamba_manifest_check(const uint8_t *bytes, size_t count);
+
+/* Chunk shape along x, y, z, then grid origin. Refusals: 15, 16, 17 */
+uint64_t coronagamba_manifest_header(const uint8_t *bytes, size_t count,
+                                     float header[6]);
+
+/* A field by its number, counted from 0 in file order, one for each 4 bytes.
+ * Kind 1 writes the real, kind 0 the whole number. Refusals: 15, 16, 17, 18 */
+uint64_t coronagamba_manifest_field(const uint8_t *bytes, size_t count,
+                                    uint32_t number, uint32_t *kind,
+                                    float *real, uint32_t *whole);
+
+/* A node of a level, both counted from 0: its position along x, y, z, where
+ * its fragment starts, counted from the first fragment, and the fragment's
+ * size in bytes. Refusals: 15, 16, 17, 18 */
+uint64_t coronagamba_manifest_node(const uint8_t *bytes, size_t count,
+                                   uint32_t level, uint32_t node,
+                                   uint32_t position[3], uint64_t *start,
+                                   uint32_t *size);
+
+/* The corners of a node's box. Refusals: 15, 16, 17, 18 */
+uint64_t coronagamba_manifest_corners(const uint8_t *bytes, size_t count,
+                                      uint32_t level, uint32_t node,
+                                      float near_corner[3],
+                                      float far_corner[3]);
 
 #ifdef __cplusplus
 }

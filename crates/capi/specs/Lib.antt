@@ -2,3 +2,5 @@ pub mod Word
 pub mod Places
 pub mod Cells
 pub mod Batch
+pub mod Shards
+pub mod Manifests

@@ -2,5 +2,7 @@
 pub mod batch;
 pub mod bytes;
 pub mod cells;
+pub mod manifests;
 pub mod places;
+pub mod shards;
 pub mod texts;

@@ -6,8 +6,6 @@
 
 #[cfg(feature = "grid")]
 use crate::grid::{Cell, Volume};
-#[cfg(feature = "manifest")]
-use crate::manifest::{Corners, Header, Node};
 #[cfg(feature = "sharding")]
 use crate::sharding::Sharding;
 
@@ -142,29 +140,36 @@ extern "C" {
 
 #[cfg(feature = "manifest")]
 extern "C" {
-    pub fn coronagamba_manifest_check(bytes: *const u8, length: usize) -> u64;
-    pub fn coronagamba_manifest_header(bytes: *const u8, length: usize, header: *mut Header)
-        -> u64;
+    pub fn coronagamba_manifest_check(bytes: *const u8, count: usize) -> u64;
+    pub fn coronagamba_manifest_header(
+        bytes: *const u8,
+        count: usize,
+        header: *mut [f32; 6],
+    ) -> u64;
     pub fn coronagamba_manifest_field(
         bytes: *const u8,
-        length: usize,
-        number: u64,
-        is_real: *mut u32,
-        bits: *mut u32,
+        count: usize,
+        number: u32,
+        kind: *mut u32,
+        real: *mut f32,
+        whole: *mut u32,
     ) -> u64;
     pub fn coronagamba_manifest_node(
         bytes: *const u8,
-        length: usize,
-        level: u64,
-        node: u64,
-        found: *mut Node,
+        count: usize,
+        level: u32,
+        node: u32,
+        position: *mut [u32; 3],
+        start: *mut u64,
+        size: *mut u32,
     ) -> u64;
     pub fn coronagamba_manifest_corners(
         bytes: *const u8,
-        length: usize,
-        level: u64,
-        node: u64,
-        corners: *mut Corners,
+        count: usize,
+        level: u32,
+        node: u32,
+        near: *mut [f32; 3],
+        far: *mut [f32; 3],
     ) -> u64;
 }
 

@@ -4,7 +4,6 @@ use crate::ffi;
 use crate::refusal::{answer, Refusal};
 
 /// The shape of the finest nodes and the origin of the grid.
-#[repr(C)]
 #[derive(Clone, Copy, Debug, Default, PartialEq)]
 pub struct Header {
     /// Extents of a node of level 0, along x, y, z.
@@ -23,7 +22,6 @@ pub enum Field {
 }
 
 /// A node of a level.
-#[repr(C)]
 #[derive(Clone, Copy, Debug, Default, PartialEq, Eq, Hash)]
 pub struct Node {
     /// Its x, y, z position.
@@ -35,7 +33,6 @@ pub struct Node {
 }
 
 /// The corners of a node.
-#[repr(C)]
 #[derive(Clone, Copy, Debug, Default, PartialEq)]
 pub struct Corners {
     /// The corner next to the origin.
@@ -64,33 +61,38 @@ impl<'a> Manifest<'a> {
 
     /// The shape and origin, or refusal 15, 16 or 17.
     pub fn header(&self) -> Result<Header, Refusal> {
-        let mut header = Header::default();
+        let mut reals = [0.0; 6];
         // SAFETY: pointer and length are those of one live slice, and the
         // result goes to a live value.
         answer(unsafe {
-            ffi::coronagamba_manifest_header(self.bytes.as_ptr(), self.bytes.len(), &mut header)
+            ffi::coronagamba_manifest_header(self.bytes.as_ptr(), self.bytes.len(), &mut reals)
         })?;
-        Ok(header)
+        let [x, y, z, u, v, w] = reals;
+        Ok(Header {
+            shape: [x, y, z],
+            origin: [u, v, w],
+        })
     }
 
     /// The field of this number, or refusal 15 to 18.
     pub fn field(&self, number: u64) -> Result<Field, Refusal> {
-        let (mut is_real, mut bits) = (0, 0);
+        let (mut kind, mut real, mut whole) = (0, 0.0, 0);
         // SAFETY: pointer and length are those of one live slice, and the
         // results go to live values.
         answer(unsafe {
             ffi::coronagamba_manifest_field(
                 self.bytes.as_ptr(),
                 self.bytes.len(),
-                number,
-                &mut is_real,
-                &mut bits,
+                narrowed(number),
+                &mut kind,
+                &mut real,
+                &mut whole,
             )
         })?;
-        Ok(if is_real == 1 {
-            Field::Real(f32::from_bits(bits))
+        Ok(if kind == 1 {
+            Field::Real(real)
         } else {
-            Field::Whole(bits)
+            Field::Whole(whole)
         })
     }
 
@@ -99,14 +101,16 @@ impl<'a> Manifest<'a> {
     pub fn node(&self, level: u64, node: u64) -> Result<Node, Refusal> {
         let mut found = Node::default();
         // SAFETY: pointer and length are those of one live slice, and the
-        // result goes to a live value.
+        // results go to live values.
         answer(unsafe {
             ffi::coronagamba_manifest_node(
                 self.bytes.as_ptr(),
                 self.bytes.len(),
-                level,
-                node,
-                &mut found,
+                narrowed(level),
+                narrowed(node),
+                &mut found.position,
+                &mut found.start,
+                &mut found.size,
             )
         })?;
         Ok(found)
@@ -116,16 +120,24 @@ impl<'a> Manifest<'a> {
     pub fn corners(&self, level: u64, node: u64) -> Result<Corners, Refusal> {
         let mut corners = Corners::default();
         // SAFETY: pointer and length are those of one live slice, and the
-        // result goes to a live value.
+        // results go to live values.
         answer(unsafe {
             ffi::coronagamba_manifest_corners(
                 self.bytes.as_ptr(),
                 self.bytes.len(),
-                level,
-                node,
-                &mut corners,
+                narrowed(level),
+                narrowed(node),
+                &mut corners.near,
+                &mut corners.far,
             )
         })?;
         Ok(corners)
     }
+}
+
+/// A number as the library takes it. No manifest of at most 16 MiB has a
+/// level, node or field of the greatest one, so what does not fit is refused
+/// as it should be.
+fn narrowed(number: u64) -> u32 {
+    u32::try_from(number).unwrap_or(u32::MAX)
 }

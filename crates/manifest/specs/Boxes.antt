@@ -1,0 +1,67 @@
+-- The corners of a node (01, "Manifest"): "origin + (position × shape) × 2^level, its far corner near + shape × 2^level, in f32,
+-- each operation rounded once in that order, judged by bits".
+use Prim.Native.Nat.{ℕ, _^_}
+use mathlib.Core.Bool.{Bool, false, not, _&&_}
+use mathlib.Core.List.{List}
+use lib.IntN.{pos}
+use lib.Dec.{ltb}
+use lib.Ieee.{Float, fin, binary32, add, mul, ofInt}
+use Rattle.endian.specs.Choice.{pick}
+use Rattle.manifest.specs.Bits.{finite}
+use Rattle.manifest.specs.Verdict.{verdict, refused}
+use Rattle.manifest.specs.Questions.{headerAt, hasNode, nodeAt}
+use Rattle.manifest.specs.declared.Header.{Header}
+use Rattle.manifest.specs.declared.Node.{Node}
+use Rattle.manifest.specs.declared.Corner.{Corner}
+use Rattle.manifest.specs.declared.Corners.{Corners}
+use Rattle.manifest.specs.declared.CornersAnswer.{CornersAnswer}
+use Rattle.manifest.specs.declared.CornersAnswer.the-variants as C
+
+-- 2^l, which an f32 holds exactly
+abbrev pub powerOf : ℕ → Float
+powerOf l = fin false 1 (pos l)
+
+-- on one axis: of origin o and shape e, at position p (below 2^24, so that an f32 holds it exactly) and level l
+unfoldable pub nearOf : Float → Float → ℕ → ℕ → Float
+nearOf o e p l = add binary32 o (mul binary32 (mul binary32 (ofInt binary32 (pos p)) e) (powerOf l))
+
+-- on one axis: from the near end n
+unfoldable pub farOf : Float → Float → ℕ → Float
+farOf n e l = add binary32 n (mul binary32 e (powerOf l))
+
+unfoldable pub nearCorner : Header → ℕ → Node → Corner
+nearCorner h l n =
+    record {
+      x = nearOf (h .«origin_x») (h .«shape_x») (n .x) l;
+      y = nearOf (h .«origin_y») (h .«shape_y») (n .y) l;
+      z = nearOf (h .«origin_z») (h .«shape_z») (n .z) l;
+    }
+
+unfoldable pub farCorner : Header → ℕ → Corner → Corner
+farCorner h l near =
+    record {
+      x = farOf (near .x) (h .«shape_x») l;
+      y = farOf (near .y) (h .«shape_y») l;
+      z = farOf (near .z) (h .«shape_z») l;
+    }
+
+-- each position is below 2^24
+unfoldable pub placed : Node → Bool
+placed n = ltb (n .x) (2 ^ 24) && (ltb (n .y) (2 ^ 24) && ltb (n .z) (2 ^ 24))
+
+unfoldable pub finiteCorner : Corner → Bool
+finiteCorner c = finite (c .x) && (finite (c .y) && finite (c .z))
+
+-- what a header gives for a node of level l
+unfoldable pub boxAnswer : Header → ℕ → Node → CornersAnswer
+boxAnswer h l n =
+    pick (not (placed n)) (C.Refused 18)
+    (pick (not (finiteCorner (nearCorner h l n))) (C.Refused 18)
+    (pick (not (finiteCorner (farCorner h l (nearCorner h l n)))) (C.Refused 18)
+    (C.Corners (record { near = nearCorner h l n; far = farCorner h l (nearCorner h l n) }))))
+
+unfoldable pub cornersAnswer : List ℕ → ℕ → ℕ → CornersAnswer
+cornersAnswer s l i =
+    pick (refused s) (C.Refused (verdict s))
+    (pick (not (hasNode s l i)) (C.Refused 18)
+    (boxAnswer (headerAt s) l (nodeAt s l i)))

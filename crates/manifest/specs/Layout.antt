@@ -1,0 +1,57 @@
+-- Where the items of a manifest stand (01, "Manifest"; source 001, "Encoded manifest format"). Each item has 4 bytes.
+use Prim.Native.Nat.{ℕ, zero, suc, _+_, _*_}
+use mathlib.Core.Bool.{Bool, true, _&&_, _||_}
+use mathlib.Core.List.{List}
+use lib.Dec.{leb, ltb}
+use Rattle.endian.specs.Little.{leAt}
+
+-- the number in item i, counted from 0 in file order
+unfoldable pub itemAt : List ℕ → ℕ → ℕ
+itemAt s i = leAt 4 s (4 * i)
+
+-- f 0 + f 1 + .. + f (n - 1)
+unfoldable pub sumTo : (ℕ → ℕ) → ℕ → ℕ
+sumTo f zero = 0
+sumTo f (suc n) = sumTo f n + f n
+
+-- the test f holds of each number below n
+unfoldable pub every : (ℕ → Bool) → ℕ → Bool
+every f zero = true
+every f (suc n) = every f n && f n
+
+-- the level count stands after chunk shape and grid origin, three reals each
+abbrev pub levelsOf : List ℕ → ℕ
+levelsOf s = itemAt s 6
+
+-- after it the scales, one a level, and the vertex offsets, three a level: these and the first six are the reals
+unfoldable pub isReal : ℕ → ℕ → Bool
+isReal levels i = ltb i 6 || (leb 7 i && ltb i (7 + 4 * levels))
+
+-- then the node counts, one a level: how many nodes level l has
+unfoldable pub countOf : List ℕ → ℕ → ℕ
+countOf s l = itemAt s (7 + 4 * levelsOf s + l)
+
+-- how many nodes the levels before l have together
+abbrev pub nodesBefore : List ℕ → ℕ → ℕ
+nodesBefore s l = sumTo (countOf s) l
+
+-- the item where level l's nodes begin: each node before it has four items
+abbrev pub levelItem : List ℕ → ℕ → ℕ
+levelItem s l = 7 + 5 * levelsOf s + 4 * nodesBefore s l
+
+-- how many items the manifest has
+abbrev pub fieldCount : List ℕ → ℕ
+fieldCount s = levelItem s (levelsOf s)
+
+-- Of a level with n nodes whose items begin at `first`: all x, all y, all z, all fragment sizes. Of node i:
+abbrev pub xAt : List ℕ → ℕ → ℕ → ℕ → ℕ
+xAt s first n i = itemAt s (first + i)
+
+abbrev pub yAt : List ℕ → ℕ → ℕ → ℕ → ℕ
+yAt s first n i = itemAt s (first + n + i)
+
+abbrev pub zAt : List ℕ → ℕ → ℕ → ℕ → ℕ
+zAt s first n i = itemAt s (first + 2 * n + i)
+
+unfoldable pub sizeAt : List ℕ → ℕ → ℕ → ℕ → ℕ
+sizeAt s first n i = itemAt s (first + 3 * n + i)

@@ -1,0 +1,64 @@
+-- The judgement on a manifest: refusals 15, 16 and 17 (01, "Refusal numbers").
+use Prim.Native.Nat.{ℕ, _+_, _-_, _*_}
+use mathlib.Core.Bool.{Bool, not, _&&_, _||_}
+use mathlib.Core.List.{List}
+use lib.ListN.{length}
+use lib.Dec.{leb, eqb}
+use Rattle.endian.specs.Choice.{pick}
+use Rattle.manifest.specs.Layout.{itemAt, every, levelsOf, isReal, countOf, nodesBefore, levelItem, xAt, yAt, zAt}
+use Rattle.manifest.specs.Bits.{finiteBits, aboveZero}
+use Rattle.manifest.specs.Order.{zBefore}
+use Rattle.manifest.specs.declared.ManifestAnswer.{ManifestAnswer}
+use Rattle.manifest.specs.declared.ManifestAnswer.the-variants.{Sound, Refused}
+
+abbrev pub mostBytes : ℕ
+mostBytes = 16777216
+
+abbrev pub mostLevels : ℕ
+mostLevels = 32
+
+-- not 15: "Length is 28 + 20 × levels + 16 × nodes, exactly", at most 32 levels and 16,777,216 bytes
+unfoldable pub rightLength : List ℕ → Bool
+rightLength s =
+    leb (length s) mostBytes
+    && (leb (levelsOf s) mostLevels && eqb (length s) (28 + 20 * levelsOf s + 16 * nodesBefore s (levelsOf s)))
+
+-- not 16: each real is finite, and the chunk shape is above zero
+unfoldable pub realFits : List ℕ → ℕ → Bool
+realFits s i = not (isReal (levelsOf s) i) || finiteBits (itemAt s i)
+
+unfoldable pub realsFit : List ℕ → Bool
+realsFit s =
+    every (realFits s) (7 + 4 * levelsOf s)
+    && (aboveZero (itemAt s 0) && (aboveZero (itemAt s 1) && aboveZero (itemAt s 2)))
+
+-- of a level with n nodes whose items begin at `first`: node i stands before the next
+unfoldable pub inOrder : List ℕ → ℕ → ℕ → ℕ → Bool
+inOrder s first n i =
+    zBefore
+    (xAt s first n i) (yAt s first n i) (zAt s first n i)
+    (xAt s first n (i + 1)) (yAt s first n (i + 1)) (zAt s first n (i + 1))
+
+unfoldable pub levelRises : List ℕ → ℕ → ℕ → Bool
+levelRises s first n = every (inOrder s first n) (n - 1)
+
+unfoldable pub riseAt : List ℕ → ℕ → Bool
+riseAt s l = levelRises s (levelItem s l) (countOf s l)
+
+-- not 17: each level's nodes are in strictly rising order
+unfoldable pub nodesRise : List ℕ → Bool
+nodesRise s = every (riseAt s) (levelsOf s)
+
+-- the first refusal that holds, or 0
+unfoldable pub verdict : List ℕ → ℕ
+verdict s =
+    pick (not (rightLength s)) 15
+    (pick (not (realsFit s)) 16
+    (pick (not (nodesRise s)) 17
+    0))
+
+abbrev pub refused : List ℕ → Bool
+refused s = not (eqb (verdict s) 0)
+
+unfoldable pub manifestAnswer : List ℕ → ManifestAnswer
+manifestAnswer s = pick (refused s) (Refused (verdict s)) Sound

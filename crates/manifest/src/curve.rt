@@ -1,0 +1,22 @@
+// Z-curve order.
+ghost use mathlib.Core.Path.{_≡_};
+ghost use Rattle.manifest.specs.Order.{zBefore};
+
+// Whether position a stands before position b, by the counts of zeros above the highest differing bits.
+pub fn before(ax: u32, ay: u32, az: u32, bx: u32, by: u32, bz: u32) -> bool
+    ensures { λ r. ⌜ r ≡ zBefore ax ay az bx by bz ⌝ }
+{
+    let x = u32::leading_zeros(ax ^ bx);
+    let y = u32::leading_zeros(ay ^ by);
+    let z = u32::leading_zeros(az ^ bz);
+    if z <= y {
+        if z <= x {
+            return az < bz;
+        }
+        return ax < bx;
+    }
+    if y <= x {
+        return ay < by;
+    }
+    ax < bx
+}

@@ -1,0 +1,150 @@
+-- The rows of a settled minishard index as parts of the data that it is made from, and the writes that make a settled minishard.
+use Prim.Native.Nat.{ℕ, zero, suc, _+_, _*_, _-_, _≤_, _<_}
+use mathlib.Core.Path.{_≡_, refl, ap, _∙_}
+use mathlib.Core.List.{List, [], _∷_, _++_, append-assoc, append-nil}
+use native.Mathlib.Omega.{arith}
+use native.Mathlib.Nat.{add-zero, not-suc-le-zero}
+use borrow.Author.Needs.{needs}
+use lib.ListN.{length, getD, take, drop, replicate, replicate-append-replicate, length-append, length-replicate}
+use lib.Seq.{take-add, drop-drop}
+use mir.Val.{Fits}
+use mir.Syntax.{w8}
+use Rattle.endian.specs.Little.{le, leAt, row}
+use Rattle.endian.specs.Place.{paste}
+use Rattle.endian.proofs.Little.{le-leAt, length-le}
+use Rattle.endian.proofs.Copy.{part-length}
+use Rattle.endian.proofs.Paste.{paste-then}
+use Rattle.shard.specs.Sums.{sumTo}
+use Rattle.shard.specs.Index.{idSteps, startSteps, sizes, idAt, endAt, chunkAt}
+use Rattle.settle.specs.Form.{chunksOf, chunksLength, idRow, startRow, sizeRow, indexOf, partOf}
+use Rattle.settle.specs.Content.{itemAt, itemsFrom, itemsAt}
+use Rattle.settle.specs.Writing.{Readable, minishardLength}
+use Rattle.settle.proofs.Measures.{length-chunks}
+
+-- ---- the items of a minishard index, one after the other
+
+pub items-cons : (d : List ℕ) (s n i k : ℕ) → itemsFrom d s n i (suc k) ≡ record { id = idAt (idSteps d s) i; lead = []; body = chunkAt d s n i } ∷ itemsFrom d s n (suc i) k
+unfolding itemsFrom itemAt
+items-cons d s n i k = refl
+
+pub items-none : (d : List ℕ) (s n i k : ℕ) → k ≡ 0 → itemsFrom d s n i k ≡ []
+unfolding itemsFrom
+items-none d s n i k e = rw e
+
+pub items-all : (d : List ℕ) (s n : ℕ) → itemsAt d s n ≡ itemsFrom d s n 0 n
+unfolding itemsAt
+items-all d s n = refl
+
+-- ---- rows that are read are bytes of the data
+
+-- k of the u64s that stand in d from p on
+unfoldable raw : List ℕ → ℕ → ℕ → List ℕ
+raw d p zero = []
+raw d p (suc k) = leAt 8 d p ∷ raw d (p + 8) k
+
+row-raw : (d : List ℕ) (p k : ℕ) → ((i : ℕ) → getD d i 0 < 256) → p + 8 * k ≤ length d → row (raw d p k) ≡ take (8 * k) (drop p d)
+unfolding row raw
+row-raw d p zero b h = refl
+row-raw d p (suc k) b h =
+    let e : 8 * suc k ≡ 8 + 8 * k = omega arith in
+    rw (le-leAt 8 d p b (omega arith), row-raw d (p + 8) k b (omega arith), e, take-add 8 (8 * k) (drop p d), drop-drop 8 p d)
+
+id-step : (steps : ℕ → ℕ) (i : ℕ) → idAt steps i - sumTo steps i ≡ steps i
+unfolding idAt sumTo
+id-step steps i = omega arith
+
+id-sum : (steps : ℕ → ℕ) (i : ℕ) → idAt steps i ≡ sumTo steps (suc i)
+unfolding idAt
+id-sum steps i = refl
+
+ids-raw : (d : List ℕ) (s n i k : ℕ) → idRow (sumTo (idSteps d s) i) (itemsFrom d s n i k) ≡ raw d (s + 8 * i) k
+unfolding idRow raw
+ids-raw d s n i zero = rw (items-none d s n i 0 refl)
+ids-raw d s n i (suc k) =
+    let a = id-sum (idSteps d s) i in
+    let b = id-step (idSteps d s) i in
+    let e : s + 8 * i + 8 ≡ s + 8 * suc i = omega arith in
+    let r = ids-raw d s n (suc i) k in
+    rw (items-cons d s n i k) (cc)
+
+sizes-raw : (d : List ℕ) (s n i k : ℕ) → ((j : ℕ) → j < n → endAt (startSteps d s n) (sizes d s n) j ≤ length d) → i + k ≤ n
+    → sizeRow (itemsFrom d s n i k) ≡ raw d (s + 16 * n + 8 * i) k
+unfolding sizeRow raw
+sizes-raw d s n i zero h l = rw (items-none d s n i 0 refl)
+sizes-raw d s n i (suc k) h l =
+    let t : length (chunkAt d s n i) ≡ leAt 8 d (s + 16 * n + 8 * i) = part-length d _ _ (h i (omega arith)) in
+    let e : s + 16 * n + 8 * i + 8 ≡ s + 16 * n + 8 * suc i = omega arith in
+    let r = sizes-raw d s n (suc i) k h (omega arith) in
+    rw (items-cons d s n i k) (cc)
+
+-- ---- the start steps: the first is the place of the minishard, and as there are no leads the others are 0
+
+starts-zero : (d : List ℕ) (s n i k : ℕ) → row (startRow 0 (itemsFrom d s n i k)) ≡ replicate (8 * k) 0
+unfolding row startRow le
+starts-zero d s n i zero = rw (items-none d s n i 0 refl)
+starts-zero d s n i (suc k) =
+    let e : 8 * suc k ≡ 8 + 8 * k = omega arith in
+    rw (items-cons d s n i k, starts-zero d s n (suc i) k, e, ← replicate-append-replicate {A = ℕ} 8 (8 * k) 0)
+
+starts-bytes : (d : List ℕ) (s n p : ℕ) → 0 < n → row (startRow p (itemsFrom d s n 0 n)) ≡ le 8 p ++ replicate (8 * n - 8) 0
+unfolding row startRow
+starts-bytes d s zero p l = absurd (not-suc-le-zero l)
+starts-bytes d s (suc k) p l =
+    let e : 8 * suc k - 8 ≡ 8 * k = omega arith in
+    rw (items-cons d s (suc k) 0 k, starts-zero d s (suc k) 1 k, add-zero p, e)
+
+pub starts-written : (p n at : ℕ) (o : List ℕ) {o₁ o₂ : List ℕ} → at + 8 * n ≤ length o → 0 < n → o₁ ≡ paste at (le 8 p) o
+    → o₂ ≡ paste (at + 8) (replicate (8 * n - 8) 0) o₁ → o₂ ≡ paste at (le 8 p ++ replicate (8 * n - 8) 0) o
+starts-written p n at o l h u v =
+    paste-then at (at + 8) (le 8 p) (replicate (8 * n - 8) 0) o u v (omega (arith, length-le 8 p)) (omega (arith, length-le 8 p))
+
+-- ---- a settled minishard
+
+sum-none : (f : ℕ → ℕ) → 0 ≡ sumTo f 0
+unfolding sumTo
+sum-none f = refl
+
+-- as it is written
+part-is : (d : List ℕ) (s n p : ℕ) → Readable d s n → ((i : ℕ) → getD d i 0 < 256)
+    → partOf p (itemsAt d s n) ≡ chunksOf (itemsAt d s n) ++ (take (8 * n) (drop s d) ++ ((le 8 p ++ replicate (8 * n - 8) 0) ++ take (8 * n) (drop (s + 16 * n) d)))
+unfolding partOf indexOf itemsAt
+part-is d s n p r b =
+    let w = r .index in
+    let a : idRow 0 (itemsFrom d s n 0 n) ≡ raw d s n =
+    ap (λ (z : ℕ). idRow z (itemsFrom d s n 0 n)) (sum-none (idSteps d s)) ∙ ids-raw d s n 0 n ∙ ap (λ (z : ℕ). raw d z n) (omega arith) in
+    let z : sizeRow (itemsFrom d s n 0 n) ≡ raw d (s + 16 * n) n =
+    sizes-raw d s n 0 n (r .inside) (omega arith) ∙ ap (λ (z : ℕ). raw d z n) (omega arith) in
+    rw (a, z, row-raw d s n b (omega arith), row-raw d (s + 16 * n) n b (omega arith), starts-bytes d s n p (r .some))
+
+-- four writes make it
+pub part-written : (d : List ℕ) (s n p at ids : ℕ) (o : List ℕ) {o₁ o₂ o₃ o₄ : List ℕ} → Readable d s n → ((i : ℕ) → Fits w8 (getD d i 0))
+    → at + minishardLength d s n ≤ length o → ids ≡ at + chunksLength (itemsAt d s n)
+    → o₁ ≡ paste at (chunksOf (itemsAt d s n)) o
+    → o₂ ≡ paste ids (take (8 * n) (drop s d)) o₁
+    → o₃ ≡ paste (ids + 8 * n) (le 8 p ++ replicate (8 * n - 8) 0) o₂
+    → o₄ ≡ paste (ids + 8 * n + 8 * n) (take (8 * n) (drop (s + 16 * n) d)) o₃
+    → o₄ ≡ paste at (partOf p (itemsAt d s n)) o
+part-written d s n p at ids o r b l e h₁ h₂ h₃ h₄ =
+    let w = r .index in
+    let A = chunksOf (itemsAt d s n) in
+    let B = take (8 * n) (drop s d) in
+    let C = le 8 p ++ replicate (8 * n - 8) 0 in
+    let D = take (8 * n) (drop (s + 16 * n) d) in
+    let la = length-chunks (itemsAt d s n) in
+    let lb : length B ≡ 8 * n = part-length d s (8 * n) (omega arith) in
+    let lc : length C ≡ 8 * n = simp (length-append, length-le, length-replicate) (omega (arith, r .some)) in
+    let lab = length-append A B in
+    let labc = length-append (A ++ B) C in
+    let g₂ = paste-then at ids A B o h₁ h₂ (omega arith) (omega arith) in
+    let g₃ = paste-then at (ids + 8 * n) (A ++ B) C o g₂ h₃ (omega arith) (omega arith) in
+    let g₄ = paste-then at (ids + 8 * n + 8 * n) ((A ++ B) ++ C) D o g₃ h₄ (omega arith) (omega arith) in
+    g₄ ∙ rw (part-is d s n p r (λ i. b i .fits)) (simp append-assoc)
+
+-- two writes make an entry of the shard index
+pub entry-written : (b e at : ℕ) (o : List ℕ) {o₁ o₂ : List ℕ} → at + 16 ≤ length o → o₁ ≡ paste at (le 8 b) o → o₂ ≡ paste (at + 8) (le 8 e) o₁
+    → o₂ ≡ paste at (row (b ∷ e ∷ [])) o
+unfolding row
+entry-written b e at o l u v =
+    paste-then at (at + 8) (le 8 b) (le 8 e) o u v (omega (arith, length-le 8 b)) (omega (arith, length-le 8 b)) ∙ simp append-nil
+
+pub ruleset writing = (starts-written, entry-written, needs)

@@ -1,0 +1,292 @@
+-- A whole shard: a minishard with its entry, and a turn over the minishards, writing them and adding up their lengths.
+use Prim.Native.Nat.{ℕ, zero, suc, _+_, _*_, _-_, _/_, _^_, _≤_, _<_}
+use mathlib.Core.Path.{_≡_, refl, sym, ap, _∙_}
+use mathlib.Core.Logic.{_⊎_, ⊎-elim}
+use mathlib.Core.List.{List, [], _∷_, _++_, append-assoc, append-nil}
+use native.Mathlib.Omega.{arith}
+use native.Mathlib.Nat.{sub-zero, eq-or-lt-of-le, not-suc-le-zero}
+use native.Mathlib.Numerals.{add-one}
+use borrow.Author.Count.{falls}
+use borrow.Author.Needs.{needs}
+use mir.Val.{Fits}
+use mir.Syntax.{w64}
+use lib.ListN.{length}
+use Rattle.endian.specs.Little.{row}
+use Rattle.endian.specs.Place.{paste}
+use Rattle.endian.proofs.Little.{length-row}
+use Rattle.endian.proofs.Paste.{paste-nil, paste-on, paste-apart, paste-reach, length-paste}
+use Rattle.shard.specs.Index.{entryStart, entryEnd, entryCount}
+use Rattle.shard.specs.File.{mostShardBytes}
+use Rattle.settle.specs.Form.{Item, chunksOf, chunksLength, idRow, startRow, sizeRow, indexOf, partOf, partLength, partsFrom, partsLength, entryBegin, entryFinish, entriesFrom, settled}
+use Rattle.settle.specs.Content.{itemsFrom, itemsAt, itemsOf, contentFrom}
+use Rattle.settle.specs.Writing.{Readable, Settleable, SettleableIn, SettleableParts, minishardLength, lengthIn, wholeLength, entryBytes, capped}
+use Rattle.settle.proofs.Measures.{length-part, length-items, length-shard-index, length-content-from}
+use Rattle.settle.proofs.WriteRows.{items-none, items-all}
+
+-- ---- one minishard and its entry
+
+part-length : (d : List ℕ) (s n : ℕ) → partLength (itemsAt d s n) ≡ minishardLength d s n
+unfolding partLength
+part-length d s n = rw (length-items d s n)
+
+-- a minishard that is not empty has entries, and all of its minishard index
+readable : (d : List ℕ) (s e : ℕ) → Settleable d s e → (s ≡ e → ⊥) → Readable d s (entryCount s e)
+readable d s e t h =
+    let o = t .ordered in
+    let w = t .whole in
+    let l : e ≤ length d = ⊎-elim (λ q. absurd (h q)) (λ q. q) (t .within) in
+    let k : s < e = ⊎-elim (λ q. absurd (h q)) (λ q. q) (apart s e o) in
+    record { some = omega arith; index = omega arith; inside = t .inside }
+  where
+    apart : (a b : ℕ) → a ≤ b → (a ≡ b) ⊎ (a < b)
+    apart a b q = eq-or-lt-of-le q
+
+none-items : (d : List ℕ) (s e : ℕ) → s ≡ e → itemsAt d s (entryCount s e) ≡ []
+none-items d s e q = items-all d s (entryCount s e) ∙ items-none d s (entryCount s e) 0 (entryCount s e) (omega arith)
+
+none-length : (d : List ℕ) (s e : ℕ) → s ≡ e → 0 ≡ minishardLength d s (entryCount s e)
+unfolding chunksLength
+none-length d s e q = rw (none-items d s e q) (omega arith)
+
+none-written : (d : List ℕ) (s e p at at′ : ℕ) (o : List ℕ) → s ≡ e
+    → paste at (row (0 ∷ 0 ∷ [])) o ≡ paste at (entryBytes p (itemsAt d s (entryCount s e))) (paste at′ (partOf p (itemsAt d s (entryCount s e))) o)
+unfolding entryBytes entryBegin entryFinish partOf chunksOf indexOf idRow startRow sizeRow row
+none-written d s e p at at′ o q = rw (none-items d s e q, paste-nil at′ o)
+
+some-entry : (d : List ℕ) (s n p : ℕ) → 0 < n → entryBytes p (itemsAt d s n) ≡ row ((p + chunksLength (itemsAt d s n)) ∷ (p + minishardLength d s n) ∷ [])
+unfolding entryBytes entryBegin entryFinish itemsAt itemsFrom
+some-entry d s zero p l = absurd (not-suc-le-zero l)
+some-entry d s (suc k) p l = ap (λ (z : ℕ). row ((p + chunksLength (itemsAt d s (suc k))) ∷ (p + z) ∷ [])) (part-length d s (suc k))
+
+-- of a minishard whose entry was read: s and e are what was read
+module _ (index d : List ℕ) (m : ℕ) {s e : ℕ} (es : s ≡ entryStart index m) (ee : e ≡ entryEnd index m) where
+  pub ordered-read : SettleableIn index d m → s ≤ e
+  ordered-read t = rw (es, ee) (t .ordered)
+
+  pub readable-read : SettleableIn index d m → (s ≡ e → ⊥) → Readable d s ((e - s) / 24)
+  readable-read t h = readable d s e (rw (es, ee) t) h
+
+  pub none-length-read : s ≡ e → 0 ≡ lengthIn index d m
+  none-length-read q = none-length d (entryStart index m) (entryEnd index m) (rw (es, ee) at q)
+
+  pub none-capped-read : s ≡ e → 0 ≡ capped (lengthIn index d m)
+  none-capped-read q = omega (arith, none-length-read q)
+
+  pub none-read : (base p : ℕ) (o : List ℕ) {o₁ : List ℕ} → s ≡ e → o₁ ≡ paste (16 * m) (row (0 ∷ 0 ∷ [])) o
+      → o₁ ≡ paste (16 * m) (entryBytes p (itemsOf index d m)) (paste (base + p) (partOf p (itemsOf index d m)) o)
+  none-read base p o q w = w ∙ none-written d (entryStart index m) (entryEnd index m) p (16 * m) (base + p) o (rw (es, ee) at q)
+
+  pub length-read : {len : ℕ} → len ≡ minishardLength d s ((e - s) / 24) → len ≡ lengthIn index d m
+  length-read h = h ∙ rw (es, ee)
+
+  pub capped-read : {len : ℕ} → len ≡ capped (minishardLength d s ((e - s) / 24)) → len ≡ capped (lengthIn index d m)
+  capped-read h = h ∙ rw (es, ee)
+
+  pub room-read : (base p : ℕ) (out : List ℕ) → base + p + lengthIn index d m ≤ length out → base + p + minishardLength d s ((e - s) / 24) ≤ length out
+  room-read base p out h = rw (es, ee) h
+
+  pub end-read : (base p : ℕ) (out : List ℕ) (len : ℕ) → len ≡ minishardLength d s ((e - s) / 24) → base + p + lengthIn index d m ≤ length out
+      → length out < 2 ^ 64 → Fits w64 (p + len)
+  end-read base p out len h r f = record { fits = omega (arith, length-read h) }
+
+  pub one-read : (base p : ℕ) (o : List ℕ) {len : ℕ} {o₁ o₂ : List ℕ} → SettleableIn index d m → (s ≡ e → ⊥) → len ≡ minishardLength d s ((e - s) / 24)
+      → o₁ ≡ paste (base + p) (partOf p (itemsAt d s ((e - s) / 24))) o
+      → o₂ ≡ paste (16 * m) (row ((p + len - 24 * ((e - s) / 24)) ∷ (p + len) ∷ [])) o₁
+      → o₂ ≡ paste (16 * m) (entryBytes p (itemsOf index d m)) (paste (base + p) (partOf p (itemsOf index d m)) o)
+  one-read base p o {len} t h el w₁ w₂ =
+      let n = (e - s) / 24 in
+      let a : p + len - 24 * n ≡ p + chunksLength (itemsAt d s n) = omega arith in
+      let b : p + len ≡ p + minishardLength d s n = omega arith in
+      w₂ ∙ rw (a, b, w₁, ← some-entry d s n p (readable-read t h .some), es, ee)
+
+pub ruleset reading = (ordered-read, readable-read, none-length-read, none-capped-read, none-read, length-read, capped-read, room-read, end-read, one-read, needs)
+
+-- ---- the shard
+
+content-cons : (index d : List ℕ) (m k : ℕ) → contentFrom index d m (suc k) ≡ itemsOf index d m ∷ contentFrom index d (suc m) k
+unfolding contentFrom
+content-cons index d m k = refl
+
+content-none : (index d : List ℕ) (m k : ℕ) → k ≡ 0 → contentFrom index d m k ≡ []
+unfolding contentFrom
+content-none index d m k e = rw e
+
+entries-cons : (p : ℕ) (xs : List Item) (c : List (List Item)) → row (entriesFrom p (xs ∷ c)) ≡ entryBytes p xs ++ row (entriesFrom (p + partLength xs) c)
+unfolding entriesFrom row entryBytes
+entries-cons p xs c = simp (append-assoc, append-nil)
+
+parts-cons : (p : ℕ) (xs : List Item) (c : List (List Item)) → partsFrom p (xs ∷ c) ≡ partOf p xs ++ partsFrom (p + partLength xs) c
+unfolding partsFrom
+parts-cons p xs c = refl
+
+entries-nil : (p : ℕ) (c : List (List Item)) → c ≡ [] → row (entriesFrom p c) ≡ []
+unfolding entriesFrom row
+entries-nil p c e = rw e
+
+parts-nil : (p : ℕ) (c : List (List Item)) → c ≡ [] → partsFrom p c ≡ []
+unfolding partsFrom
+parts-nil p c e = rw e
+
+length-nil : (c : List (List Item)) → c ≡ [] → partsLength c ≡ 0
+unfolding partsLength
+length-nil c e = rw e
+
+length-cons : (xs : List Item) (c : List (List Item)) → partsLength (xs ∷ c) ≡ partLength xs + partsLength c
+unfolding partsLength
+length-cons xs c = refl
+
+length-entry : (p : ℕ) (xs : List Item) → length (entryBytes p xs) ≡ 16
+unfolding entryBytes
+length-entry p xs = length-row (entryBegin p xs ∷ entryFinish p xs ∷ [])
+
+-- minishards from m on
+abbrev pub from : List ℕ → List ℕ → ℕ → ℕ → List (List Item)
+from index d n m = contentFrom index d m (n - m)
+
+module _ (index d : List ℕ) (n m : ℕ) (l : m < n) where
+  from-cons : from index d n m ≡ itemsOf index d m ∷ from index d n (m + 1)
+  from-cons =
+      let e : n - m ≡ suc (n - (m + 1)) = omega arith in
+      rw (e, content-cons index d m (n - (m + 1)), add-one m)
+
+  length-next : partsLength (from index d n m) ≡ lengthIn index d m + partsLength (from index d n (m + 1))
+  length-next = rw from-cons (length-cons _ _ ∙ rw (part-length d (entryStart index m) (entryCount (entryStart index m) (entryEnd index m))))
+
+length-none : (index d : List ℕ) (n m : ℕ) → n ≤ m → partsLength (from index d n m) ≡ 0
+length-none index d n m l = length-nil (from index d n m) (content-none index d m (n - m) (omega arith))
+
+-- two writes go on, each where it ended before: the entries and the minishards
+paste-both : (a a′ : ℕ) (E I : List ℕ) (b b′ : ℕ) (P B d : List ℕ) → a + length E ≡ a′ → b + length P ≡ b′ → a′ ≤ b → b′ ≤ length d
+    → paste a′ I (paste b′ B (paste a E (paste b P d))) ≡ paste a (E ++ I) (paste b (P ++ B) d)
+paste-both a a′ E I b b′ P B d ea eb h g =
+    let l = length-paste b P d (omega arith) in
+    let u : paste b′ B (paste a E (paste b P d)) ≡ paste a E (paste b′ B (paste b P d)) = sym (paste-apart a E b′ B (paste b P d) (omega arith) (omega arith)) in
+    let v : paste b′ B (paste b P d) ≡ paste b (P ++ B) d = paste-on b P B d b′ (omega arith) eb in
+    ap (paste a′ I) (u ∙ ap (paste a E) v)
+    ∙ paste-on a E I (paste b (P ++ B) d) a′ (omega (arith, paste-reach b (P ++ B) d (omega arith))) ea
+
+-- nothing is left to write
+paste-done : (at : ℕ) (xs d : List ℕ) {e : List ℕ} → xs ≡ [] → paste at xs d ≡ e → d ≡ e
+paste-done at xs d n h = sym (paste-nil at d) ∙ ap (λ (z : List ℕ). paste at z d) (sym n) ∙ h
+
+-- the loop's head: out₀ is the output where it begins; out is the output now
+pub record Settling (index d : List ℕ) (n : ℕ) (out₀ out : List ℕ) (m p : ℕ) : Type 0 where
+  pub below : m ≤ n
+  pub same : length out ≡ length out₀
+  pub room : p + partsLength (from index d n m) ≡ partsLength (contentFrom index d 0 n)
+  pub left : paste (16 * m) (row (entriesFrom p (from index d n m))) (paste (16 * n + p) (partsFrom p (from index d n m)) out)
+      ≡ paste 0 (settled (contentFrom index d 0 n)) out₀
+
+pub settling-first : (index d : List ℕ) (n : ℕ) (out : List ℕ) → wholeLength index d n ≤ length out → Settling index d n out out 0 0
+unfolding settled
+settling-first index d n out h =
+    let c = contentFrom index d 0 n in
+    let E = row (entriesFrom 0 c) in
+    let l : length E ≡ 16 * n = length-shard-index 0 c ∙ ap (λ (z : ℕ). 16 * z) (length-content-from index d 0 n) in
+    record {
+      below = omega arith;
+      same = refl;
+      room = rw sub-zero (omega arith);
+      left =
+          rw sub-zero
+          (paste-apart 0 E (16 * n + 0) (partsFrom 0 c) out (omega arith) (omega arith)
+          ∙ paste-on 0 E (partsFrom 0 c) out (16 * n + 0) (omega arith) (omega arith));
+    }
+
+module _ {index d : List ℕ} {n : ℕ} {out₀ out : List ℕ} {m p : ℕ} (h : Settling index d n out₀ out m p) (b : wholeLength index d n ≤ length out₀) where
+  pub one-room : m < n → 16 * n + p + lengthIn index d m ≤ length out
+  one-room l = omega (arith, length-next index d n m l, h .room, h .same)
+
+  pub place-fits : (len : ℕ) → m < n → length out₀ < 2 ^ 64 → len ≡ lengthIn index d m → Fits w64 (p + len)
+  place-fits len l f e = record { fits = omega (arith, one-room l, h .same) }
+
+  pub settling-next : (len : ℕ) (out′ : List ℕ) → m < n → length out′ ≡ length out → len ≡ lengthIn index d m
+      → out′ ≡ paste (16 * m) (entryBytes p (itemsOf index d m)) (paste (16 * n + p) (partOf p (itemsOf index d m)) out)
+      → Settling index d n out₀ out′ (m + 1) (p + len)
+  settling-next len out′ l k e w =
+      let s = h .same in
+      let xs = itemsOf index d m in
+      let c = from index d n (m + 1) in
+      let pl : partLength xs ≡ len = part-length d (entryStart index m) (entryCount (entryStart index m) (entryEnd index m)) ∙ sym e in
+      let lp = length-part p xs in
+      let E : row (entriesFrom p (from index d n m)) ≡ entryBytes p xs ++ row (entriesFrom (p + len) c) =
+      rw (from-cons index d n m l) (entries-cons p xs c ∙ rw pl) in
+      let B : partsFrom p (from index d n m) ≡ partOf p xs ++ partsFrom (p + len) c = rw (from-cons index d n m l) (parts-cons p xs c ∙ rw pl) in
+      let t : paste (16 * (m + 1)) (row (entriesFrom (p + len) c)) (paste (16 * n + (p + len)) (partsFrom (p + len) c) out′)
+      ≡ paste (16 * m) (row (entriesFrom p (from index d n m))) (paste (16 * n + p) (partsFrom p (from index d n m)) out) =
+      rw (w, E, B)
+      (paste-both (16 * m) (16 * (m + 1)) (entryBytes p xs) (row (entriesFrom (p + len) c)) (16 * n + p) (16 * n + (p + len)) (partOf p xs) (partsFrom (p + len) c) out
+      (omega (arith, length-entry p xs)) (omega arith) (omega arith) (omega (arith, one-room l))) in
+      record {
+        below = omega arith;
+        same = k ∙ h .same;
+        room = omega (arith, h .room, length-next index d n m l);
+        left = t ∙ h .left;
+      }
+
+  module _ (l : n ≤ m) where
+    pub end-fits : length out₀ < 2 ^ 64 → Fits w64 (16 * n + p)
+    end-fits f = record { fits = omega (arith, h .room, length-none index d n m l) }
+
+    pub end-is : 16 * n + p ≡ wholeLength index d n
+    end-is = omega (arith, h .room, length-none index d n m l)
+
+    pub all-there : out ≡ paste 0 (settled (contentFrom index d 0 n)) out₀
+    all-there =
+        let z = content-none index d m (n - m) (omega arith) in
+        paste-done (16 * n + p) (partsFrom p (from index d n m)) out (parts-nil p (from index d n m) z)
+        (paste-done (16 * m) (row (entriesFrom p (from index d n m))) _ (entries-nil p (from index d n m) z) (h .left))
+
+module _ {index d : List ℕ} {n m : ℕ} (a : SettleableParts index d n) (l : m < n) where
+  pub each-at : SettleableIn index d m
+  each-at = a .each m l
+
+  pub entry-at : 16 * m + 16 ≤ length index
+  entry-at = omega (arith, a .held)
+
+pub ruleset settling = (settling-first, settling-next, each-at, entry-at, one-room, place-fits, end-fits, end-is, all-there, needs)
+
+-- ---- the loop that adds up the lengths, up to the first one that is refused
+
+pub record Summing (index d : List ℕ) (n m sum : ℕ) : Type 0 where
+  pub below : m ≤ n
+  pub most : sum ≤ mostShardBytes + 1
+  pub left : capped (sum + partsLength (from index d n m)) ≡ capped (wholeLength index d n)
+
+pub summing-first : (index d : List ℕ) (n : ℕ) {sum : ℕ} → sum ≡ capped (0 + 16 * n) → Summing index d n 0 sum
+summing-first index d n e = record { below = omega arith; most = omega arith; left = rw sub-zero (omega arith) }
+
+pub summing-next : {index d : List ℕ} {n m sum : ℕ} → Summing index d n m sum → m < n → (len : ℕ) {sum′ : ℕ} → len ≡ capped (lengthIn index d m) → sum′ ≡ capped (sum + len)
+    → Summing index d n (m + 1) sum′
+summing-next {index} {d} {n} {m} {sum} h l len {sum′} el e =
+    let t = length-next index d n m l in
+    let g : capped (sum + (lengthIn index d m + partsLength (from index d n (m + 1)))) ≡ capped (wholeLength index d n) = rw t at (h .left) in
+    record { below = omega arith; most = omega arith; left = step sum (lengthIn index d m) (partsLength (from index d n (m + 1))) len sum′ el e ∙ g }
+  where
+    step : (a x r len b : ℕ) → len ≡ capped x → b ≡ capped (a + len) → capped (b + r) ≡ capped (a + (x + r))
+    step a x r len b p q = omega arith
+
+pub summed : {index d : List ℕ} {n m sum : ℕ} → Summing index d n m sum → n ≤ m → sum ≡ capped (wholeLength index d n)
+summed {index} {d} {n} {m} h l = let g = h .most in omega (arith, h .left, length-none index d n m l)
+
+pub ruleset summing = (summing-first, summing-next, summed, each-at, entry-at, falls, needs)
+
+-- ---- of n minishards, where that is the number k that the specification gives
+
+module _ (index d : List ℕ) {n k : ℕ} (e : n ≡ k) where
+  pub parts-counted : SettleableParts index d k → SettleableParts index d n
+  parts-counted h = rw e h
+
+  pub room-counted : (out : List ℕ) → wholeLength index d k ≤ length out → wholeLength index d n ≤ length out
+  room-counted out h = rw e h
+
+  pub length-counted : {r : ℕ} → r ≡ wholeLength index d n → r ≡ wholeLength index d k
+  length-counted h = rw e at h
+
+  pub capped-counted : {r : ℕ} → r ≡ capped (wholeLength index d n) → r ≡ capped (wholeLength index d k)
+  capped-counted h = rw e at h
+
+  pub form-counted : (o : List ℕ) {out : List ℕ} → out ≡ paste 0 (settled (contentFrom index d 0 n)) o → out ≡ paste 0 (settled (contentFrom index d 0 k)) o
+  form-counted o h = rw e at h
+
+pub ruleset counting = (parts-counted, room-counted, length-counted, capped-counted, form-counted, needs)

@@ -1,0 +1,104 @@
+-- Laws of sums and tests over the first entries of a row.
+use Prim.Native.Nat.{ℕ, zero, suc, _+_, _<_, _≤_}
+use mathlib.Core.Path.{_≡_, refl, sym, subst, _∙_, ap}
+use mathlib.Core.Bool.{Bool, true, false, _||_, or-true, true≢false, false≢true}
+use mathlib.Core.Logic.{⊎-elim}
+use native.Mathlib.Nat.{eq-or-lt-of-le, le-of-suc-le-suc, not-suc-le-zero}
+use native.Mathlib.Numerals.{add-one}
+use native.Mathlib.Omega.{arith}
+use Rattle.shard.specs.Sums.{sumTo, anyBelow, first}
+
+pub sum-none : (f : ℕ → ℕ) → sumTo f 0 ≡ 0
+unfolding sumTo
+sum-none f = refl
+
+pub sum-one : (f : ℕ → ℕ) (i : ℕ) → sumTo f (i + 1) ≡ sumTo f i + f i
+unfolding sumTo
+sum-one f i = rw add-one
+
+-- ---- some entry
+
+pub any-none : (f : ℕ → Bool) → anyBelow 0 f ≡ false
+unfolding anyBelow
+any-none f = refl
+
+pub any-more : (f : ℕ → Bool) (i : ℕ) → anyBelow i f ≡ false → f i ≡ false → anyBelow (i + 1) f ≡ false
+unfolding anyBelow
+any-more f i p q = rw (add-one, p, q)
+
+pub any-hit : (f : ℕ → Bool) (n i : ℕ) → i < n → f i ≡ true → anyBelow n f ≡ true
+unfolding anyBelow
+any-hit f zero i l e = absurd (not-suc-le-zero l)
+any-hit f (suc n) i l e =
+    ⊎-elim
+    (λ q. ap (λ (b : Bool). anyBelow n f || b) (ap f (sym q) ∙ e) ∙ or-true (anyBelow n f))
+    (λ m. rw (any-hit f n i m e))
+    (eq-or-lt-of-le (le-of-suc-le-suc l))
+
+pub any-miss : (f : ℕ → Bool) (n i : ℕ) → anyBelow n f ≡ false → i < n → f i ≡ false
+any-miss f n i p l = go (f i) refl
+  where
+    go : (b : Bool) → f i ≡ b → f i ≡ false
+    go true e = absurd (true≢false (sym (any-hit f n i l e) ∙ p))
+    go false e = e
+
+or-left : (a b : Bool) → a || b ≡ false → a ≡ false
+or-left true b e = e
+or-left false b e = refl
+
+any-init : (f : ℕ → Bool) (n : ℕ) → anyBelow (suc n) f ≡ false → anyBelow n f ≡ false
+unfolding anyBelow
+any-init f n p = or-left _ _ p
+
+-- none of n where each of them passes
+pub any-no : (f : ℕ → Bool) (n : ℕ) → ((i : ℕ) → i < n → f i ≡ false) → anyBelow n f ≡ false
+unfolding anyBelow
+any-no f zero p = refl
+any-no f (suc n) p = rw (any-no f n (λ i l. p i (omega arith)), p n (omega arith))
+
+-- ---- the first of them
+
+pub first-none : (f : ℕ → Bool) (n : ℕ) → anyBelow n f ≡ false → first f n ≡ n
+unfolding first
+first-none f zero p = refl
+first-none f (suc n) p = rw (any-miss f (suc n) n p (omega arith), any-init f n p)
+
+pub first-hit : (f : ℕ → Bool) (n i : ℕ) → anyBelow i f ≡ false → i < n → f i ≡ true → first f n ≡ i
+unfolding first
+first-hit f zero i p l e = absurd (not-suc-le-zero l)
+first-hit f (suc n) i p l e =
+    ⊎-elim
+    (λ q. subst (λ (k : ℕ). first f (suc k) ≡ i) q (rw (p, e)))
+    (λ m. rw (any-hit f n i m e) (first-hit f n i p m e))
+    (eq-or-lt-of-le (le-of-suc-le-suc l))
+
+pub first-lt : (f : ℕ → Bool) (n : ℕ) → anyBelow n f ≡ true → first f n < n
+unfolding first anyBelow
+first-lt f zero p = absurd (false≢true p)
+first-lt f (suc n) p = go (λ e. first-lt f n e) (anyBelow n f) refl
+  where
+    go : (anyBelow n f ≡ true → first f n < n) → (b : Bool) → anyBelow n f ≡ b → first f (suc n) < suc n
+    go ih true e = rw e (let l = ih e in omega arith)
+    go ih false e = rw (e, rw e at p) (omega arith)
+
+-- the test holds of the first, where there is one
+pub first-holds : (f : ℕ → Bool) (n : ℕ) → first f n < n → f (first f n) ≡ true
+unfolding first anyBelow
+first-holds f zero l = absurd (not-suc-le-zero l)
+first-holds f (suc n) l = go (λ e. first-holds f n e) (anyBelow n f) refl (f n) refl
+  where
+    go : (first f n < n → f (first f n) ≡ true) → (b : Bool) → anyBelow n f ≡ b → (t : Bool) → f n ≡ t → f (first f (suc n)) ≡ true
+    go ih true e t u = rw e (ih (first-lt f n e))
+    go ih false e true u = rw (e, u) u
+    go ih false e false u = absurd (omega (arith, rw (e, u) at l))
+
+-- what an answer `first f n` tells
+pub told-some : (f : ℕ → Bool) (n : ℕ) {r : ℕ} → r ≡ first f n → r < n → anyBelow n f ≡ true
+told-some f n {r} e l = any-hit f n (first f n) (omega arith) (first-holds f n (omega arith))
+
+pub told-none : (f : ℕ → Bool) (n : ℕ) {r : ℕ} → r ≡ first f n → n ≤ r → anyBelow n f ≡ false
+told-none f n {r} e l = go (anyBelow n f) refl
+  where
+    go : (b : Bool) → anyBelow n f ≡ b → anyBelow n f ≡ false
+    go true q = absurd (omega (arith, first-lt f n q))
+    go false q = q

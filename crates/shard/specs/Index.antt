@@ -1,0 +1,44 @@
+-- The shard index and a minishard index (01, 'From id to shard'; source 002, 'Shard index format', 'Minishard index format').
+-- A shard is two lists here: its shard index, and the data behind it, from whose beginning all starts and ends count.
+use Prim.Native.Nat.{ℕ, suc, _+_, _*_, _-_, _/_}
+use mathlib.Core.List.{List}
+use lib.ListN.{take, drop}
+use Rattle.endian.specs.Little.{leAt, rowAt}
+use Rattle.shard.specs.Sums.{sumTo}
+
+-- the entry of minishard m in the shard index: where its minishard index begins and ends
+abbrev pub entryStart : List ℕ → ℕ → ℕ
+entryStart index m = leAt 8 index (16 * m)
+
+abbrev pub entryEnd : List ℕ → ℕ → ℕ
+entryEnd index m = leAt 8 index (16 * m + 8)
+
+-- how many chunks the minishard index from s to e lists; none where s and e are equal
+abbrev pub entryCount : ℕ → ℕ → ℕ
+entryCount s e = (e - s) / 24
+
+-- its three rows, of n numbers each: id steps, start steps, sizes
+abbrev pub idSteps : List ℕ → ℕ → ℕ → ℕ
+idSteps d s = rowAt d s
+
+abbrev pub startSteps : List ℕ → ℕ → ℕ → ℕ → ℕ
+startSteps d s n = rowAt d (s + 8 * n)
+
+abbrev pub sizes : List ℕ → ℕ → ℕ → ℕ → ℕ
+sizes d s n = rowAt d (s + 16 * n)
+
+-- an id is the sum of the id steps so far
+unfoldable pub idAt : (ℕ → ℕ) → ℕ → ℕ
+idAt steps i = sumTo steps (suc i)
+
+-- a chunk starts at all start steps so far plus all earlier sizes
+unfoldable pub startAt : (ℕ → ℕ) → (ℕ → ℕ) → ℕ → ℕ
+startAt starts size i = sumTo starts (suc i) + sumTo size i
+
+-- and ends after as many bytes as its size
+abbrev pub endAt : (ℕ → ℕ) → (ℕ → ℕ) → ℕ → ℕ
+endAt starts size i = startAt starts size i + size i
+
+-- the bytes of chunk i of the minishard index of n entries at s
+abbrev pub chunkAt : List ℕ → ℕ → ℕ → ℕ → List ℕ
+chunkAt d s n i = take (sizes d s n i) (drop (startAt (startSteps d s n) (sizes d s n) i) d)

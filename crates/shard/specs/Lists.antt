@@ -1,0 +1,30 @@
+-- What a sound shard lists (01, 'From id to shard'): pairs of an id and its chunk's bytes, in whatever order they stand.
+use Prim.Native.Nat.{ℕ, _<_}
+use mathlib.Core.Path.{_≡_}
+use mathlib.Core.Logic.{_↔_}
+use mathlib.Core.List.{List}
+use Rattle.sharding.specs.declared.Sharding.{Sharding}
+use Rattle.sharding.specs.Specification.{minishardCount}
+use Rattle.shard.specs.Index.{entryStart, entryEnd, entryCount, idSteps, idAt, chunkAt}
+use Rattle.shard.specs.File.{indexPart, dataPart}
+
+-- entry i of minishard m of the shard has this id and these bytes
+pub record ListsAt (index d : List ℕ) (m i id : ℕ) (bytes : List ℕ) : Type 0 where
+  pub among : i < entryCount (entryStart index m) (entryEnd index m)
+  pub named : idAt (idSteps d (entryStart index m)) i ≡ id
+  pub holding : chunkAt d (entryStart index m) (entryCount (entryStart index m) (entryEnd index m)) i ≡ bytes
+
+-- minishard m lists the id with the bytes
+pub record ListsIn (index d : List ℕ) (m id : ℕ) (bytes : List ℕ) : Type 0 where
+  pub entry : ℕ
+  pub lists : ListsAt index d m entry id bytes
+
+-- the shard does
+pub record Lists (spec : Sharding) (file : List ℕ) (id : ℕ) (bytes : List ℕ) : Type 0 where
+  pub minishard : ℕ
+  pub below : minishard < minishardCount spec
+  pub lists : ListsIn (indexPart spec file) (dataPart spec file) minishard id bytes
+
+-- two shards list the same
+abbrev pub SameListing : Sharding → List ℕ → List ℕ → Type 0
+SameListing spec a b = (id : ℕ) (bytes : List ℕ) → Lists spec a id bytes ↔ Lists spec b id bytes

@@ -1,0 +1,39 @@
+-- Which shards are sound (01, 'From id to shard'), said of all entries: the check passes exactly these.
+use Prim.Native.Nat.{ℕ, suc, _-_, _%_, _^_, _≤_, _<_}
+use mathlib.Core.Path.{_≡_}
+use mathlib.Core.Bool.{true}
+use mathlib.Core.Logic.{_⊎_}
+use mathlib.Core.List.{List}
+use lib.ListN.{length}
+use Rattle.sharding.specs.declared.Sharding.{Sharding}
+use Rattle.sharding.specs.Specification.{allowed, minishardCount, shardCount}
+use Rattle.sharding.specs.Place.{shardOf, minishardOf}
+use Rattle.shard.specs.Index.{entryStart, entryEnd, entryCount, idSteps, startSteps, sizes, idAt, endAt}
+use Rattle.shard.specs.File.{mostShardBytes, indexLength, indexPart, dataPart}
+
+-- none of 7 to 11 holds of minishard m, whose minishard index stands in d from s to e
+pub record SoundFrom (spec : Sharding) (shard m : ℕ) (d : List ℕ) (s e : ℕ) : Type 0 where
+  -- 7: the start is not after the end; where it is before it, the end is within the file
+  pub ordered : s ≤ e
+  pub within : (s ≡ e) ⊎ (e ≤ length d)
+  -- 8
+  pub whole : (e - s) % 24 ≡ 0
+  -- 9
+  pub rising : (i : ℕ) → suc i < entryCount s e → idAt (idSteps d s) i < idAt (idSteps d s) (suc i)
+  pub bounded : (i : ℕ) → i < entryCount s e → idAt (idSteps d s) i < 2 ^ 64
+  -- 10
+  pub ours : (i : ℕ) → i < entryCount s e → shardOf spec (idAt (idSteps d s) i) ≡ shard
+  pub here : (i : ℕ) → i < entryCount s e → minishardOf spec (idAt (idSteps d s) i) ≡ m
+  -- 11
+  pub inside : (i : ℕ) → i < entryCount s e → endAt (startSteps d s (entryCount s e)) (sizes d s (entryCount s e)) i ≤ length d
+
+abbrev pub SoundMinishard : Sharding → ℕ → List ℕ → List ℕ → ℕ → Type 0
+SoundMinishard spec shard index d m = SoundFrom spec shard m d (entryStart index m) (entryEnd index m)
+
+-- nor does 1, 5 or 6, and each minishard is sound
+pub record SoundShard (spec : Sharding) (shard : ℕ) (file : List ℕ) : Type 0 where
+  pub permitted : allowed spec ≡ true
+  pub numbered : shard < shardCount spec
+  pub held : indexLength spec ≤ length file
+  pub short : length file ≤ mostShardBytes
+  pub each : (m : ℕ) → m < minishardCount spec → SoundMinishard spec shard (indexPart spec file) (dataPart spec file) m
