@@ -1,13 +1,13 @@
 //! Copying, against `copy_from_slice`.
 
-use crate::runner::{bytes, Measure};
+use crate::runner::{bytes, touched, Measure};
 use coronagamba::endian;
 use std::hint::black_box;
 
 /// Copies of a slice of this length, this often.
 fn copying(name: &str, length: usize, times: usize) {
     let from = bytes(length);
-    let (mut ours, mut theirs) = (vec![0; length], vec![0; length]);
+    let (mut ours, mut theirs) = (touched(length), touched(length));
     let measure = Measure {
         name,
         operations: times,
@@ -30,8 +30,8 @@ fn copying(name: &str, length: usize, times: usize) {
 
 /// Prints the lines.
 pub fn run() {
-    copying("copy of 64 bytes", 64, 1_000_000);
-    copying("copy of 4 KiB", 4 << 10, 200_000);
-    copying("copy of 1 MiB", 1 << 20, 500);
-    copying("copy of 64 MiB", 64 << 20, 4);
+    copying("copy of 64 bytes", 64, 100_000);
+    copying("copy of 4 KiB", 4 << 10, 20_000);
+    copying("copy of 1 MiB", 1 << 20, 50);
+    copying("copy of 64 MiB", 64 << 20, 1);
 }

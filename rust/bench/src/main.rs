@@ -1,9 +1,11 @@
 //! Times the proved library, through its C archive, against plain Rust.
 //!
-//! Prints a line for each measure: the median time of one operation on each
-//! side, and the ratio library / plain over alternating runs. Both sides do
-//! the same work with the same tests, and must give the same answers.
+//! Prints a line for each measure: the median processor time of one operation
+//! on each side, and the ratio library / plain over alternating runs, its
+//! median and its middle half. Both sides do the same work with the same
+//! tests, and must give the same answers.
 
+mod clock;
 mod copying;
 #[cfg(feature = "places")]
 mod places;

@@ -1,10 +1,14 @@
 //! Alternating timed runs and their summary.
 
+use crate::clock::thread_time;
 use std::hint::black_box;
-use std::time::Instant;
+use std::time::Duration;
 
-/// Alternating runs of each side.
-const RUNS: usize = 9;
+/// The fewest alternating runs of each side.
+const LEAST_RUNS: usize = 9;
+
+/// How long the runs of a measure take at least, so that short ones are many.
+const LEAST_TIME: Duration = Duration::from_millis(400);
 
 /// One line of the output: what is timed and how many of them a run has.
 pub struct Measure<'a> {
@@ -14,49 +18,49 @@ pub struct Measure<'a> {
     pub operations: usize,
 }
 
-/// The time of one operation in nanoseconds, and the run's answer.
-fn timed(operations: usize, run: &mut dyn FnMut() -> u64) -> (f64, u64) {
-    let start = Instant::now();
-    let answer = black_box(run());
-    let time = start.elapsed().as_nanos() as f64;
-    (time / operations as f64, answer)
+/// The time of one operation in nanoseconds.
+fn timed(operations: usize, run: &mut dyn FnMut() -> u64) -> f64 {
+    let start = thread_time();
+    black_box(run());
+    let time = (thread_time() - start).as_nanos() as f64;
+    time / operations as f64
 }
 
-/// The median of an odd number of values, which it sorts.
-fn median(values: &mut [f64]) -> f64 {
+/// The lower quartile, the median and the upper quartile.
+fn quartiles(mut values: Vec<f64>) -> [f64; 3] {
     values.sort_by(f64::total_cmp);
-    values[values.len() / 2]
+    [1, 2, 3].map(|quarters| values[quarters * values.len() / 4])
 }
 
 /// Prints what the columns of the lines are.
 pub fn print_head() {
     println!(
-        "{:<38} {:>14} {:>14}   ratio (least to most)",
+        "{:<38} {:>14} {:>14}   ratio (middle half)",
         "", "library ns", "plain Rust ns"
     );
 }
 
 impl Measure<'_> {
     /// Times both sides in turn and prints the line. Panics where the two do
-    /// not give the same answer.
+    /// not give the same answer. The first run of each side, which has the
+    /// caches and the pages to fill, is not timed.
     pub fn run(&self, mut library: impl FnMut() -> u64, mut plain: impl FnMut() -> u64) {
         assert_eq!(library(), plain(), "{}: the answers", self.name);
         let (mut ours, mut theirs, mut ratios) = (Vec::new(), Vec::new(), Vec::new());
-        for _ in 0..RUNS {
-            let (our_time, _) = timed(self.operations, &mut library);
-            let (their_time, _) = timed(self.operations, &mut plain);
+        let start = thread_time();
+        while ratios.len() < LEAST_RUNS || thread_time() - start < LEAST_TIME {
+            let our_time = timed(self.operations, &mut library);
+            let their_time = timed(self.operations, &mut plain);
             ours.push(our_time);
             theirs.push(their_time);
             ratios.push(our_time / their_time);
         }
-        let ratio = median(&mut ratios);
+        let [_, our_time, _] = quartiles(ours);
+        let [_, their_time, _] = quartiles(theirs);
+        let [low, ratio, high] = quartiles(ratios);
         println!(
-            "{:<38} {:>14.2} {:>14.2}   {ratio:.2} ({:.2} to {:.2})",
+            "{:<38} {our_time:>14.2} {their_time:>14.2}   {ratio:.2} ({low:.2} to {high:.2})",
             self.name,
-            median(&mut ours),
-            median(&mut theirs),
-            ratios[0],
-            ratios[RUNS - 1],
         );
     }
 }
@@ -83,4 +87,10 @@ pub fn bytes(length: usize) -> Vec<u8> {
         .flat_map(u64::to_le_bytes)
         .take(length)
         .collect()
+}
+
+/// An output of this length whose pages are all in memory: the kernel hands
+/// out zeroed ones only when they are first written.
+pub fn touched(length: usize) -> Vec<u8> {
+    vec![0xa5; length]
 }

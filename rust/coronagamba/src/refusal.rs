@@ -21,7 +21,7 @@ impl Refusal {
             2 => "An extent is zero, or the cell is outside the grid.",
             3 => "The grid needs more than 64 key bits.",
             4 => "The key is no cell of the grid.",
-            5 => "There is no such shard, or the id belongs to another one.",
+            5 => "There is no such shard or minishard, or the id belongs to another shard.",
             6 => "The shard is shorter than its index or longer than 1 GiB.",
             7 => "An entry of the shard index is reversed or ends past the file.",
             8 => "A minishard index has a length that is no multiple of 24.",

@@ -80,8 +80,8 @@ impl<'a> Shard<'a> {
         })
     }
 
-    /// How many chunks a minishard lists, or refusal 1, 5, 6, or 7 to 11 of
-    /// that minishard.
+    /// How many chunks a minishard lists, or refusal 1, 5 (also for a minishard
+    /// that is not there), 6, or 7 to 11 of that minishard.
     pub fn listed_count(&self, minishard: u64) -> Result<u64, Refusal> {
         let mut chunks = 0;
         // SAFETY: pointer and count are those of one live slice, and the
@@ -101,7 +101,8 @@ impl<'a> Shard<'a> {
 
     /// Writes id, start and length of each chunk that a minishard lists, in
     /// stored order, to the front of `out` and gives how many numbers these
-    /// are; or refusal 1, 5, 6, 7 to 11 of that minishard, or 13.
+    /// are; or refusal 1, 5 (also for a minishard that is not there), 6, 7 to
+    /// 11 of that minishard, or 13.
     pub fn write_listing(&self, minishard: u64, out: &mut [u64]) -> Result<usize, Refusal> {
         let mut length = 0;
         // SAFETY: each pointer and count are those of one slice, `out` lent
@@ -121,8 +122,9 @@ impl<'a> Shard<'a> {
         Ok(length as usize)
     }
 
-    /// The chunks that a minishard lists, in stored order, or refusal 1, 5, 6,
-    /// or 7 to 11 of that minishard.
+    /// The chunks that a minishard lists, in stored order, or refusal 1, 5
+    /// (also for a minishard that is not there), 6, or 7 to 11 of that
+    /// minishard.
     pub fn listing(&self, minishard: u64) -> Result<Vec<Listed>, Refusal> {
         let mut numbers = vec![0; 3 * self.listed_count(minishard)? as usize];
         self.write_listing(minishard, &mut numbers)?;

@@ -6,10 +6,14 @@ use common::answer;
 use common::sharding::sharding;
 use coronagamba::Shard;
 use reference::settle;
-use testkit::shards::{self, Sample};
+use reference::sharding::Sharding;
+use testkit::shards::{self, Content, Difference, Sample};
 use testkit::{same_writing, Lent, Met, Rng};
 
 const SAMPLES: usize = 40_000;
+
+/// Pairs of layouts or contents.
+const PAIRS: usize = 60_000;
 
 /// Settles on both sides into an output of this length.
 fn same_settling(rng: &mut Rng, sample: &Sample, room: usize) -> Result<usize, u8> {
@@ -76,28 +80,96 @@ fn damaged_shards() {
     lengths.assert_exactly(&[0, 6, 7, 8, 9, 10, 11]);
 }
 
+/// The library's settled form of a layout, which is sound.
+fn form(specification: &Sharding, number: u64, layout: &[u8]) -> Vec<u8> {
+    Shard::open(sharding(specification), number, layout)
+        .settled()
+        .expect("a layout is sound")
+}
+
+/// The reference's settled form of this content.
+fn expected_form(specification: &Sharding, content: &Content) -> Vec<u8> {
+    let listed: Vec<settle::Listed> = content
+        .iter()
+        .map(|(id, bytes)| (*id, &bytes[..]))
+        .collect();
+    settle::settled_form(specification, &listed)
+}
+
+/// A settled form lists the content and settles to itself.
+fn assert_settled(specification: &Sharding, number: u64, form: &[u8], content: &Content) {
+    let settled = Shard::open(sharding(specification), number, form);
+    assert_eq!(settled.check(), Ok(()));
+    for (id, bytes) in content {
+        assert_eq!(settled.chunk(*id), Ok(&bytes[..]));
+    }
+    assert!(settled.settled().as_deref() == Ok(form));
+}
+
 #[test]
 fn two_layouts_of_one_content_settle_to_one_form() {
     let mut rng = Rng::new(3);
-    for _ in 0..SAMPLES / 4 {
+    let mut pairs = 0;
+    while pairs < PAIRS {
         let specification = shards::sharding(&mut rng);
         let number = shards::number(&mut rng, &specification);
         let content = shards::content(&mut rng, &specification, number, 12);
-        let mut forms = Vec::new();
-        for _ in 0..2 {
-            let file = shards::lay_out(&mut rng, &specification, &content);
-            let shard = Shard::open(sharding(&specification), number, &file);
-            forms.push(shard.settled().expect("a layout is sound"));
+        let layouts = [(); 2].map(|()| shards::lay_out(&mut rng, &specification, &content));
+        // Little content often has the same layout twice.
+        if layouts[0] == layouts[1] {
+            continue;
         }
-        assert!(forms[0] == forms[1]);
-        let settled = Shard::open(sharding(&specification), number, &forms[0]);
-        assert_eq!(settled.check(), Ok(()));
-        for (id, bytes) in &content {
-            assert_eq!(settled.chunk(*id), Ok(&bytes[..]));
+        let [one, other] = layouts.map(|layout| form(&specification, number, &layout));
+        assert!(one == other, "{specification:?} {number} {content:?}");
+        assert!(one == expected_form(&specification, &content));
+        assert_settled(&specification, number, &one, &content);
+        pairs += 1;
+    }
+}
+
+#[test]
+fn contents_that_differ_settle_to_different_forms() {
+    let mut rng = Rng::new(5);
+    for difference in Difference::ALL {
+        let mut pairs = 0;
+        while pairs < PAIRS / Difference::ALL.len() {
+            let specification = shards::sharding(&mut rng);
+            let number = shards::number(&mut rng, &specification);
+            let content = shards::content(&mut rng, &specification, number, 12);
+            let Some(other) =
+                shards::differing(&mut rng, &specification, number, &content, difference)
+            else {
+                continue;
+            };
+            let [one, other] = [content, other].map(|content| {
+                let layout = shards::lay_out(&mut rng, &specification, &content);
+                let form = form(&specification, number, &layout);
+                assert!(form == expected_form(&specification, &content));
+                form
+            });
+            assert!(one != other, "{difference:?}");
+            pairs += 1;
         }
-        let mut again = vec![0; forms[0].len()];
-        assert_eq!(settled.settle(&mut again), Ok(again.len()));
-        assert!(again == forms[0]);
+    }
+}
+
+/// Outputs from none at all to a few bytes more than needed; the bytes around
+/// them are compared too.
+#[test]
+fn outputs_of_every_length() {
+    let mut rng = Rng::new(6);
+    let mut shards = 0;
+    while shards < 1_500 {
+        let sample = shards::sound(&mut rng, 8);
+        let needed = same_length(&sample).expect("the sample is sound") as usize;
+        if needed > 500 {
+            continue;
+        }
+        shards += 1;
+        for room in 0..=needed + 3 {
+            let expected = if room < needed { Err(13) } else { Ok(needed) };
+            assert_eq!(same_settling(&mut rng, &sample, room), expected);
+        }
     }
 }
 
@@ -149,7 +221,7 @@ fn forms_around_a_gibibyte() {
 #[test]
 fn the_case_of_the_paper() {
     let mut rng = Rng::new(4);
-    let specification = reference::sharding::Sharding {
+    let specification = Sharding {
         preshift: 0,
         hash: 0,
         minishard_bits: 1,

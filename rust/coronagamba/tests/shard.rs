@@ -51,60 +51,85 @@ fn same_check(sample: &Sample) -> Result<(), reference::Refusal> {
     expected
 }
 
-/// Lists one minishard on both sides, into rooms of each length around the
-/// needed one.
-fn same_listing(rng: &mut Rng, sample: &Sample, minishard: u64) -> Result<(), u8> {
+/// Puts another specification, another number or both in place of the
+/// sample's; now and then it keeps its own.
+fn make_wild(rng: &mut Rng, sample: &mut Sample) {
+    if rng.once_in(2) {
+        sample.sharding = places::wild_sharding(rng);
+    }
+    sample.number = match rng.below(3) {
+        0 => sample.number,
+        1 => places::shard_number(rng, &sample.sharding),
+        _ => sample.number ^ 1 << rng.below(64),
+    };
+}
+
+/// Words that stand guard on each side of a listing's room.
+const GUARD: usize = 4;
+
+/// Lists one minishard on both sides into a room of this many numbers and
+/// compares all of them, and the guards, afterwards.
+fn same_writing(rng: &mut Rng, sample: &Sample, minishard: u64, room: usize) -> Result<usize, u8> {
     let Sample {
         sharding,
         number,
         file,
     } = sample;
-    let expected = shard::list_minishard(sharding, *number, file, minishard);
-    let counted = expected.as_ref().map(|entries| entries.len() as u64);
-    let shard = open(sample);
-    assert_eq!(
-        shard.listed_count(minishard),
-        answer(counted.map_err(|number| *number)),
-        "{sample:?} {minishard}"
+    let mut ours: Vec<u64> = (0..GUARD + room + GUARD).map(|_| rng.bits()).collect();
+    let mut theirs = ours.clone();
+    let place = GUARD..GUARD + room;
+    let expected = shard::write_listing(
+        sharding,
+        *number,
+        file,
+        minishard,
+        &mut theirs[place.clone()],
     );
-    let numbers = expected.map(|entries| {
-        let three = |entry: &shard::Entry| [entry.id, entry.start, entry.length];
-        entries.iter().flat_map(three).collect::<Vec<u64>>()
-    });
-    let needed = numbers.as_ref().map_or(6, Vec::len);
-    for room in needed.saturating_sub(4)..needed + 2 {
-        let before: Vec<u64> = (0..room + 4).map(|_| rng.bits()).collect();
-        let mut after = before.clone();
-        let result = shard.write_listing(minishard, &mut after[2..room + 2]);
-        let mut wanted = before;
-        let expected = numbers
-            .as_ref()
-            .map_err(|number| *number)
-            .and_then(|numbers| {
-                let place = wanted[2..room + 2].get_mut(..numbers.len()).ok_or(13)?;
-                place.copy_from_slice(numbers);
-                Ok(numbers.len())
-            });
-        assert_eq!(result, answer(expected), "{sample:?} {minishard}");
-        assert_eq!(after, wanted);
-    }
-    numbers.map(|_| ())
+    assert_eq!(
+        open(sample).write_listing(minishard, &mut ours[place]),
+        answer(expected),
+        "{sample:?} {minishard} {room}"
+    );
+    assert_eq!(ours, theirs, "{sample:?} {minishard} {room}");
+    expected
 }
 
+/// Counts what one minishard lists, and lists it into rooms of each length
+/// around the needed one, on both sides.
+fn same_listing(rng: &mut Rng, met: &mut Met, sample: &Sample, minishard: u64) {
+    let expected = shard::list_minishard(&sample.sharding, sample.number, &sample.file, minishard)
+        .map(|entries| entries.len() as u64);
+    assert_eq!(
+        open(sample).listed_count(minishard),
+        answer(expected),
+        "{sample:?} {minishard}"
+    );
+    let needed = 3 * expected.unwrap_or(2) as usize;
+    for room in needed.saturating_sub(4)..needed + 4 {
+        met.note(&same_writing(rng, sample, minishard, room));
+    }
+    met.note(&same_writing(rng, sample, minishard, 0));
+}
+
+/// Sound and damaged shards, and ones under another specification or number;
+/// the minishard number is often beyond the count.
 #[test]
 fn listings() {
     let mut rng = Rng::new(6);
     let mut met = Met::new();
     for _ in 0..SAMPLES {
-        let sample = if rng.once_in(3) {
+        let mut sample = if rng.once_in(3) {
             shards::sound(&mut rng, 12)
         } else {
             shards::damaged(&mut rng, 8)
         };
-        let minishard = rng.below(sample.sharding.minishard_count());
-        met.note(&same_listing(&mut rng, &sample, minishard));
+        if rng.once_in(3) {
+            make_wild(&mut rng, &mut sample);
+        }
+        let minishard = places::minishard_number(&mut rng, &sample.sharding);
+        same_listing(&mut rng, &mut met, &sample, minishard);
     }
-    met.assert_exactly(&[0, 6, 7, 8, 9, 10, 11]);
+    met.assert_exactly(&[0, 1, 5, 6, 7, 8, 9, 10, 11, 13]);
 }
 
 #[test]
@@ -150,14 +175,7 @@ fn wild_specifications_and_numbers() {
     let (mut lookups, mut checks) = (Met::new(), Met::new());
     for _ in 0..SAMPLES {
         let mut sample = shards::sound(&mut rng, 4);
-        if rng.once_in(2) {
-            sample.sharding = places::wild_sharding(&mut rng);
-        }
-        sample.number = match rng.below(3) {
-            0 => sample.number,
-            1 => places::shard_number(&mut rng, &sample.sharding),
-            _ => sample.number ^ 1 << rng.below(64),
-        };
+        make_wild(&mut rng, &mut sample);
         checks.note(&same_check(&sample).map_err(|refusal| refusal.number));
         let id = shards::question(&mut rng, &sample);
         lookups.note(&same_lookup(&sample, id));
@@ -168,6 +186,37 @@ fn wild_specifications_and_numbers() {
     for number in [0, 1, 5, 6, 10, 12] {
         assert!(lookups.numbers().contains(&number), "{number} in lookups");
     }
+}
+
+/// Each front of a small sound shard, from the whole file down to nothing.
+/// The bytes behind the front stay in memory, so that reading on would find
+/// what the whole file says.
+#[test]
+fn truncations_at_every_length() {
+    let mut rng = Rng::new(8);
+    let (mut lookups, mut checks) = (Met::new(), Met::new());
+    let mut shards = 0;
+    while shards < 1_000 {
+        let mut sample = shards::sound(&mut rng, 8);
+        if sample.file.len() > 700 {
+            continue;
+        }
+        shards += 1;
+        let listed = shard::list(&sample.sharding, sample.number, &sample.file)
+            .expect("the sample is sound");
+        for length in (0..=sample.file.len()).rev() {
+            sample.file.truncate(length);
+            checks.note(&same_check(&sample));
+            let id = if listed.is_empty() {
+                shards::question(&mut rng, &sample)
+            } else {
+                rng.pick(&listed).id
+            };
+            lookups.note(&same_lookup(&sample, id));
+        }
+    }
+    checks.assert_exactly(&[0, 6, 7, 11]);
+    lookups.assert_exactly(&[0, 5, 6, 7, 11, 12]);
 }
 
 #[test]

@@ -150,19 +150,39 @@ fn judged_minishard(
     Ok(raw.iter().map(entry).collect())
 }
 
-/// What one minishard lists, in stored order, or 1, 5, 6, then 7 to 11 of it.
-/// A minishard that the specification does not have lists nothing.
+/// What one minishard lists, in stored order, or 1, 5 where there is no such
+/// shard or minishard, 6, then 7 to 11 of it.
 pub fn list_minishard(
     sharding: &Sharding,
     number: u64,
     file: &[u8],
     minishard: u64,
 ) -> Result<Vec<Entry>, u8> {
-    open(sharding, number, file)?;
-    if minishard >= sharding.minishard_count() {
-        return Ok(Vec::new());
+    sharding.allowed()?;
+    if number >= sharding.shard_count() || minishard >= sharding.minishard_count() {
+        return Err(5);
     }
+    length_allowed(sharding, file)?;
     judged_minishard(sharding, number, file, minishard)
+}
+
+/// Writes id, start and length of each chunk that one minishard lists, in
+/// stored order, to the front of `out` and gives how many numbers these are,
+/// or the refusals of [`list_minishard`], then 13.
+pub fn write_listing(
+    sharding: &Sharding,
+    number: u64,
+    file: &[u8],
+    minishard: u64,
+    out: &mut [u64],
+) -> Result<usize, u8> {
+    let numbers: Vec<u64> = list_minishard(sharding, number, file, minishard)?
+        .iter()
+        .flat_map(|entry| [entry.id, entry.start, entry.length])
+        .collect();
+    let front = out.get_mut(..numbers.len()).ok_or(13)?;
+    front.copy_from_slice(&numbers);
+    Ok(numbers.len())
 }
 
 /// What a sound shard lists, by minishard and then in stored order, or the
@@ -281,6 +301,34 @@ mod tests {
         assert_eq!(lookup(&two, 1, 4, &[]), Err(5));
         assert_eq!(lookup(&two, 0, 4, &file[..31]), Err(6));
         assert_eq!(check(&ONE, 0, &file[..31]), Err(Refusal::bare(6)));
+    }
+
+    #[test]
+    fn listings_test_the_minishard_number_with_the_shard_number() {
+        let file = example();
+        let bad = Sharding {
+            minishard_bits: 13,
+            ..ONE
+        };
+        assert_eq!(list_minishard(&bad, 1, &[], 2), Err(1));
+        for (number, minishard) in [(0, 2), (0, 1 << 32), (0, u64::MAX), (1, 0), (1, 2)] {
+            assert_eq!(list_minishard(&ONE, number, &[], minishard), Err(5));
+            assert_eq!(list_minishard(&ONE, number, &file, minishard), Err(5));
+        }
+        assert_eq!(list_minishard(&ONE, 0, &[], 1), Err(6));
+        assert_eq!(list_minishard(&ONE, 0, &file, 1), Ok(Vec::new()));
+    }
+
+    #[test]
+    fn a_listing_is_written_whole_or_not_at_all() {
+        let file = example();
+        let mut out = [7; 7];
+        assert_eq!(write_listing(&ONE, 0, &file, 2, &mut []), Err(5));
+        assert_eq!(write_listing(&ONE, 0, &file, 1, &mut []), Ok(0));
+        assert_eq!(write_listing(&ONE, 0, &file, 0, &mut out[..5]), Err(13));
+        assert_eq!(out, [7; 7]);
+        assert_eq!(write_listing(&ONE, 0, &file, 0, &mut out), Ok(6));
+        assert_eq!(out, [4, 32, 2, 10, 34, 3, 7]);
     }
 
     #[test]

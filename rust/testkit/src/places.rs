@@ -138,7 +138,18 @@ pub fn wild_sharding(rng: &mut Rng) -> Sharding {
 
 /// A shard number: mostly one that the specification has, else near its end.
 pub fn shard_number(rng: &mut Rng, sharding: &Sharding) -> u64 {
-    let count = 1u64.checked_shl(sharding.shard_bits.into()).unwrap_or(0);
+    number_of_bits(rng, sharding.shard_bits)
+}
+
+/// A minishard number: mostly one that the specification has, else near its
+/// end.
+pub fn minishard_number(rng: &mut Rng, sharding: &Sharding) -> u64 {
+    number_of_bits(rng, sharding.minishard_bits)
+}
+
+/// A number, mostly of at most these bits, else near the first one of more.
+fn number_of_bits(rng: &mut Rng, bits: u8) -> u64 {
+    let count = 1u64.checked_shl(bits.into()).unwrap_or(0);
     match rng.below(6) {
         0 => count,
         1 => count.wrapping_add(rng.edge_u64()),

@@ -98,6 +98,99 @@ pub fn content(rng: &mut Rng, sharding: &Sharding, number: u64, most: usize) -> 
         .collect()
 }
 
+/// How one content differs from another.
+#[derive(Clone, Copy, Debug, PartialEq, Eq, Hash, PartialOrd, Ord)]
+pub enum Difference {
+    /// A chunk has another id.
+    Id,
+    /// A byte of a chunk is another one.
+    Byte,
+    /// A chunk is longer or shorter by some bytes at its end.
+    Size,
+    /// One more id is listed.
+    Added,
+    /// One id fewer is listed.
+    Removed,
+}
+
+impl Difference {
+    /// All of them.
+    pub const ALL: [Difference; 5] = [
+        Difference::Id,
+        Difference::Byte,
+        Difference::Size,
+        Difference::Added,
+        Difference::Removed,
+    ];
+}
+
+/// An id of this shard that the content does not list, often the neighbour of
+/// one that it lists, where the search finds one.
+fn unlisted(rng: &mut Rng, sharding: &Sharding, number: u64, content: &Content) -> Option<u64> {
+    let near = listed(rng, content).map(|id| id.wrapping_add(1 + rng.below(4)));
+    near.filter(|id| rng.once_in(2) && sharding.place(*id).shard == number)
+        .or_else(|| id(rng, sharding, number))
+        .filter(|id| !content.contains_key(id))
+}
+
+/// One of the listed ids, where there are any.
+fn listed(rng: &mut Rng, content: &Content) -> Option<u64> {
+    let ids: Vec<u64> = content.keys().copied().collect();
+    (!ids.is_empty()).then(|| *rng.pick(&ids))
+}
+
+/// Makes a chunk one to three bytes longer, or shorter where it has them.
+fn resize(rng: &mut Rng, chunk: &mut Vec<u8>) {
+    let step = rng.within(1, 3) as usize;
+    if rng.once_in(2) && step <= chunk.len() {
+        chunk.truncate(chunk.len() - step);
+    } else {
+        // Zeros are what a lost length would most easily pass for.
+        let more = if rng.once_in(2) {
+            vec![0; step]
+        } else {
+            rng.bytes(step)
+        };
+        chunk.extend(more);
+    }
+}
+
+/// Content for the same shard that differs from this one in one respect;
+/// `None` where this content has nothing to differ in or no id was found.
+pub fn differing(
+    rng: &mut Rng,
+    sharding: &Sharding,
+    number: u64,
+    content: &Content,
+    difference: Difference,
+) -> Option<Content> {
+    let mut other = content.clone();
+    match difference {
+        Difference::Id => {
+            let new = unlisted(rng, sharding, number, content)?;
+            let chunk = other.remove(&listed(rng, content)?)?;
+            other.insert(new, chunk);
+        }
+        Difference::Byte => {
+            let chunk = other.get_mut(&listed(rng, content)?)?;
+            let at = rng.index(chunk.len().max(1));
+            *chunk.get_mut(at)? ^= 1 << rng.below(8);
+        }
+        Difference::Size => {
+            let chunk = other.get_mut(&listed(rng, content)?)?;
+            resize(rng, chunk);
+        }
+        Difference::Added => {
+            let new = unlisted(rng, sharding, number, content)?;
+            other.insert(new, chunk(rng));
+        }
+        Difference::Removed => {
+            other.remove(&listed(rng, content)?)?;
+        }
+    }
+    Some(other)
+}
+
 /// A minishard while it is laid out: its chunks in id order, the places given
 /// so far and the place of its index, counted from the end of the shard index.
 #[derive(Default)]
@@ -416,6 +509,37 @@ mod tests {
             chunks += content.len();
         }
         assert!(chunks > 10_000);
+    }
+
+    #[test]
+    fn differing_contents_differ_in_one_respect() {
+        let mut rng = Rng::new(6);
+        for difference in Difference::ALL {
+            let mut found = 0;
+            for _ in 0..2_000 {
+                let sharding = sharding(&mut rng);
+                let number = number(&mut rng, &sharding);
+                let content = content(&mut rng, &sharding, number, 12);
+                let Some(other) = differing(&mut rng, &sharding, number, &content, difference)
+                else {
+                    continue;
+                };
+                let kept = |one: &Content, other: &Content| {
+                    let same = |(id, chunk)| other.get(id) == Some(chunk);
+                    one.iter().filter(|entry| same(*entry)).count()
+                };
+                let lost = content.len() - kept(&content, &other);
+                let won = other.len() - kept(&other, &content);
+                let expected = match difference {
+                    Difference::Added => (0, 1),
+                    Difference::Removed => (1, 0),
+                    _ => (1, 1),
+                };
+                assert_eq!((lost, won), expected, "{difference:?}");
+                found += 1;
+            }
+            assert!(found > 1_000, "{difference:?} {found}");
+        }
     }
 
     #[test]

@@ -2,7 +2,7 @@
 
 mod plain;
 
-use crate::runner::{bytes, numbers, Measure};
+use crate::runner::{bytes, numbers, touched, Measure};
 use coronagamba::{Shard, Sharding};
 use reference::settle::settled_form;
 use std::hint::black_box;
@@ -78,7 +78,7 @@ fn checks(name: &str, sample: &Sample) {
 /// Settling, timed by KiB of output.
 fn settling(name: &str, sample: &Sample) {
     let length = sample.file.len();
-    let (mut ours, mut theirs) = (vec![0; length], vec![0; length]);
+    let (mut ours, mut theirs) = (touched(length), touched(length));
     let measure = Measure {
         name,
         operations: length >> 10,
@@ -90,18 +90,39 @@ fn settling(name: &str, sample: &Sample) {
             plain::settle(&sample.sharding, 0, file, black_box(&mut theirs)).unwrap_or(0) as u64
         },
     );
-    assert!(ours == theirs, "{name}: the bytes");
+    // The sample is settled, so its form is itself.
+    assert!(ours == sample.file, "{name}: the library's bytes");
+    assert!(theirs == sample.file, "{name}: the plain bytes");
+}
+
+/// Two MiB of chunks, which fit the caches, in many minishards and in one.
+fn small_shards() {
+    let short = sample(1, 9, 1 << 15, 64);
+    lookups("lookup, 64 chunks in the minishard", &short, 1 << 12);
+    checks("check, 64 in a minishard, a chunk", &short);
+    settling("settling, 2 MiB of 64 bytes, a KiB", &short);
+    let long = sample(0, 0, 1 << 15, 64);
+    lookups("lookup, 32768 chunks in the minishard", &long, 10);
+    checks("check, identity, a chunk", &long);
+}
+
+/// 256 MiB in a million chunks.
+fn many_chunks() {
+    let many = sample(1, 10, 1 << 20, 256);
+    lookups("lookup, 1024 chunks in the minishard", &many, 1 << 11);
+    checks("check, 2^20 chunks, a chunk", &many);
+    settling("settling, 2^20 of 256 bytes, a KiB", &many);
+}
+
+/// 512 MiB in chunks of 64 KiB.
+fn large_chunks() {
+    let large = sample(1, 6, 1 << 13, 1 << 16);
+    settling("settling, 512 MiB of 64 KiB, a KiB", &large);
 }
 
 /// Prints the lines.
 pub fn run() {
-    let short = sample(1, 9, 1 << 15, 64);
-    lookups("lookup, 64 chunks in the minishard", &short, 1 << 15);
-    checks("check, murmur, a chunk", &short);
-    settling("settling, chunks of 64 bytes, a KiB", &short);
-    let long = sample(0, 0, 1 << 15, 64);
-    lookups("lookup, 32768 chunks in the minishard", &long, 50);
-    checks("check, identity, a chunk", &long);
-    let large = sample(1, 6, 1 << 10, 1 << 16);
-    settling("settling, chunks of 64 KiB, a KiB", &large);
+    small_shards();
+    many_chunks();
+    large_chunks();
 }
