@@ -136,6 +136,20 @@ uint64_t coronagamba_settle(coronagamba_sharding sharding, uint64_t shard,
                             const uint8_t *file, size_t count, uint8_t *out,
                             size_t out_count, uint64_t *length);
 
+/* ---- deposit cards ------------------------------------------------------- */
+
+/* What a card of these bytes says: preshift, hash, minishard bits and shard
+ * bits; volume size, chunk size and voxel offset along x, y, z.
+ * Refusals: 14, 1, 2, 3 */
+uint64_t coronagamba_card_read(const uint8_t *bytes, size_t count,
+                               uint8_t sharding[4], uint32_t size[3],
+                               uint32_t chunk[3], int32_t offset[3]);
+
+/* Writes a card, of 46 or 61 bytes, to the front of out. Refusals: 1, 2, 3, 13 */
+uint64_t coronagamba_card_write(coronagamba_sharding sharding,
+                                coronagamba_volume volume, uint8_t *out,
+                                size_t count, uint64_t *length);
+
 /* ---- mesh manifests ------------------------------------------------------ */
 
 /* Whether the bytes are a sound manifest. Refusals: 15, 16, 17 */

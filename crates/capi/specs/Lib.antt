@@ -4,3 +4,4 @@ pub mod Cells
 pub mod Batch
 pub mod Shards
 pub mod Manifests
+pub mod Cards

@@ -1,7 +1,7 @@
 //! The deposit card.
 
 use crate::ffi;
-use crate::grid::Volume;
+use crate::grid::{Extents, Offset, Volume};
 use crate::refusal::{answer, Refusal};
 use crate::sharding::Sharding;
 
@@ -20,18 +20,36 @@ const MOST_CARD_BYTES: usize = 61;
 impl Card {
     /// Reads a card, or refusal 14, 1, 2 or 3.
     pub fn read(bytes: &[u8]) -> Result<Card, Refusal> {
-        let mut card = Card::default();
+        let (mut sharding, mut size, mut chunk) = ([0; 4], [0; 3], [0; 3]);
+        let mut offset = [0; 3];
         // SAFETY: pointer and length are those of one live slice, and the
         // results go to live values.
         answer(unsafe {
             ffi::coronagamba_card_read(
                 bytes.as_ptr(),
                 bytes.len(),
-                &mut card.sharding,
-                &mut card.volume,
+                &mut sharding,
+                &mut size,
+                &mut chunk,
+                &mut offset,
             )
         })?;
-        Ok(card)
+        let [preshift, hash, minishard_bits, shard_bits] = sharding;
+        let extents = |[x, y, z]: [u32; 3]| Extents { x, y, z };
+        let [x, y, z] = offset;
+        Ok(Card {
+            sharding: Sharding {
+                preshift,
+                hash,
+                minishard_bits,
+                shard_bits,
+            },
+            volume: Volume {
+                size: extents(size),
+                chunk: extents(chunk),
+                offset: Offset { x, y, z },
+            },
+        })
     }
 
     /// Writes the card to the front of `out` and gives its length, or refusal

@@ -125,16 +125,18 @@ extern "C" {
 extern "C" {
     pub fn coronagamba_card_read(
         bytes: *const u8,
-        length: usize,
-        sharding: *mut Sharding,
-        volume: *mut Volume,
+        count: usize,
+        sharding: *mut [u8; 4],
+        size: *mut [u32; 3],
+        chunk: *mut [u32; 3],
+        offset: *mut [i32; 3],
     ) -> u64;
     pub fn coronagamba_card_write(
         sharding: Sharding,
         volume: Volume,
         out: *mut u8,
-        out_length: usize,
-        card_length: *mut u64,
+        count: usize,
+        length: *mut u64,
     ) -> u64;
 }
 

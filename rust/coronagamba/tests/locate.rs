@@ -101,6 +101,57 @@ fn a_long_input() {
     assert!(run(&long) == reference::locate::locate(&long));
 }
 
+/// An input with an offset and three cells, one of them outside the grid.
+fn small_input(offset: [i32; 3]) -> Vec<u8> {
+    let card = Card {
+        sharding: reference::sharding::Sharding {
+            preshift: 1,
+            hash: 1,
+            minishard_bits: 3,
+            shard_bits: 9,
+        },
+        volume: reference::grid::Volume {
+            size: [1000, 70, 65],
+            chunk: [64, 64, 64],
+            offset,
+        },
+    };
+    let bytes = card::to_bytes(&card).expect("an allowed card");
+    let mut input = (bytes.len() as u16).to_le_bytes().to_vec();
+    input.extend(bytes);
+    for number in [15, 1, 1, 16, 0, 0, 3, 1, 0u32] {
+        input.extend(number.to_le_bytes());
+    }
+    input
+}
+
+/// Every beginning of two inputs, the empty one among them.
+#[test]
+fn cut_inputs_at_every_length() {
+    for offset in [[0; 3], [-64, 7, i32::MIN]] {
+        let whole = small_input(offset);
+        for length in 0..=whole.len() {
+            let input = &whole[..length];
+            assert_eq!(run(input), reference::locate::locate(input), "{length}");
+        }
+    }
+}
+
+/// Every card length with enough bytes behind it: only 46 and 61 are a card's.
+#[test]
+fn other_card_lengths() {
+    for length in (0..200).chain([255, 256, 257, 1000, u16::MAX]) {
+        let mut input = length.to_le_bytes().to_vec();
+        input.extend(&small_input([0; 3])[2..]);
+        input.resize(2 + usize::from(length) + 24, 0);
+        let expected = reference::locate::locate(&input);
+        assert_eq!(run(&input), expected, "{length}");
+        if length != 46 {
+            assert_eq!(expected, b"refused 14\n");
+        }
+    }
+}
+
 #[test]
 fn the_case_of_the_paper() {
     let card = Card {

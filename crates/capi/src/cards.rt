@@ -1,0 +1,90 @@
+// Deposit cards.
+ghost use mathlib.Core.Path.{_≡_};
+ghost use mathlib.Core.List.{[], _∷_};
+ghost use Rattle.sharding.specs.Specification.{minishardBits, shardBits};
+ghost use Rattle.card.specs.Answers.{readAnswer, writeAnswer, writeLeft};
+ghost use Rattle.capi.specs.Word.{writtenWord, lengthAfter};
+ghost use Rattle.capi.specs.Cards.{cardWord, shardingAfter, volumeAfter, chunkAfter, offsetAfter};
+use card::Card;
+use card::CardAnswer;
+use endian::Written;
+use grid::Extents;
+use grid::Offset;
+use grid::Volume;
+use sharding::Sharding;
+
+fn four(spec: Sharding) -> [u8; 4]
+    ensures { λ r. ⌜ r ≡ spec .preshift ∷ spec .hash ∷ minishardBits spec ∷ shardBits spec ∷ [] ⌝ }
+{
+    [
+        spec.preshift,
+        spec.hash,
+        spec.minishard_bits,
+        spec.shard_bits,
+    ]
+}
+
+fn three_extents(e: Extents) -> [u32; 3]
+    ensures { λ r. ⌜ r ≡ e .x ∷ e .y ∷ e .z ∷ [] ⌝ }
+{
+    [e.x, e.y, e.z]
+}
+
+fn three_offsets(o: Offset) -> [i32; 3]
+    ensures { λ r. ⌜ r ≡ o .x ∷ o .y ∷ o .z ∷ [] ⌝ }
+{
+    [o.x, o.y, o.z]
+}
+
+#[no_mangle]
+pub extern "C" fn coronagamba_card_read(
+    bytes: &[u8],
+    spec: &mut [u8; 4],
+    size: &mut [u32; 3],
+    chunk: &mut [u32; 3],
+    offset: &mut [i32; 3],
+) -> u64
+    ensures answer { λ r. ⌜ r ≡ cardWord (readAnswer (now (bytes .entry))) ⌝ }
+    ensures spec { λ _. ⌜ now (spec .exit) ≡ shardingAfter (readAnswer (now (bytes .entry))) (now (spec .entry)) ⌝ }
+    ensures size { λ _. ⌜ now (size .exit) ≡ volumeAfter (readAnswer (now (bytes .entry))) (now (size .entry)) ⌝ }
+    ensures chunk { λ _. ⌜ now (chunk .exit) ≡ chunkAfter (readAnswer (now (bytes .entry))) (now (chunk .entry)) ⌝ }
+    ensures offset { λ _. ⌜ now (offset .exit) ≡ offsetAfter (readAnswer (now (bytes .entry))) (now (offset .entry)) ⌝ }
+{
+    match card::read_card(bytes) {
+        CardAnswer::Says(card) => {
+            let volume = card.volume;
+            *spec = four(card.sharding);
+            *size = three_extents(volume.size);
+            *chunk = three_extents(volume.chunk);
+            *offset = three_offsets(volume.offset);
+            0
+        }
+        CardAnswer::Refused(refusal) => refusal as u64,
+    }
+}
+
+#[no_mangle]
+pub extern "C" fn coronagamba_card_write(
+    spec: Sharding,
+    volume: Volume,
+    out: &mut [u8],
+    written: &mut u64,
+) -> u64
+    ensures answer { λ r. ⌜ r ≡ writtenWord (writeAnswer (record { sharding = spec; volume = volume }) (now (out .entry))) ⌝ }
+    ensures out { λ _. ⌜ now (out .exit) ≡ writeLeft (record { sharding = spec; volume = volume }) (now (out .entry)) ⌝ }
+    ensures written { λ _. ⌜ now (written .exit) ≡ lengthAfter (writeAnswer (record { sharding = spec; volume = volume }) (now (out .entry))) (now (written .entry)) ⌝ }
+{
+    match card::write_card(
+        Card {
+            sharding: spec,
+            volume,
+        },
+        out,
+    ) {
+        Written::Length(n) => {
+            *written = n as u64;
+            0
+        }
+        Written::Refused(refusal) => refusal as u64,
+    }
+}

@@ -1,0 +1,314 @@
+-- The laws of a card: what is written is read back, what is read is what is written, and one meaning has one card.
+use Prim.Native.Nat.{ℕ, suc, _+_, _^_, _≤_, _<_}
+use mathlib.Core.Path.{_≡_, refl, sym, ap, ap₂, _∙_}
+use mathlib.Core.Bool.{Bool, true, false, not, _&&_}
+use mathlib.Core.Logic.{_⊎_, inl, inr}
+use mathlib.Core.List.{List, [], _∷_, _++_, append-assoc, append-nil}
+use native.Mathlib.Omega.{arith}
+use borrow.Author.Tests.{eqb-true, eq-eqb, ne-eqb, not-true}
+use lib.Dec.{eqb}
+use lib.IntN.{ℤ, pos, negsuc}
+use lib.ListN.{length, getD, take, drop, take-append-drop, drop-of-length-le}
+use lib.Seq.{drop-cons, drop-drop, take-add, take-append-seam}
+use Rattle.endian.specs.Choice.{pick}
+use Rattle.endian.specs.Little.{le, leAt}
+use Rattle.endian.specs.declared.Written.the-variants.{Length}
+use Rattle.endian.proofs.Little.{leAt-le, le-leAt, leAt-bound}
+use Rattle.endian.proofs.Copy.{part-length}
+use Rattle.endian.proofs.Buffer.{written-fits, leftBy-fits}
+use Rattle.grid.specs.declared.Offset.{Offset}
+use Rattle.grid.specs.Grid.{InU32, gridOf, zeroExtent}
+use Rattle.grid.specs.Key.{tooManyBits}
+use Rattle.sharding.specs.Specification.{allowed}
+use Rattle.grid.proofs.Ways.{both}
+use Rattle.card.specs.declared.Card.{Card}
+use Rattle.card.specs.declared.CardAnswer.the-variants.{Says, Refused}
+use Rattle.card.specs.Layout.{head, field, oneByte, three, bits32, shardingBytes, extentsBytes, isZero, noOffset, offsetTag, offsetBytes, volumeBytes, cardBytes, InI32, Ranged, Bytes}
+use Rattle.card.specs.Reading.{signed32, fieldAt, sixFields, extentsAt, offsetAt, offsetField, wellFormed, shardingIn, zeros, offsetIn, volumeIn, cardIn}
+use Rattle.card.specs.Answers.{fault, readAnswer, writeAnswer, writeLeft}
+use Rattle.card.proofs.Words.{bits-signed, signed-bits, bits-below, signed-in}
+use Rattle.card.proofs.Parsing.{formed-length}
+
+-- ---- the bytes of a record are read back as the record
+
+zero-is : (z : ℤ) → isZero z ≡ true → pos 0 ≡ z
+unfolding isZero
+zero-is (pos n) e = ap pos (sym (eqb-true n 0 e))
+zero-is (negsuc n) e = let z : _≡_ {A = ℕ} 0 1 = cc in absurd (omega arith)
+
+none-is : (o : Offset) → noOffset o ≡ true → zeros ≡ o
+unfolding noOffset
+none-is o e =
+    let p = both (isZero (o .x)) (isZero (o .y) && isZero (o .z)) e in
+    let q = both (isZero (o .y)) (isZero (o .z)) (p .1) in
+    let px = zero-is (o .x) (p .0) in
+    let py = zero-is (o .y) (q .0) in
+    let pz = zero-is (o .z) (q .1) in
+    λ i. record { x = px i; y = py i; z = pz i }
+
+-- a card's bytes, by whether the offset is absent
+unfoldable bytesBy : Bool → Card → List ℕ
+bytesBy b c =
+    shardingBytes (c .sharding)
+    ++ (extentsBytes 5 (c .volume .size) ++ (extentsBytes 6 (c .volume .chunk) ++ pick b [] (offsetTag (c .volume .offset))))
+
+number : (n : ℕ) → n < 2 ^ 32 → leAt 4 (le 4 n ++ []) 0 ≡ n
+number n h = leAt-le 4 n [] h
+
+signed-number : (z : ℤ) → InI32 z → signed32 (leAt 4 (le 4 (bits32 z) ++ []) 0) ≡ z
+signed-number z h = ap signed32 (number (bits32 z) (bits-below z h)) ∙ signed-bits z h
+
+offset-back : (c : Card) → Ranged c → offsetAt (bytesBy false c) 49 ≡ c .volume .offset
+unfolding offsetAt bytesBy shardingBytes extentsBytes offsetTag oneByte field head three le leAt
+offset-back c r =
+    let px = signed-number (c .volume .offset .x) (r .x) in
+    let py = signed-number (c .volume .offset .y) (r .y) in
+    let pz = signed-number (c .volume .offset .z) (r .z) in
+    λ i. record { x = px i; y = py i; z = pz i }
+
+formed-back : (b : Bool) (c : Card) → Ranged c → noOffset (c .volume .offset) ≡ b → wellFormed (bytesBy b c) ≡ true
+unfolding wellFormed sixFields offsetField fieldAt bytesBy shardingBytes extentsBytes offsetTag oneByte field head three le leAt
+formed-back true c r e = refl
+formed-back false c r e = ap (λ (o : Offset). not (noOffset o)) (offset-back c r) ∙ ap not e
+
+size-back : (b : Bool) (c : Card) → Ranged c → extentsAt (bytesBy b c) 19 ≡ c .volume .size
+unfolding extentsAt bytesBy shardingBytes extentsBytes oneByte field head three le leAt
+size-back b c r =
+    let px = number (c .volume .size .x) (r .size .x) in
+    let py = number (c .volume .size .y) (r .size .y) in
+    let pz = number (c .volume .size .z) (r .size .z) in
+    λ i. record { x = px i; y = py i; z = pz i }
+
+chunk-back : (b : Bool) (c : Card) → Ranged c → extentsAt (bytesBy b c) 34 ≡ c .volume .chunk
+unfolding extentsAt bytesBy shardingBytes extentsBytes oneByte field head three le leAt
+chunk-back b c r =
+    let px = number (c .volume .chunk .x) (r .chunk .x) in
+    let py = number (c .volume .chunk .y) (r .chunk .y) in
+    let pz = number (c .volume .chunk .z) (r .chunk .z) in
+    λ i. record { x = px i; y = py i; z = pz i }
+
+sharding-back : (b : Bool) (c : Card) → shardingIn (bytesBy b c) ≡ c .sharding
+unfolding shardingIn bytesBy shardingBytes oneByte field head le
+sharding-back b c = refl
+
+offset-in-back : (b : Bool) (c : Card) → Ranged c → noOffset (c .volume .offset) ≡ b → offsetIn (bytesBy b c) ≡ c .volume .offset
+unfolding offsetIn bytesBy shardingBytes extentsBytes offsetTag oneByte field head three le
+offset-in-back true c r e = none-is (c .volume .offset) e
+offset-in-back false c r e = offset-back c r
+
+card-back : (b : Bool) (c : Card) → Ranged c → noOffset (c .volume .offset) ≡ b → cardIn (bytesBy b c) ≡ c
+unfolding cardIn volumeIn
+card-back b c r e =
+    let p = sharding-back b c in
+    let q = size-back b c r in
+    let s = chunk-back b c r in
+    let t = offset-in-back b c r e in
+    λ i. record { sharding = p i; volume = record { size = q i; chunk = s i; offset = t i } }
+
+bytes-by : (c : Card) → cardBytes c ≡ bytesBy (noOffset (c .volume .offset)) c
+unfolding cardBytes volumeBytes offsetBytes bytesBy
+bytes-by c = refl
+
+-- a card has 46 or 61 bytes
+length-by : (b : Bool) (c : Card) → (length (bytesBy b c) ≡ 46) ⊎ (length (bytesBy b c) ≡ 61)
+unfolding bytesBy shardingBytes extentsBytes offsetTag oneByte field head three le
+length-by true c = inl refl
+length-by false c = inr refl
+
+pub card-length : (c : Card) → (length (cardBytes c) ≡ 46) ⊎ (length (cardBytes c) ≡ 61)
+card-length c = rw (bytes-by c) (length-by (noOffset (c .volume .offset)) c)
+
+module _ (c : Card) (r : Ranged c) where
+  pub formed-bytes : wellFormed (cardBytes c) ≡ true
+  formed-bytes = rw (bytes-by c) (formed-back (noOffset (c .volume .offset)) c r refl)
+
+  pub card-bytes-say : cardIn (cardBytes c) ≡ c
+  card-bytes-say = ap cardIn (bytes-by c) ∙ card-back (noOffset (c .volume .offset)) c r refl
+
+  -- reading what was written gives the record back
+  pub reads-back : fault c ≡ 0 → readAnswer (cardBytes c) ≡ Says c
+  unfolding readAnswer
+  reads-back e = rw (formed-bytes, card-bytes-say, e)
+
+  pub written-reads-back : (out : List ℕ) → fault c ≡ 0 → length (cardBytes c) ≤ length out
+      → (writeAnswer c out ≡ Length (length (cardBytes c))) × (readAnswer (take (length (cardBytes c)) (writeLeft c out)) ≡ Says c)
+  unfolding writeAnswer writeLeft
+  written-reads-back out e h = (
+    rw e (written-fits (cardBytes c) out h),
+    rw (e, leftBy-fits (cardBytes c) out h, take-append-seam (cardBytes c) (drop (length (cardBytes c)) out)) (reads-back e),
+  )
+
+-- ---- bytes that are read are those of the record
+
+split : (s : List ℕ) (p k : ℕ) → drop p s ≡ take k (drop p s) ++ drop (p + k) s
+split s p k = sym (take-append-drop k (drop p s)) ∙ ap (λ (l : List ℕ). take k (drop p s) ++ l) (drop-drop k p s)
+
+module _ (s : List ℕ) (bs : Bytes s) where
+  field-from : (tag k p : ℕ) (body : List ℕ) → fieldAt tag k s p ≡ true → take k (drop (p + 3) s) ≡ body → p + (3 + k) ≤ length s
+      → drop p s ≡ field tag body ++ drop (p + (3 + k)) s
+  unfolding fieldAt field head
+  field-from tag k p body e t h =
+      let q = both (eqb (getD s p 0) tag) (eqb (leAt 2 s (p + 1)) k) e in
+      let a : getD s p 0 ≡ tag = eqb-true (getD s p 0) tag (q .0) in
+      let b : leAt 2 s (p + 1) ≡ k = eqb-true (leAt 2 s (p + 1)) k (q .1) in
+      let n : length body ≡ k = sym (ap length t) ∙ part-length s (p + 3) k (omega arith) in
+      let f : take 2 (drop (p + 1) s) ≡ le 2 k = sym (le-leAt 2 s (p + 1) bs (omega arith)) ∙ ap (le 2) b in
+      let i : suc p ≡ p + 1 = omega arith in
+      let j : p + 1 + 2 ≡ p + 3 = omega arith in
+      let m : p + 3 + k ≡ p + (3 + k) = omega arith in
+      let r = drop (p + (3 + k)) s in
+      let g : drop (p + 3) s ≡ body ++ r = split s (p + 3) k ∙ ap₂ _++_ t (ap (λ (x : ℕ). drop x s) m) in
+      let d : drop (p + 1) s ≡ le 2 k ++ (body ++ r) = split s (p + 1) 2 ∙ ap₂ _++_ f (ap (λ (x : ℕ). drop x s) j ∙ g) in
+      drop-cons s p 0 (omega arith) ∙ ap₂ _∷_ a (ap (λ (x : ℕ). drop x s) i ∙ d)
+      ∙ ap (λ (l : List ℕ). tag ∷ l) (sym (append-assoc (le 2 k) body r))
+      ∙ ap (λ (x : ℕ). tag ∷ ((le 2 x ++ body) ++ r)) (sym n)
+
+  one-from : (tag p : ℕ) → fieldAt tag 1 s p ≡ true → p + 4 ≤ length s → drop p s ≡ oneByte tag (getD s (p + 3) 0) ++ drop (p + 4) s
+  unfolding oneByte
+  one-from tag p e h =
+      field-from tag 1 p (getD s (p + 3) 0 ∷ []) e (ap (take 1) (drop-cons s (p + 3) 0 (omega arith))) (omega arith)
+
+  three-from : (p : ℕ) → p + 12 ≤ length s → take 12 (drop p s) ≡ three (leAt 4 s p) (leAt 4 s (p + 4)) (leAt 4 s (p + 8))
+  unfolding three
+  three-from p h =
+      let i : p + 4 + 4 ≡ p + 8 = omega arith in
+      let z : take 4 (drop 4 (drop (p + 4) s)) ≡ le 4 (leAt 4 s (p + 8)) =
+      ap (take 4) (drop-drop 4 (p + 4) s ∙ ap (λ (x : ℕ). drop x s) i) ∙ sym (le-leAt 4 s (p + 8) bs (omega arith)) in
+      let y : take 8 (drop 4 (drop p s)) ≡ le 4 (leAt 4 s (p + 4)) ++ le 4 (leAt 4 s (p + 8)) =
+      ap (take 8) (drop-drop 4 p s) ∙ take-add 4 4 (drop (p + 4) s) ∙ ap₂ _++_ (sym (le-leAt 4 s (p + 4) bs (omega arith))) z in
+      take-add 4 8 (drop p s) ∙ ap₂ _++_ (sym (le-leAt 4 s p bs (omega arith))) y
+
+  extents-from : (tag p : ℕ) → fieldAt tag 12 s p ≡ true → p + 15 ≤ length s → drop p s ≡ extentsBytes tag (extentsAt s (p + 3)) ++ drop (p + 15) s
+  unfolding extentsBytes extentsAt
+  extents-from tag p e h =
+      field-from tag 12 p (three (leAt 4 s (p + 3)) (leAt 4 s (p + 3 + 4)) (leAt 4 s (p + 3 + 8))) e (three-from (p + 3) (omega arith)) (omega arith)
+
+  bits-from : (p : ℕ) → bits32 (signed32 (leAt 4 s p)) ≡ leAt 4 s p
+  bits-from p = bits-signed (leAt 4 s p) (leAt-bound 4 s p bs)
+
+  tag-from : (p : ℕ) → fieldAt 7 12 s p ≡ true → p + 15 ≤ length s → drop p s ≡ offsetTag (offsetAt s (p + 3)) ++ drop (p + 15) s
+  unfolding offsetTag offsetAt
+  tag-from p e h =
+      rw (bits-from (p + 3), bits-from (p + 3 + 4), bits-from (p + 3 + 8))
+      (field-from 7 12 p (three (leAt 4 s (p + 3)) (leAt 4 s (p + 3 + 4)) (leAt 4 s (p + 3 + 8))) e (three-from (p + 3) (omega arith)) (omega arith))
+
+  four-assoc : (a b c d r : List ℕ) → a ++ (b ++ (c ++ (d ++ r))) ≡ (a ++ (b ++ (c ++ d))) ++ r
+  four-assoc a b c d r = simp append-assoc
+
+  six-from : sixFields s ≡ true → 46 ≤ length s
+      → s ≡ shardingBytes (shardingIn s) ++ (extentsBytes 5 (extentsAt s 19) ++ (extentsBytes 6 (extentsAt s 34) ++ drop 46 s))
+  unfolding sixFields shardingBytes shardingIn
+  six-from e h =
+      let e1 = both (fieldAt 1 1 s 0) (fieldAt 2 1 s 4 && (fieldAt 3 1 s 8 && (fieldAt 4 1 s 12 && (fieldAt 5 12 s 16 && fieldAt 6 12 s 31)))) e in
+      let e2 = both (fieldAt 2 1 s 4) (fieldAt 3 1 s 8 && (fieldAt 4 1 s 12 && (fieldAt 5 12 s 16 && fieldAt 6 12 s 31))) (e1 .1) in
+      let e3 = both (fieldAt 3 1 s 8) (fieldAt 4 1 s 12 && (fieldAt 5 12 s 16 && fieldAt 6 12 s 31)) (e2 .1) in
+      let e4 = both (fieldAt 4 1 s 12) (fieldAt 5 12 s 16 && fieldAt 6 12 s 31) (e3 .1) in
+      let e5 = both (fieldAt 5 12 s 16) (fieldAt 6 12 s 31) (e4 .1) in
+      let p5 : drop 16 s ≡ extentsBytes 5 (extentsAt s 19) ++ (extentsBytes 6 (extentsAt s 34) ++ drop 46 s) =
+      extents-from 5 16 (e5 .0) (omega arith) ∙ ap (λ (l : List ℕ). extentsBytes 5 (extentsAt s 19) ++ l) (extents-from 6 31 (e5 .1) (omega arith)) in
+      let p4 = one-from 4 12 (e4 .0) (omega arith) ∙ ap (λ (l : List ℕ). oneByte 4 (getD s 15 0) ++ l) p5 in
+      let p3 = one-from 3 8 (e3 .0) (omega arith) ∙ ap (λ (l : List ℕ). oneByte 3 (getD s 11 0) ++ l) p4 in
+      let p2 = one-from 2 4 (e2 .0) (omega arith) ∙ ap (λ (l : List ℕ). oneByte 2 (getD s 7 0) ++ l) p3 in
+      one-from 1 0 (e1 .0) (omega arith) ∙ ap (λ (l : List ℕ). oneByte 1 (getD s 3 0) ++ l) p2
+      ∙ four-assoc (oneByte 1 (getD s 3 0)) (oneByte 2 (getD s 7 0)) (oneByte 3 (getD s 11 0)) (oneByte 4 (getD s 15 0))
+      (extentsBytes 5 (extentsAt s 19) ++ (extentsBytes 6 (extentsAt s 34) ++ drop 46 s))
+
+  -- the end: no offset, or the seventh field
+  rest-none : length s ≡ 46 → drop 46 s ≡ offsetBytes (offsetIn s)
+  unfolding offsetIn offsetBytes noOffset isZero
+  rest-none h = rw (eq-eqb (length s) 46 h) (drop-of-length-le s {i = 46} (omega arith))
+
+  rest-some : length s ≡ 61 → offsetField s ≡ true → drop 46 s ≡ offsetBytes (offsetIn s)
+  unfolding offsetIn offsetBytes offsetField
+  rest-some h e =
+      let q = both (fieldAt 7 12 s 46) (not (noOffset (offsetAt s 49))) e in
+      let n : (length s ≡ 46 → ⊥) = λ (z : length s ≡ 46). omega arith in
+      let d : drop 61 s ≡ [] = drop-of-length-le s {i = 61} (omega arith) in
+      rw (ne-eqb (length s) 46 n, not-true (noOffset (offsetAt s 49)) (q .1))
+      (tag-from 46 (q .0) (omega arith) ∙ ap (λ (l : List ℕ). offsetTag (offsetAt s 49) ++ l) d ∙ append-nil (offsetTag (offsetAt s 49)))
+
+  rest-by : wellFormed s ≡ true → (length s ≡ 46) ⊎ (length s ≡ 61) → (sixFields s ≡ true) × (46 ≤ length s) × (drop 46 s ≡ offsetBytes (offsetIn s))
+  unfolding wellFormed
+  rest-by e (inl h) = (rw (eq-eqb (length s) 46 h) at e, omega arith, rest-none h)
+  rest-by e (inr h) =
+      let n : (length s ≡ 46 → ⊥) = λ (z : length s ≡ 46). omega arith in
+      let q = both (sixFields s) (offsetField s) (rw (ne-eqb (length s) 46 n, eq-eqb (length s) 61 h) at e) in
+      (q .0, omega arith, rest-some h (q .1))
+
+  -- bytes that are well formed are those of what they say
+  pub formed-is-bytes : wellFormed s ≡ true → s ≡ cardBytes (cardIn s)
+  unfolding cardBytes cardIn volumeBytes volumeIn
+  formed-is-bytes e =
+      let r = rest-by e (formed-length s e) in
+      six-from (r .0) (r .1)
+      ∙ ap (λ (l : List ℕ). shardingBytes (shardingIn s) ++ (extentsBytes 5 (extentsAt s 19) ++ (extentsBytes 6 (extentsAt s 34) ++ l))) (r .2)
+
+  in-u32 : (p : ℕ) → InU32 (extentsAt s p)
+  unfolding extentsAt
+  in-u32 p = record { x = leAt-bound 4 s p bs; y = leAt-bound 4 s (p + 4) bs; z = leAt-bound 4 s (p + 8) bs }
+
+  in-i32 : (b : Bool) (f : Offset → ℤ) → InI32 (f zeros) → InI32 (f (offsetAt s 49)) → InI32 (f (pick b zeros (offsetAt s 49)))
+  in-i32 true f p q = p
+  in-i32 false f p q = q
+
+  at-i32 : (p : ℕ) → InI32 (signed32 (leAt 4 s p))
+  at-i32 p = signed-in (leAt 4 s p) (leAt-bound 4 s p bs)
+
+  -- and what bytes say fits a card
+  pub said-ranged : Ranged (cardIn s)
+  unfolding cardIn volumeIn shardingIn offsetIn offsetAt
+  said-ranged = record {
+    preshift = bs 3;
+    hash = bs 7;
+    minishard = bs 11;
+    shard = bs 15;
+    size = in-u32 19;
+    chunk = in-u32 34;
+    x = in-i32 (eqb (length s) 46) (λ (o : Offset). o .x) (omega arith) (at-i32 49);
+    y = in-i32 (eqb (length s) 46) (λ (o : Offset). o .y) (omega arith) (at-i32 53);
+    z = in-i32 (eqb (length s) 46) (λ (o : Offset). o .z) (omega arith) (at-i32 57);
+  }
+
+-- ---- what reading answers
+
+picked-says : (w b : Bool) (c d : Card) (n : ℕ) → pick (not w) (Refused 14) (pick b (Says d) (Refused n)) ≡ Says c → (w ≡ true) × (d ≡ c)
+picked-says true true c d n e = (refl, cc)
+picked-says true false c d n e = let z : _≡_ {A = ℕ} 0 1 = cc in absurd (omega arith)
+picked-says false b c d n e = let z : _≡_ {A = ℕ} 0 1 = cc in absurd (omega arith)
+
+-- bytes that read as a record are exactly what writing that record gives
+pub read-is-written : (s : List ℕ) (c : Card) → Bytes s → readAnswer s ≡ Says c → s ≡ cardBytes c
+unfolding readAnswer
+read-is-written s c bs e =
+    let q = picked-says (wellFormed s) (eqb (fault (cardIn s)) 0) c (cardIn s) (fault (cardIn s)) e in
+    formed-is-bytes s bs (q .0) ∙ ap cardBytes (q .1)
+
+-- "one meaning has one card"
+pub one-card : (a b : List ℕ) (c : Card) → Bytes a → Bytes b → readAnswer a ≡ Says c → readAnswer b ≡ Says c → a ≡ b
+one-card a b c ba bb p q = read-is-written a c ba p ∙ sym (read-is-written b c bb q)
+
+-- a card is malformed exactly where it is the bytes of no record
+pub malformed-is-none : (s : List ℕ) → wellFormed s ≡ false → (c : Card) → Ranged c → s ≡ cardBytes c → ⊥
+malformed-is-none s e c r p =
+    let q : wellFormed s ≡ true = ap wellFormed p ∙ formed-bytes c r in
+    let z : _≡_ {A = ℕ} 0 1 = cc in omega arith
+
+picked-14 : (w b : Bool) (d : Card) (n : ℕ) → n ≤ 3 → pick (not w) (Refused 14) (pick b (Says d) (Refused n)) ≡ Refused 14 → w ≡ false
+picked-14 true true d n h e = let z : _≡_ {A = ℕ} 0 1 = cc in absurd (omega arith)
+picked-14 true false d n h e = let z : n ≡ 14 = cc in absurd (omega arith)
+picked-14 false b d n h e = refl
+
+fault-by : (a z b : Bool) → pick (not a) 1 (pick z 2 (pick b 3 0)) ≤ 3
+fault-by true true b = omega arith
+fault-by true false true = omega arith
+fault-by true false false = omega arith
+fault-by false z b = omega arith
+
+fault-most : (c : Card) → fault c ≤ 3
+unfolding fault
+fault-most c = fault-by (allowed (c .sharding)) (zeroExtent (c .volume)) (tooManyBits (gridOf (c .volume)))
+
+pub refused-14-is-none : (s : List ℕ) → readAnswer s ≡ Refused 14 → (c : Card) → Ranged c → s ≡ cardBytes c → ⊥
+unfolding readAnswer
+refused-14-is-none s e =
+    malformed-is-none s (picked-14 (wellFormed s) (eqb (fault (cardIn s)) 0) (cardIn s) (fault (cardIn s)) (fault-most (cardIn s)) e)

@@ -1,0 +1,90 @@
+-- The bytes of a deposit card (01, 'Deposit card').
+use Prim.Native.Nat.{ℕ, suc, _-_, _^_, _<_}
+use mathlib.Core.Bool.{Bool, false, _&&_}
+use mathlib.Core.List.{List, [], _∷_, _++_}
+use lib.Dec.{eqb}
+use lib.IntN.{ℤ, pos, negsuc}
+use lib.ListN.{length, getD}
+use Rattle.endian.specs.Choice.{pick}
+use Rattle.endian.specs.Little.{le}
+use Rattle.grid.specs.Grid.{InU32}
+use Rattle.grid.specs.declared.Extents.{Extents}
+use Rattle.grid.specs.declared.Offset.{Offset}
+use Rattle.grid.specs.declared.Volume.{Volume}
+use Rattle.sharding.specs.Specification.{minishardBits, shardBits}
+use Rattle.sharding.specs.declared.Sharding.{Sharding}
+use Rattle.card.specs.declared.Card.{Card}
+
+-- "a one-byte tag, a two-byte little-endian length"
+unfoldable pub head : ℕ → ℕ → List ℕ
+head tag n = tag ∷ le 2 n
+
+-- "and the body"
+unfoldable pub field : ℕ → List ℕ → List ℕ
+field tag body = head tag (length body) ++ body
+
+-- a field "one byte each"
+unfoldable pub oneByte : ℕ → ℕ → List ℕ
+oneByte tag n = field tag (n ∷ [])
+
+-- the body of a field of "three 32-bit little-endian numbers"
+unfoldable pub three : ℕ → ℕ → ℕ → List ℕ
+three x y z = le 4 x ++ (le 4 y ++ le 4 z)
+
+-- a signed number as a 32-bit number, by two's complement: a negative one, -(n+1), stands as 2^32 more
+unfoldable pub bits32 : ℤ → ℕ
+bits32 (pos n) = n
+bits32 (negsuc n) = 2 ^ 32 - suc n
+
+-- tags 1 to 4
+unfoldable pub shardingBytes : Sharding → List ℕ
+shardingBytes s =
+    oneByte 1 (s .preshift) ++ (oneByte 2 (s .hash) ++ (oneByte 3 (minishardBits s) ++ oneByte 4 (shardBits s)))
+
+-- tags 5 and 6
+unfoldable pub extentsBytes : ℕ → Extents → List ℕ
+extentsBytes tag e = field tag (three (e .x) (e .y) (e .z))
+
+unfoldable pub isZero : ℤ → Bool
+isZero (pos n) = eqb n 0
+isZero (negsuc n) = false
+
+-- "the offset is 0,0,0"
+unfoldable pub noOffset : Offset → Bool
+noOffset o = isZero (o .x) && (isZero (o .y) && isZero (o .z))
+
+-- tag 7
+unfoldable pub offsetTag : Offset → List ℕ
+offsetTag o = field 7 (three (bits32 (o .x)) (bits32 (o .y)) (bits32 (o .z)))
+
+-- "Tag 7 is absent when the offset is 0,0,0"
+unfoldable pub offsetBytes : Offset → List ℕ
+offsetBytes o = pick (noOffset o) [] (offsetTag o)
+
+-- tags 5 to 7
+unfoldable pub volumeBytes : Volume → List ℕ
+volumeBytes v = extentsBytes 5 (v .size) ++ (extentsBytes 6 (v .chunk) ++ offsetBytes (v .offset))
+
+-- "tags rising, each once"
+unfoldable pub cardBytes : Card → List ℕ
+cardBytes c = shardingBytes (c .sharding) ++ volumeBytes (c .volume)
+
+-- ---- a record that a card can hold: each number has the width of its field
+abbrev pub InI32 : ℤ → Type 0
+InI32 (pos n) = n < 2 ^ 31
+InI32 (negsuc n) = n < 2 ^ 31
+
+pub record Ranged (c : Card) : Type 0 where
+  pub preshift : c .sharding .preshift < 256
+  pub hash : c .sharding .hash < 256
+  pub minishard : minishardBits (c .sharding) < 256
+  pub shard : shardBits (c .sharding) < 256
+  pub size : InU32 (c .volume .size)
+  pub chunk : InU32 (c .volume .chunk)
+  pub x : InI32 (c .volume .offset .x)
+  pub y : InI32 (c .volume .offset .y)
+  pub z : InI32 (c .volume .offset .z)
+
+-- a list of bytes
+abbrev pub Bytes : List ℕ → Type 0
+Bytes s = (i : ℕ) → getD s i 0 < 256

@@ -1,0 +1,50 @@
+// The deposit card: what an archive's volume is and how its chunks are sharded, in 46 or 61 bytes.
+pub mod inner;
+mod lines;
+mod reading;
+mod twos;
+mod writing;
+
+ghost use mathlib.Core.Path.{_≡_};
+ghost use Rattle.card.specs.Answers.{readAnswer, writeAnswer, writeLeft};
+use endian::Written;
+use grid::Volume;
+use sharding::Sharding;
+
+#[repr(C)]
+pub struct Card {
+    pub sharding: Sharding,
+    pub volume: Volume,
+}
+
+pub enum CardAnswer {
+    Says(Card),
+    Refused(u8),
+}
+
+// What a card says: refused with 14, 1, 2 or 3.
+pub fn read_card(bytes: &[u8]) -> CardAnswer
+    ensures answer { λ r. ⌜ r ≡ readAnswer (now (bytes .entry)) ⌝ }
+{
+    if !reading::well_formed(bytes) {
+        return CardAnswer::Refused(14);
+    }
+    let card = reading::card_in(bytes);
+    let number = inner::judge(card);
+    if number != 0 {
+        return CardAnswer::Refused(number);
+    }
+    CardAnswer::Says(card)
+}
+
+// The card's bytes at the front of the buffer: refused with 1, 2, 3 or 13.
+pub fn write_card(card: Card, out: &mut [u8]) -> Written
+    ensures answer { λ r. ⌜ r ≡ writeAnswer card (now (out .entry)) ⌝ }
+    ensures out { λ _. ⌜ now (out .exit) ≡ writeLeft card (now (out .entry)) ⌝ }
+{
+    let number = inner::judge(card);
+    if number != 0 {
+        return Written::Refused(number);
+    }
+    writing::write(card, out)
+}

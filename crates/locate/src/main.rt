@@ -1,0 +1,81 @@
+// Reads a deposit card and then cells from standard input, and prints where each cell's chunk is stored: its key, the
+// shard's file and the minishard.
+ghost use mathlib.Core.Path.{_≡_};
+ghost use Rattle.grid.specs.Grid.{gridOf};
+ghost use lib.ListN.{length};
+ghost use Rattle.card.specs.Answers.{fault, Judged};
+use card::Card;
+use card::CardAnswer;
+use grid::Extents;
+use libc::STDIN_FILENO;
+use libc::STDOUT_FILENO;
+
+fn refuse(line: &mut [u8], number: u8)
+    requires { ⌜ length (now line) ≡ 64 ⌝ }
+{
+    let n = card::inner::refused_line(line, number);
+    io::write_all(STDOUT_FILENO, &line[..n]);
+}
+
+fn print_refused(number: u8) {
+    let mut line = [0u8; 64];
+    refuse(&mut line, number);
+}
+
+// One block: cells in, their lines out. Answers whether there may be more.
+fn locate_block(card: Card, grid: Extents, cells: &mut [u8], text: &mut [u8]) -> bool
+    requires { ⌜ (fault card ≡ 0) × (grid ≡ gridOf (card .volume)) × (length (now cells) ≡ 12000) × (length (now text) ≡ 65536) ⌝ }
+{
+    let got = io::read_full(STDIN_FILENO, cells);
+    let n = card::inner::cells_text(text, card, grid, &cells[..got]);
+    let is_written = io::write_all(STDOUT_FILENO, &text[..n]);
+    is_written & (got == 12000)
+}
+
+// A thousand cells a block; a line takes at most 64 bytes.
+fn locate_some(card: Card, grid: Extents, cells: &mut [u8; 12000], text: &mut [u8; 65536]) -> bool
+    requires { ⌜ (fault card ≡ 0) × (grid ≡ gridOf (card .volume)) ⌝ }
+{
+    locate_block(card, grid, cells, text)
+}
+
+// A proved loop has to end, and nothing says that the input does: the turns are counted down from a number that no run
+// uses up.
+fn locate_all(card: Card)
+    requires { ⌜ fault card ≡ 0 ⌝ }
+{
+    let grid = card::inner::grid_of(card);
+    let mut cells = [0u8; 12000];
+    let mut text = [0u8; 65536];
+    let mut turns = u64::MAX;
+    while turns > 0 && locate_some(card, grid, &mut cells, &mut text) {
+        turns -= 1;
+    }
+}
+
+// What a card says that has as many bytes as the buffer.
+fn read_body(bytes: &mut [u8]) -> CardAnswer
+    ensures { λ r. ⌜ Judged r ⌝ }
+{
+    let got = io::read_full(STDIN_FILENO, bytes);
+    card::inner::framed_card(bytes.len(), &bytes[..got])
+}
+
+// What the card says whose length comes first.
+fn read_start(head: &mut [u8], bytes: &mut [u8]) -> CardAnswer
+    requires { ⌜ (length (now head) ≡ 2) × (length (now bytes) ≡ 61) ⌝ }
+    ensures { λ r. ⌜ Judged r ⌝ }
+{
+    let got = io::read_full(STDIN_FILENO, head);
+    let n = card::inner::card_length(&head[..got]);
+    read_body(&mut bytes[..n])
+}
+
+fn main() {
+    let mut head = [0u8; 2];
+    let mut bytes = [0u8; 61];
+    match read_start(&mut head, &mut bytes) {
+        CardAnswer::Says(card) => locate_all(card),
+        CardAnswer::Refused(number) => print_refused(number),
+    }
+}
