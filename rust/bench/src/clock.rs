@@ -1,4 +1,4 @@
-//! The processor time of this thread.
+//! The processor time of this thread, and of programs that it ran.
 
 use std::time::Duration;
 
@@ -27,4 +27,31 @@ pub fn thread_time() -> Duration {
     let status = unsafe { clock_gettime(THREAD_CLOCK, &mut time) };
     assert_eq!(status, 0, "the thread has a clock");
     Duration::new(time.seconds as u64, time.nanoseconds as u32)
+}
+
+/// Linux's number for the programs that this one has waited for.
+const CHILDREN: i32 = -1;
+
+/// What a program has used, as 64-bit Linux gives it; times in seconds and
+/// microseconds.
+#[repr(C)]
+#[derive(Default)]
+struct Usage {
+    user: [i64; 2],
+    system: [i64; 2],
+    other: [i64; 14],
+}
+
+extern "C" {
+    fn getrusage(who: i32, usage: *mut Usage) -> i32;
+}
+
+/// How long the programs have run that this one started and waited for.
+pub fn children_time() -> Duration {
+    let mut usage = Usage::default();
+    // SAFETY: the result goes to a live value of the layout that is asked for.
+    let status = unsafe { getrusage(CHILDREN, &mut usage) };
+    assert_eq!(status, 0, "the children have a clock");
+    let time = |[seconds, micros]: [i64; 2]| Duration::new(seconds as u64, 1000 * micros as u32);
+    time(usage.user) + time(usage.system)
 }

@@ -7,6 +7,8 @@
 
 mod clock;
 mod copying;
+#[cfg(feature = "locate")]
+mod locating;
 #[cfg(feature = "places")]
 mod places;
 mod runner;
@@ -20,4 +22,6 @@ fn main() {
     places::run();
     #[cfg(feature = "shards")]
     shards::run();
+    #[cfg(feature = "locate")]
+    locating::run();
 }

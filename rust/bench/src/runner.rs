@@ -19,10 +19,10 @@ pub struct Measure<'a> {
 }
 
 /// The time of one operation in nanoseconds.
-fn timed(operations: usize, run: &mut dyn FnMut() -> u64) -> f64 {
-    let start = thread_time();
+fn timed(clock: fn() -> Duration, operations: usize, run: &mut dyn FnMut() -> u64) -> f64 {
+    let start = clock();
     black_box(run());
-    let time = (thread_time() - start).as_nanos() as f64;
+    let time = (clock() - start).as_nanos() as f64;
     time / operations as f64
 }
 
@@ -44,13 +44,23 @@ impl Measure<'_> {
     /// Times both sides in turn and prints the line. Panics where the two do
     /// not give the same answer. The first run of each side, which has the
     /// caches and the pages to fill, is not timed.
-    pub fn run(&self, mut library: impl FnMut() -> u64, mut plain: impl FnMut() -> u64) {
+    pub fn run(&self, library: impl FnMut() -> u64, plain: impl FnMut() -> u64) {
+        self.run_by(thread_time, library, plain);
+    }
+
+    /// The same by another clock.
+    pub fn run_by(
+        &self,
+        clock: fn() -> Duration,
+        mut library: impl FnMut() -> u64,
+        mut plain: impl FnMut() -> u64,
+    ) {
         assert_eq!(library(), plain(), "{}: the answers", self.name);
         let (mut ours, mut theirs, mut ratios) = (Vec::new(), Vec::new(), Vec::new());
-        let start = thread_time();
-        while ratios.len() < LEAST_RUNS || thread_time() - start < LEAST_TIME {
-            let our_time = timed(self.operations, &mut library);
-            let their_time = timed(self.operations, &mut plain);
+        let start = clock();
+        while ratios.len() < LEAST_RUNS || clock() - start < LEAST_TIME {
+            let our_time = timed(clock, self.operations, &mut library);
+            let their_time = timed(clock, self.operations, &mut plain);
             ours.push(our_time);
             theirs.push(their_time);
             ratios.push(our_time / their_time);
