@@ -1,6 +1,6 @@
 -- The Z-curve order by the counts of zeros above the highest differing bits.
 use Prim.Native.Nat.{ℕ, _≤_, _<_}
-use mathlib.Core.Path.{_≡_}
+use mathlib.Core.Path.{_≡_, ap, _∙_}
 use mathlib.Core.Bool.{Bool, _&&_}
 use native.Mathlib.Nat.{lt-of-lt-of-le}
 use lib.Dec.{leb, ltb}
@@ -35,3 +35,10 @@ module _ (ax ay az bx by bz : ℕ) where
   unfolding byZeros
   by-x-not-z zy xz =
       rw (le-leb (zeros az bz) (zeros ay by) zy, lt-leb (zeros az bz) (zeros ax bx) xz, lt-leb (zeros ay by) (zeros ax bx) (lt-of-lt-of-le xz zy))
+
+-- the same by two choices
+pub by-choices : (ax ay az bx by bz : ℕ) {below r : Bool} → below ≡ pick (leb (zeros ay by) (zeros ax bx)) (ltb ay by) (ltb ax bx)
+    → r ≡ pick (leb (zeros az bz) (zeros ay by) && leb (zeros az bz) (zeros ax bx)) (ltb az bz) below → r ≡ byZeros ax ay az bx by bz
+unfolding byZeros
+by-choices ax ay az bx by bz p q =
+    q ∙ ap (pick (leb (zeros az bz) (zeros ay by) && leb (zeros az bz) (zeros ax bx)) (ltb az bz)) p

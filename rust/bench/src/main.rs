@@ -9,6 +9,8 @@ mod clock;
 mod copying;
 #[cfg(feature = "locate")]
 mod locating;
+#[cfg(feature = "manifest")]
+mod manifests;
 #[cfg(feature = "places")]
 mod places;
 mod runner;
@@ -22,6 +24,8 @@ fn main() {
     places::run();
     #[cfg(feature = "shards")]
     shards::run();
+    #[cfg(feature = "manifest")]
+    manifests::run();
     #[cfg(feature = "locate")]
     locating::run();
 }

@@ -1,73 +1,13 @@
-//! Mesh manifests, against the reference.
+//! Random mesh manifests, against the reference.
 
 mod common;
 
-use common::answer;
-use coronagamba::manifest::{Field, Manifest, Node};
-use reference::manifest;
+use common::manifest::{same_check, same_corners, same_field, same_header, same_node};
+use coronagamba::manifest::Manifest;
 use testkit::{manifests, Met, Rng};
 
-const SAMPLES: usize = 12_000;
-
-/// A real or whole number by kind and bits, so that zeros of both signs
-/// differ.
-fn bits(field: Field) -> (bool, u32) {
-    match field {
-        Field::Real(real) => (true, real.to_bits()),
-        Field::Whole(number) => (false, number),
-    }
-}
-
-fn expected_bits(field: manifest::Field) -> (bool, u32) {
-    match field {
-        manifest::Field::Real(real) => (true, real.to_bits()),
-        manifest::Field::Whole(number) => (false, number),
-    }
-}
-
-/// The header as bits.
-fn same_header(bytes: &[u8]) -> Result<(), u8> {
-    let expected = manifest::header(bytes);
-    let wanted = expected.map(|h| (h.shape.map(f32::to_bits), h.origin.map(f32::to_bits)));
-    let header = Manifest::open(bytes).header();
-    let ours = header.map(|h| (h.shape.map(f32::to_bits), h.origin.map(f32::to_bits)));
-    assert_eq!(ours, answer(wanted), "{bytes:?}");
-    expected.map(|_| ())
-}
-
-fn same_field(bytes: &[u8], number: u64) -> Result<(), u8> {
-    let expected = manifest::field(bytes, number);
-    let ours = Manifest::open(bytes).field(number).map(bits);
-    assert_eq!(ours, answer(expected.map(expected_bits)), "{bytes:?}");
-    expected.map(|_| ())
-}
-
-fn same_node(bytes: &[u8], level: u64, node: u64) -> Result<(), u8> {
-    let expected = manifest::node(bytes, level, node);
-    let wanted = expected.map(|node| Node {
-        position: node.position,
-        size: node.size,
-        start: node.start,
-    });
-    let ours = Manifest::open(bytes).node(level, node);
-    assert_eq!(ours, answer(wanted), "{bytes:?} {level} {node}");
-    expected.map(|_| ())
-}
-
-fn same_corners(bytes: &[u8], level: u64, node: u64) -> Result<(), u8> {
-    let expected = manifest::corners(bytes, level, node);
-    let wanted = expected.map(|corners| (corners.near, corners.far));
-    let corners = Manifest::open(bytes).corners(level, node);
-    let ours = corners.map(|c| (c.near.map(f32::to_bits), c.far.map(f32::to_bits)));
-    assert_eq!(ours, answer(wanted), "{bytes:?} {level} {node}");
-    expected.map(|_| ())
-}
-
-fn same_check(bytes: &[u8]) -> Result<(), u8> {
-    let expected = manifest::check(bytes);
-    assert_eq!(Manifest::open(bytes).check(), answer(expected), "{bytes:?}");
-    expected
-}
+/// The manifests of each kind.
+const SAMPLES: usize = 50_000;
 
 /// What the calls have met: check, header, field, node, corners.
 #[derive(Default)]
@@ -98,14 +38,20 @@ impl AllMet {
     }
 }
 
-#[test]
-fn sound_manifests() {
-    let mut rng = Rng::new(1);
+/// Compares every call on this many manifests of one kind.
+fn compared(seed: u64, samples: usize, mut draw: impl FnMut(&mut Rng) -> Vec<u8>) -> AllMet {
+    let mut rng = Rng::new(seed);
     let mut met = AllMet::default();
-    for _ in 0..SAMPLES {
-        let bytes = manifests::sound(&mut rng, 8);
+    for _ in 0..samples {
+        let bytes = draw(&mut rng);
         met.compare(&mut rng, &bytes);
     }
+    met
+}
+
+#[test]
+fn sound_manifests() {
+    let met = compared(1, SAMPLES, |rng| manifests::sound(rng, 8));
     met.check.assert_exactly(&[0]);
     met.header.assert_exactly(&[0]);
     met.field.assert_exactly(&[0, 18]);
@@ -115,17 +61,26 @@ fn sound_manifests() {
 
 #[test]
 fn damaged_manifests() {
-    let mut rng = Rng::new(2);
-    let mut met = AllMet::default();
-    for _ in 0..SAMPLES {
-        let bytes = manifests::damaged(&mut rng, 8);
-        met.compare(&mut rng, &bytes);
-    }
+    let met = compared(2, SAMPLES, |rng| manifests::damaged(rng, 8));
     met.check.assert_exactly(&[0, 15, 16, 17]);
     met.header.assert_exactly(&[0, 15, 16, 17]);
     met.field.assert_exactly(&[0, 15, 16, 17, 18]);
     met.node.assert_exactly(&[0, 15, 16, 17, 18]);
     met.corners.assert_exactly(&[0, 15, 16, 17, 18]);
+}
+
+#[test]
+fn truncated_manifests() {
+    let met = compared(5, SAMPLES, |rng| manifests::truncated(rng, 8));
+    met.check.assert_exactly(&[0, 15, 17]);
+    met.node.assert_exactly(&[0, 15, 17, 18]);
+}
+
+#[test]
+fn extended_manifests() {
+    let met = compared(6, SAMPLES, |rng| manifests::extended(rng, 8));
+    met.check.assert_exactly(&[0, 15, 17]);
+    met.node.assert_exactly(&[0, 15, 17, 18]);
 }
 
 #[test]
@@ -141,13 +96,10 @@ fn every_field_of_some_manifests() {
 
 #[test]
 fn random_bytes() {
-    let mut rng = Rng::new(4);
-    let mut met = AllMet::default();
-    for _ in 0..SAMPLES {
+    let met = compared(4, SAMPLES / 5, |rng| {
         let length = rng.index(200);
-        let bytes = rng.bytes(length);
-        met.compare(&mut rng, &bytes);
-    }
+        rng.bytes(length)
+    });
     met.check.assert_exactly(&[15]);
 }
 

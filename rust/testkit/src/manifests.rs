@@ -41,6 +41,54 @@ fn above_zero(rng: &mut Rng) -> f32 {
     }
 }
 
+/// A node: its position and the size of its fragment.
+pub type Node = ([u32; 3], u32);
+
+/// A manifest in its parts, as they are to be written.
+#[derive(Clone, Debug, Default, PartialEq)]
+pub struct Parts {
+    /// Extents of a node of level 0.
+    pub shape: [f32; 3],
+    /// Where the octree begins.
+    pub origin: [f32; 3],
+    /// The scale of each level.
+    pub scales: Vec<f32>,
+    /// The vertex offset of each level.
+    pub offsets: Vec<[f32; 3]>,
+    /// The nodes of each level.
+    pub levels: Vec<Vec<Node>>,
+}
+
+impl Parts {
+    /// Parts with these nodes, whose other reals are 0.
+    pub fn new(shape: [f32; 3], origin: [f32; 3], levels: Vec<Vec<Node>>) -> Self {
+        Parts {
+            shape,
+            origin,
+            scales: vec![0.0; levels.len()],
+            offsets: vec![[0.0; 3]; levels.len()],
+            levels,
+        }
+    }
+
+    /// The manifest's bytes.
+    pub fn bytes(&self) -> Vec<u8> {
+        let head = self.shape.iter().chain(&self.origin);
+        let mut items: Vec<u32> = head.map(|real| real.to_bits()).collect();
+        items.push(self.levels.len() as u32);
+        let reals = self.scales.iter().chain(self.offsets.iter().flatten());
+        items.extend(reals.map(|real| real.to_bits()));
+        items.extend(self.levels.iter().map(|nodes| nodes.len() as u32));
+        for nodes in &self.levels {
+            for axis in 0..3 {
+                items.extend(nodes.iter().map(|(position, _)| position[axis]));
+            }
+            items.extend(nodes.iter().map(|(_, size)| size));
+        }
+        items.into_iter().flat_map(u32::to_le_bytes).collect()
+    }
+}
+
 /// Positions in strictly rising Z-curve order, mostly small.
 fn positions(rng: &mut Rng, most: usize) -> Vec<[u32; 3]> {
     let count = rng.index(most + 1);
@@ -53,26 +101,87 @@ fn positions(rng: &mut Rng, most: usize) -> Vec<[u32; 3]> {
     positions
 }
 
+/// Nodes in strictly rising Z-curve order.
+fn nodes(rng: &mut Rng, most: usize) -> Vec<Node> {
+    let positions = positions(rng, most).into_iter();
+    positions.map(|at| (at, rng.edge_u32())).collect()
+}
+
+/// How many levels: every count from 0 to 32, the ends and small ones more
+/// often.
+fn level_count(rng: &mut Rng) -> usize {
+    match rng.below(4) {
+        0 => rng.index(33),
+        _ => *rng.pick(&[0, 1, 1, 2, 3, 4, 5, 31, 32]),
+    }
+}
+
 /// A sound manifest with up to `most` nodes on a level.
 pub fn sound(rng: &mut Rng, most: usize) -> Vec<u8> {
-    let level_count = *rng.pick(&[0, 1, 1, 2, 3, 4, 5, 31, 32]);
-    let levels: Vec<Vec<[u32; 3]>> = (0..level_count).map(|_| positions(rng, most)).collect();
-    let mut items: Vec<u32> = (0..3).map(|_| above_zero(rng).to_bits()).collect();
-    items.extend((0..3).map(|_| finite(rng).to_bits()));
-    items.push(level_count as u32);
-    items.extend((0..4 * level_count).map(|_| finite(rng).to_bits()));
-    items.extend(levels.iter().map(|nodes| nodes.len() as u32));
-    for nodes in &levels {
-        for axis in 0..3 {
-            items.extend(nodes.iter().map(|position| position[axis]));
+    let count = level_count(rng);
+    let parts = Parts {
+        shape: std::array::from_fn(|_| above_zero(rng)),
+        origin: std::array::from_fn(|_| finite(rng)),
+        scales: (0..count).map(|_| finite(rng)).collect(),
+        offsets: (0..count)
+            .map(|_| std::array::from_fn(|_| finite(rng)))
+            .collect(),
+        levels: (0..count).map(|_| nodes(rng, most)).collect(),
+    };
+    parts.bytes()
+}
+
+/// The numbers of the items that say how many nodes a level has.
+fn counts(bytes: &[u8]) -> std::ops::Range<usize> {
+    let levels = read_u32(bytes, 24).min(32) as usize;
+    7 + 4 * levels..7 + 5 * levels
+}
+
+/// A sound manifest cut short: anywhere, by a few bytes, or by the 16 bytes of
+/// a node. In the last case a node count may follow, and then the length is
+/// right but the rows are not where they were.
+pub fn truncated(rng: &mut Rng, most: usize) -> Vec<u8> {
+    let mut bytes = sound(rng, most);
+    let length = bytes.len();
+    match rng.below(4) {
+        0 => bytes.truncate(rng.index(length)),
+        1 => bytes.truncate(length - 1 - rng.index(28)),
+        _ => {
+            bytes.truncate(length - 16);
+            let filled = counts(&bytes).filter(|number| read_u32(&bytes, 4 * number) > 0);
+            let filled: Vec<usize> = filled.collect();
+            if !filled.is_empty() && rng.once_in(2) {
+                let number = *rng.pick(&filled);
+                let count = read_u32(&bytes, 4 * number);
+                set(&mut bytes, number, count - 1);
+            }
         }
-        items.extend(nodes.iter().map(|_| rng.edge_u32()));
     }
-    items.into_iter().flat_map(u32::to_le_bytes).collect()
+    bytes
+}
+
+/// A sound manifest made longer: by a few bytes, or by the 16 bytes of a node.
+/// In the last case a node count may follow, and then the length is right but
+/// the rows are not where they were.
+pub fn extended(rng: &mut Rng, most: usize) -> Vec<u8> {
+    let mut bytes = sound(rng, most);
+    if rng.once_in(2) {
+        let more = 1 + rng.index(40);
+        bytes.extend(rng.bytes(more));
+        return bytes;
+    }
+    bytes.extend((0..4).flat_map(|_| rng.edge_u32().to_le_bytes()));
+    let counts: Vec<usize> = counts(&bytes).collect();
+    if !counts.is_empty() && rng.once_in(2) {
+        let number = *rng.pick(&counts);
+        let count = read_u32(&bytes, 4 * number);
+        set(&mut bytes, number, count + 1);
+    }
+    bytes
 }
 
 /// Writes item `number` of the manifest, where it has one.
-fn set(bytes: &mut [u8], number: usize, value: u32) {
+pub fn set(bytes: &mut [u8], number: usize, value: u32) {
     if let Some(place) = bytes.get_mut(4 * number..4 * number + 4) {
         place.copy_from_slice(&value.to_le_bytes());
     }
@@ -181,5 +290,25 @@ mod tests {
         checks.assert_exactly(&[0, 15, 16, 17]);
         nodes.assert_exactly(&[0, 18]);
         corner.assert_exactly(&[0, 18]);
+    }
+
+    #[test]
+    fn other_lengths_are_wrong_unless_a_count_follows() {
+        let mut rng = Rng::new(2);
+        let (mut shorter, mut longer) = (Met::new(), Met::new());
+        for _ in 0..5_000 {
+            shorter.note(&check(&truncated(&mut rng, 6)));
+            longer.note(&check(&extended(&mut rng, 6)));
+        }
+        shorter.assert_exactly(&[0, 15, 17]);
+        longer.assert_exactly(&[0, 15, 17]);
+    }
+
+    #[test]
+    fn every_level_count_is_met() {
+        let mut rng = Rng::new(3);
+        let counts = (0..5_000).map(|_| level_count(&mut rng));
+        let met: std::collections::BTreeSet<usize> = counts.collect();
+        assert!(met.into_iter().eq(0..=32));
     }
 }

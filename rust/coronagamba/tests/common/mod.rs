@@ -4,6 +4,9 @@
 
 use coronagamba::Refusal;
 
+#[cfg(feature = "manifest")]
+pub mod manifest;
+
 #[cfg(feature = "grid")]
 pub mod grid {
     use coronagamba::{Cell, Extents, Offset, Point, Volume};
