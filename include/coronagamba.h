@@ -118,7 +118,8 @@ uint64_t coronagamba_listed_count(coronagamba_sharding sharding, uint64_t shard,
 
 /* The chunks that a minishard lists, in stored order, three numbers each: id,
  * place in the file, length; `length` is how many numbers were written.
- * Refusals: 1, 5, 6, 7 to 11 of that minishard, 13 */
+ * Refusals: 1, 5 (also for a minishard that is not there), 6, 7 to 11 of that
+ * minishard, 13 */
 uint64_t coronagamba_listing(coronagamba_sharding sharding, uint64_t shard,
                              const uint8_t *file, size_t count,
                              uint64_t minishard, uint64_t *out,

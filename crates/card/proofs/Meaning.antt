@@ -287,7 +287,7 @@ read-is-written s c bs e =
 pub one-card : (a b : List ℕ) (c : Card) → Bytes a → Bytes b → readAnswer a ≡ Says c → readAnswer b ≡ Says c → a ≡ b
 one-card a b c ba bb p q = read-is-written a c ba p ∙ sym (read-is-written b c bb q)
 
--- a card is malformed exactly where it is the bytes of no record
+-- a malformed card is the bytes of no record (and one that is not malformed is those of the record that it says: formed-is-bytes)
 pub malformed-is-none : (s : List ℕ) → wellFormed s ≡ false → (c : Card) → Ranged c → s ≡ cardBytes c → ⊥
 malformed-is-none s e c r p =
     let q : wellFormed s ≡ true = ap wellFormed p ∙ formed-bytes c r in

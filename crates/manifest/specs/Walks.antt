@@ -41,7 +41,8 @@ unfoldable pub stands : ℕ → ℕ → Walk → Bool
 stands len n w = leb (4 * (w .first + 4 * n)) len && leb (w .start) (2 ^ 63)
 
 -- A step gives the next node, or that the next level begins, or that all levels are done. Any bytes and any w may be given:
--- 18 where w stands at no node of these bytes. A walk that began with `walkAnswer` on the same bytes never meets it.
+-- 18 where w, or the level that it names, leaves the bytes. A step judges nothing else: what it gives is a node of the
+-- manifest where the walk began with `walkAnswer` on the same bytes, and such a walk never meets 18.
 unfoldable pub stepAnswer : List ℕ → Walk → StepAnswer
 stepAnswer s w =
     pick (ltb (length s) (28 + 20 * levelsOf s)) (S.Refused 18)

@@ -175,7 +175,7 @@ pub fn walk_begin(s: &[u8]) -> WalkAnswer
 }
 
 // The next node, or the next level's begin, or the end, without judging the bytes again; 18 where
-// the walk is not one over these bytes.
+// the walk leaves the bytes. The walk is one that began on these bytes, else what it gives is no node.
 pub fn walk_step(s: &[u8], walk: Walk) -> StepAnswer
     ensures answer { λ r. ⌜ r ≡ stepAnswer (now (s .entry)) walk ⌝ }
 {

@@ -185,6 +185,8 @@ table =
     ∷ place (plain 1 1 0) 2 (Placed (record { shard = 0; minishard = 1 }))
     ∷ place (plain 1 1 0) 3 (Placed (record { shard = 0; minishard = 1 }))
     ∷ place (plain 1 1 0) 4 (Placed (record { shard = 0; minishard = 0 }))
+    -- (from the case of `locate`: the shard bits follow the minishard bits)
+    ∷ place (plain 0 1 2) 5 (Placed (record { shard = 2; minishard = 1 }))
     -- shard 10 is `a.shard` at 4 shard bits, `0a.shard` at 5; 0 bits gives `0.shard`
     ∷ name (plain 0 0 4) 10 buffer (Length 7) (97 ∷ dotShard (63 ∷ 63 ∷ 63 ∷ []))
     ∷ name (plain 0 0 5) 10 buffer (Length 8) (48 ∷ 97 ∷ dotShard (63 ∷ 63 ∷ []))

@@ -164,7 +164,7 @@ nodeTests s l i =
 unfoldable pub cornersChecks : List ℕ → ℕ → ℕ → List Check
 cornersChecks s l i = manifestChecks s (nodeTests s l i)
 
--- a step of a walk over all nodes, which judges nothing but that the walk stands at a node of these bytes
+-- a step of a walk over all nodes, which judges nothing but that the walk does not leave the bytes
 unfoldable pub stepChecks : List ℕ → Walk → List Check
 stepChecks s w =
     check (ltb (length s) (28 + 20 * levelsOf s)) 18
