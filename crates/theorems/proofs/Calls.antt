@@ -51,7 +51,14 @@ use Rattle.manifest.specs.Verdict.{rightLength, realsFit, nodesRise, verdict as
 use Rattle.manifest.specs.Questions.{headerAnswer, fieldAt, fieldAnswer, hasNode, nodeAnswer}
 use Rattle.manifest.specs.Boxes.{boxAnswer, cornersAnswer}
 use Rattle.manifest.specs.Walks.{walkAnswer, stands, stepAnswer}
-use Rattle.theorems.specs.Checks.{Check, check, Refuses, gridChecks, keyChecks, cellChecks, boundsChecks, placeChecks, room, chunkNameChecks, shardNameChecks, fileChecks, isListed, lookupChecks, listingChecks, shardChecks, lengthChecks, settleChecks, manifestChecks, fieldChecks, nodeChecks, cornersChecks, nodeTests, stepChecks}
+use Rattle.grid.specs.Grid.{gridOf, zeroExtent}
+use Rattle.grid.specs.Key.{tooManyBits}
+use Rattle.card.specs.declared.Card.{Card}
+use Rattle.card.specs.declared.CardAnswer.the-variants as D
+use Rattle.card.specs.Layout.{cardBytes}
+use Rattle.card.specs.Reading.{cardIn}
+use Rattle.card.specs.Answers.{fault, readAnswer, writeAnswer, writeLeft}
+use Rattle.theorems.specs.Checks.{recordChecks, readChecks, writeChecks, Check, check, Refuses, gridChecks, keyChecks, cellChecks, boundsChecks, placeChecks, room, chunkNameChecks, shardNameChecks, fileChecks, isListed, lookupChecks, listingChecks, shardChecks, lengthChecks, settleChecks, manifestChecks, fieldChecks, nodeChecks, cornersChecks, nodeTests, stepChecks}
 use Rattle.theorems.proofs.Refusals.{none, tests, numbered, minishard-number, shard-number, check-most, listing-number, listing-most}
 
 -- ---- grids, places and names
@@ -258,3 +265,43 @@ listing-kept zero l out k e = go (ltb (length out) (length l)) e
     go true e = refl
     go false e = let z : _≡_ {A = ℕ} 0 1 = cc in absurd (omega arith)
 listing-kept (suc n) l out k e = refl
+
+-- ---- cards
+
+-- an answer by the first of three numbers, or 0, is a choice for each
+by-fault : {A : Type 0} (r : ℕ → A) (later : A) (a b c : Bool)
+    → pick (eqb (pick a 1 (pick b 2 (pick c 3 0))) 0) later (r (pick a 1 (pick b 2 (pick c 3 0))))
+    ≡ pick a (r 1) (pick b (r 2) (pick c (r 3) later))
+by-fault r later true b c = refl
+by-fault r later false true c = refl
+by-fault r later false false true = refl
+by-fault r later false false false = refl
+
+pub card-read-refuses : (s : List ℕ) → Refuses (readAnswer s) D.Refused (readChecks s)
+unfolding readAnswer fault readChecks recordChecks
+card-read-refuses s =
+    let d = cardIn s in
+    let e = by-fault D.Refused (D.Says d) (not (allowed (d .sharding))) (zeroExtent (d .volume)) (tooManyBits (gridOf (d .volume))) in
+    rw e (tests D.Refused (λ j k e. cc) (readChecks s) _ refl (none D.Refused _ (λ k e. cc)))
+
+pub card-write-refuses : (c : Card) (out : List ℕ) → Refuses (writeAnswer c out) Refused (writeChecks c out)
+unfolding writeAnswer fault writeChecks recordChecks written
+card-write-refuses d out =
+    let e =
+    by-fault Refused (pick (ltb (length out) (length (cardBytes d))) (Refused 13) (Length (length (cardBytes d))))
+    (not (allowed (d .sharding))) (zeroExtent (d .volume)) (tooManyBits (gridOf (d .volume))) in
+    rw e (tests Refused (λ j k e. cc) (writeChecks d out) _ refl (none Refused _ (λ k e. cc)))
+
+card-kept-by : (a b c f : Bool) (n k : ℕ) (out x : List ℕ)
+    → pick (eqb (pick a 1 (pick b 2 (pick c 3 0))) 0) (pick f (Refused 13) (Length n)) (Refused (pick a 1 (pick b 2 (pick c 3 0)))) ≡ Refused k
+    → pick (eqb (pick a 1 (pick b 2 (pick c 3 0))) 0) (pick f out x) out ≡ out
+card-kept-by true b c f n k out x e = refl
+card-kept-by false true c f n k out x e = refl
+card-kept-by false false true f n k out x e = refl
+card-kept-by false false false f n k out x e = kept-by false false f 1 5 n k out x e
+
+pub card-kept : (c : Card) (out : List ℕ) (k : ℕ) → writeAnswer c out ≡ Refused k → writeLeft c out ≡ out
+unfolding writeAnswer writeLeft fault written leftBy
+card-kept d out k =
+    card-kept-by (not (allowed (d .sharding))) (zeroExtent (d .volume)) (tooManyBits (gridOf (d .volume)))
+    (ltb (length out) (length (cardBytes d))) _ k out _

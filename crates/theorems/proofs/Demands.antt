@@ -11,7 +11,7 @@ use Rattle.settle.specs.Answers.{checkNumber}
 use Rattle.settle.proofs.Demand3.{demand-3-sound, demand-3-same, demand-3-form-passes, demand-3-form-lists, demand-3-form-settles, demand-3-refused, demand-3-written}
 use Rattle.theorems.specs.Demands.{Demand1, Demand2, Demand3}
 use Rattle.theorems.proofs.Refusals.{check-first, check-none, one-minishard}
-use Rattle.theorems.proofs.Calls.{grid-refuses, key-refuses, cell-refuses, bounds-refuses, place-refuses, chunk-name-refuses, shard-name-refuses, lookup-refuses, count-refuses, listing-refuses, check-refuses, length-refuses, settle-refuses, manifest-refuses, header-refuses, walk-refuses, field-refuses, node-refuses, corners-refuses, step-refuses, chunk-name-kept, shard-name-kept, settle-kept, listing-kept}
+use Rattle.theorems.proofs.Calls.{card-read-refuses, card-write-refuses, card-kept, grid-refuses, key-refuses, cell-refuses, bounds-refuses, place-refuses, chunk-name-refuses, shard-name-refuses, lookup-refuses, count-refuses, listing-refuses, check-refuses, length-refuses, settle-refuses, manifest-refuses, header-refuses, walk-refuses, field-refuses, node-refuses, corners-refuses, step-refuses, chunk-name-kept, shard-name-kept, settle-kept, listing-kept}
 
 pub demand-1 : Demand1
 demand-1 =
@@ -34,6 +34,8 @@ demand-1 =
           (h .0, one-minishard spec shard (indexPart spec file) (dataPart spec file) m ∙ h .1, h .2);
       formLength = length-refuses;
       settle = settle-refuses;
+      cardRead = card-read-refuses;
+      cardWritten = card-write-refuses;
       manifest = manifest-refuses;
       header = header-refuses;
       field = field-refuses;
@@ -44,6 +46,7 @@ demand-1 =
       chunkNameKept = chunk-name-kept;
       shardNameKept = shard-name-kept;
       settleKept = settle-kept;
+      cardKept = card-kept;
       listingKept = λ spec shard file m out. listing-kept (listingRefusal spec shard file m) (listingOf spec file m) out;
     }
 

@@ -17,6 +17,9 @@ use Rattle.sharding.specs.Specification.{allowed, minishardCount, shardCount}
 use Rattle.sharding.specs.Place.{shardOf, minishardOf}
 use Rattle.names.specs.Chunks.{chunkName}
 use Rattle.names.specs.Shards.{shardName}
+use Rattle.card.specs.declared.Card.{Card}
+use Rattle.card.specs.Layout.{cardBytes}
+use Rattle.card.specs.Reading.{wellFormed, cardIn}
 use Rattle.shard.specs.Sums.{anyBelow}
 use Rattle.shard.specs.Index.{entryStart, entryEnd, entryCount, idSteps, startSteps, sizes}
 use Rattle.shard.specs.Faults.{badEntry, badLength, badId, foreignAt, outside}
@@ -170,3 +173,20 @@ stepChecks s w =
     check (ltb (length s) (28 + 20 * levelsOf s)) 18
     ∷ check (ltb (w .level) (levelsOf s) && not (stands (length s) (countOf s (w .level)) w)) 18
     ∷ []
+
+-- ---- cards
+
+-- 1, 2 and 3 of what a card says, then what comes later
+unfoldable pub recordChecks : Card → List Check → List Check
+recordChecks c later =
+    check (not (allowed (c .sharding))) 1
+    ∷ check (zeroExtent (c .volume)) 2
+    ∷ check (tooManyBits (gridOf (c .volume))) 3
+    ∷ later
+
+-- "14 precedes 1 and 2, and 3 comes after them"
+unfoldable pub readChecks : List ℕ → List Check
+readChecks s = check (not (wellFormed s)) 14 ∷ recordChecks (cardIn s) []
+
+unfoldable pub writeChecks : Card → List ℕ → List Check
+writeChecks c out = recordChecks c (room (cardBytes c) out ∷ [])

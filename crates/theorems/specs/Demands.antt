@@ -44,7 +44,10 @@ use Rattle.manifest.specs.Verdict.{manifestAnswer}
 use Rattle.manifest.specs.Questions.{headerAnswer, fieldAnswer, nodeAnswer}
 use Rattle.manifest.specs.Boxes.{cornersAnswer}
 use Rattle.manifest.specs.Walks.{walkAnswer, stepAnswer}
-use Rattle.theorems.specs.Checks.{Refuses, firstNumber, gridChecks, keyChecks, cellChecks, boundsChecks, placeChecks, room, chunkNameChecks, shardNameChecks, minishardChecks, fileChecks, lookupChecks, listingChecks, shardChecks, lengthChecks, settleChecks, manifestChecks, fieldChecks, nodeChecks, cornersChecks, stepChecks}
+use Rattle.card.specs.declared.Card.{Card}
+use Rattle.card.specs.declared.CardAnswer.the-variants as D
+use Rattle.card.specs.Answers.{readAnswer, writeAnswer, writeLeft}
+use Rattle.theorems.specs.Checks.{readChecks, writeChecks, Refuses, firstNumber, gridChecks, keyChecks, cellChecks, boundsChecks, placeChecks, room, chunkNameChecks, shardNameChecks, minishardChecks, fileChecks, lookupChecks, listingChecks, shardChecks, lengthChecks, settleChecks, manifestChecks, fieldChecks, nodeChecks, cornersChecks, stepChecks}
 
 -- ---- Demand 1
 
@@ -71,6 +74,8 @@ pub record Demand1 : Type 0 where
       × ((j : ℕ) → j < m → SoundMinishard spec shard (indexPart spec file) (dataPart spec file) j)
   pub formLength : (spec : Sharding) (shard : ℕ) (file : List ℕ) → Refuses (lengthAnswer spec shard file) Refused (lengthChecks spec shard file)
   pub settle : (spec : Sharding) (shard : ℕ) (file out : List ℕ) → Refuses (settleAnswer spec shard file out) Refused (settleChecks spec shard file out)
+  pub cardRead : (s : List ℕ) → Refuses (readAnswer s) D.Refused (readChecks s)
+  pub cardWritten : (c : Card) (out : List ℕ) → Refuses (writeAnswer c out) Refused (writeChecks c out)
   pub manifest : (s : List ℕ) → Refuses (manifestAnswer s) M.Refused (manifestChecks s [])
   pub header : (s : List ℕ) → Refuses (headerAnswer s) H.Refused (manifestChecks s [])
   pub field : (s : List ℕ) (i : ℕ) → Refuses (fieldAnswer s i) F.Refused (fieldChecks s i)
@@ -82,6 +87,7 @@ pub record Demand1 : Type 0 where
   pub chunkNameKept : (v : Volume) (c : Cell) (out : List ℕ) (k : ℕ) → chunkNameAnswer v c out ≡ Refused k → chunkNameLeft v c out ≡ out
   pub shardNameKept : (spec : Sharding) (shard : ℕ) (out : List ℕ) (k : ℕ) → shardNameAnswer spec shard out ≡ Refused k → shardNameLeft spec shard out ≡ out
   pub settleKept : (spec : Sharding) (shard : ℕ) (file out : List ℕ) (k : ℕ) → settleAnswer spec shard file out ≡ Refused k → settleLeft spec shard file out ≡ out
+  pub cardKept : (c : Card) (out : List ℕ) (k : ℕ) → writeAnswer c out ≡ Refused k → writeLeft c out ≡ out
   pub listingKept : (spec : Sharding) (shard : ℕ) (file : List ℕ) (m : ℕ) (out : List ℕ) (k : ℕ)
       → listed (listingRefusal spec shard file m) (listingOf spec file m) out ≡ NoCount k
       → leftListed (listingRefusal spec shard file m) (listingOf spec file m) out ≡ out
