@@ -98,10 +98,7 @@ fn placements(name: &str, hash: u8) {
             shards[ids.len() / 2] ^ minishards[ids.len() / 3]
         },
         || {
-            for ((id, shard), minishard) in ids.iter().zip(&mut shards_too).zip(&mut minishards_too)
-            {
-                (*shard, *minishard) = plain::place(&sharding, *id).unwrap_or_default();
-            }
+            assert!(plain::places(&sharding, &ids, &mut shards_too, &mut minishards_too).is_ok());
             shards_too[ids.len() / 2] ^ minishards_too[ids.len() / 3]
         },
     );

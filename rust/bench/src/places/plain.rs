@@ -70,22 +70,62 @@ fn murmur(number: u64) -> u64 {
     u64::from(a) | u64::from(b) << 32
 }
 
-/// The shard and minishard of an id, or 1.
-pub fn place(sharding: &Sharding, id: u64) -> Result<(u64, u64), u8> {
+/// Refusal 1, or nothing.
+fn judged(sharding: &Sharding) -> Result<(), u8> {
     let allowed = sharding.preshift <= 63
         && sharding.hash <= 1
         && sharding.minishard_bits <= 12
         && sharding.shard_bits <= 32;
-    if !allowed {
-        return Err(1);
+    if allowed {
+        Ok(())
+    } else {
+        Err(1)
     }
+}
+
+/// The lowest bits of a number.
+fn low(number: u64, bits: u8) -> u64 {
+    number & ((1 << bits) - 1)
+}
+
+/// The shard and minishard of a hashed id.
+fn split(sharding: &Sharding, hashed: u64) -> (u64, u64) {
+    let shard = low(hashed >> sharding.minishard_bits, sharding.shard_bits);
+    (shard, low(hashed, sharding.minishard_bits))
+}
+
+/// The shard and minishard of an id, or 1.
+pub fn place(sharding: &Sharding, id: u64) -> Result<(u64, u64), u8> {
+    judged(sharding)?;
     let shifted = id >> sharding.preshift;
     let hashed = if sharding.hash == 0 {
         shifted
     } else {
         murmur(shifted)
     };
-    let low = |number: u64, bits: u8| number & ((1 << bits) - 1);
-    let shard = low(hashed >> sharding.minishard_bits, sharding.shard_bits);
-    Ok((shard, low(hashed, sharding.minishard_bits)))
+    Ok(split(sharding, hashed))
+}
+
+/// The places of many ids, or 1 or 13: judged once, the hash chosen once.
+pub fn places(
+    sharding: &Sharding,
+    ids: &[u64],
+    shards: &mut [u64],
+    minishards: &mut [u64],
+) -> Result<(), u8> {
+    judged(sharding)?;
+    if shards.len() < ids.len() || minishards.len() < ids.len() {
+        return Err(13);
+    }
+    let all = ids.iter().zip(shards.iter_mut().zip(minishards));
+    if sharding.hash == 0 {
+        for (id, (shard, minishard)) in all {
+            (*shard, *minishard) = split(sharding, id >> sharding.preshift);
+        }
+    } else {
+        for (id, (shard, minishard)) in all {
+            (*shard, *minishard) = split(sharding, murmur(id >> sharding.preshift));
+        }
+    }
+    Ok(())
 }
