@@ -22,15 +22,15 @@ use sharding::Sharding;
 use sharding::inner::is_allowed;
 use sharding::inner::place;
 
-fn fill_places(spec: Sharding, ids: &[u64], shards: &mut [u64], minishards: &mut [u64])
-    requires { ⌜ allowed spec ≡ true ⌝ }
+fn fill_places(sharding: Sharding, ids: &[u64], shards: &mut [u64], minishards: &mut [u64])
+    requires { ⌜ allowed sharding ≡ true ⌝ }
     requires { ⌜ (length (now ids) ≤ length (now shards)) × (length (now ids) ≤ length (now minishards)) ⌝ }
-    ensures { λ _. ⌜ now (shards .exit) ≡ paste 0 (map (shardOf spec) (now (ids .entry))) (now (shards .entry)) ⌝ }
-    ensures { λ _. ⌜ now (minishards .exit) ≡ paste 0 (map (minishardOf spec) (now (ids .entry))) (now (minishards .entry)) ⌝ }
+    ensures { λ _. ⌜ now (shards .exit) ≡ paste 0 (map (shardOf sharding) (now (ids .entry))) (now (shards .entry)) ⌝ }
+    ensures { λ _. ⌜ now (minishards .exit) ≡ paste 0 (map (minishardOf sharding) (now (ids .entry))) (now (minishards .entry)) ⌝ }
 {
     let mut i = 0;
     while i < ids.len() {
-        let at = place(spec, ids[i]);
+        let at = place(sharding, ids[i]);
         shards[i] = at.shard;
         minishards[i] = at.minishard;
         i += 1;
@@ -39,16 +39,16 @@ fn fill_places(spec: Sharding, ids: &[u64], shards: &mut [u64], minishards: &mut
 
 #[no_mangle]
 pub extern "C" fn coronagamba_places_of(
-    spec: Sharding,
+    sharding: Sharding,
     ids: &[u64],
     shards: &mut [u64],
     minishards: &mut [u64],
 ) -> u64
-    ensures answer { λ r. ⌜ r ≡ batchWord spec (now (ids .entry)) (now (shards .entry)) (now (minishards .entry)) ⌝ }
-    ensures shards { λ r. ⌜ now (shards .exit) ≡ batchAfter r (map (shardOf spec) (now (ids .entry))) (now (shards .entry)) ⌝ }
-    ensures minishards { λ r. ⌜ now (minishards .exit) ≡ batchAfter r (map (minishardOf spec) (now (ids .entry))) (now (minishards .entry)) ⌝ }
+    ensures answer { λ r. ⌜ r ≡ batchWord sharding (now (ids .entry)) (now (shards .entry)) (now (minishards .entry)) ⌝ }
+    ensures shards { λ r. ⌜ now (shards .exit) ≡ batchAfter r (map (shardOf sharding) (now (ids .entry))) (now (shards .entry)) ⌝ }
+    ensures minishards { λ r. ⌜ now (minishards .exit) ≡ batchAfter r (map (minishardOf sharding) (now (ids .entry))) (now (minishards .entry)) ⌝ }
 {
-    if !is_allowed(spec) {
+    if !is_allowed(sharding) {
         return 1;
     }
     if shards.len() < ids.len() {
@@ -57,7 +57,7 @@ pub extern "C" fn coronagamba_places_of(
     if minishards.len() < ids.len() {
         return 13;
     }
-    fill_places(spec, ids, shards, minishards);
+    fill_places(sharding, ids, shards, minishards);
     0
 }
 

@@ -111,17 +111,17 @@ pub extern "C" fn coronagamba_manifest_corners(
     bytes: &[u8],
     level: u32,
     node: u32,
-    near: &mut [f32; 3],
-    far: &mut [f32; 3],
+    near_corner: &mut [f32; 3],
+    far_corner: &mut [f32; 3],
 ) -> u64
     ensures answer { λ r. ⌜ r ≡ cornersWord (cornersAnswer (now (bytes .entry)) level node) ⌝ }
-    ensures near { λ _. ⌜ now (near .exit) ≡ nearAfter (cornersAnswer (now (bytes .entry)) level node) (now (near .entry)) ⌝ }
-    ensures far { λ _. ⌜ now (far .exit) ≡ farAfter (cornersAnswer (now (bytes .entry)) level node) (now (far .entry)) ⌝ }
+    ensures near { λ _. ⌜ now («near_corner» .exit) ≡ nearAfter (cornersAnswer (now (bytes .entry)) level node) (now («near_corner» .entry)) ⌝ }
+    ensures far { λ _. ⌜ now («far_corner» .exit) ≡ farAfter (cornersAnswer (now (bytes .entry)) level node) (now («far_corner» .entry)) ⌝ }
 {
     match manifest::corners_of(bytes, level, node) {
         CornersAnswer::Corners(corners) => {
-            *near = three_reals(corners.near);
-            *far = three_reals(corners.far);
+            *near_corner = three_reals(corners.near);
+            *far_corner = three_reals(corners.far);
             0
         }
         CornersAnswer::Refused(refusal) => refusal as u64,

@@ -177,8 +177,8 @@ extern "C" {
         count: usize,
         level: u32,
         node: u32,
-        near: *mut [f32; 3],
-        far: *mut [f32; 3],
+        near_corner: *mut [f32; 3],
+        far_corner: *mut [f32; 3],
     ) -> u64;
     pub fn coronagamba_manifest_walk_begin(
         bytes: *const u8,
