@@ -63,6 +63,13 @@ uint64_t coronagamba_grid_of(coronagamba_volume volume, uint32_t grid[3]);
 uint64_t coronagamba_key_of(coronagamba_volume volume, coronagamba_cell cell,
                             uint64_t *key);
 
+/* The keys of many cells, in their order; `cells` holds x, y, z of each cell in
+ * turn, and one or two numbers left over are no cell. Refusals: 2 where an
+ * extent is 0 or any cell is outside the grid, 3, 13 where there are more cells
+ * than room for keys */
+uint64_t coronagamba_keys_of(coronagamba_volume volume, const uint32_t *cells,
+                             size_t count, uint64_t *keys, size_t keys_count);
+
 /* The cell of a key, as x, y, z. Refusals: 2, 3, 4 */
 uint64_t coronagamba_cell_of(coronagamba_volume volume, uint64_t key,
                              uint32_t cell[3]);
@@ -179,6 +186,23 @@ uint64_t coronagamba_manifest_corners(const uint8_t *bytes, size_t count,
                                       uint32_t level, uint32_t node,
                                       float near_corner[3],
                                       float far_corner[3]);
+
+/* Begins a walk over all nodes, level by level, and judges the bytes once. `at`
+ * is the level and the node that come next, `places` the item where that level
+ * begins and where that node's fragment starts. Refusals: 15, 16, 17 */
+uint64_t coronagamba_manifest_walk_begin(const uint8_t *bytes, size_t count,
+                                         uint32_t at[2], uint64_t places[2]);
+
+/* One step of a walk, on the bytes on which it began and the numbers that the
+ * last call left; it judges nothing again. Kind 1 is a node: its position,
+ * fragment start and size are written, and the walk moves past it. Kind 2: the
+ * level has no more nodes, and the walk moves to the next one. Kind 0: all
+ * levels are done, and only the kind is written. Refusals: 18 where the walk
+ * leaves the bytes */
+uint64_t coronagamba_manifest_walk_step(const uint8_t *bytes, size_t count,
+                                        uint32_t at[2], uint64_t places[2],
+                                        uint32_t *kind, uint32_t position[3],
+                                        uint64_t *start, uint32_t *size);
 
 #ifdef __cplusplus
 }

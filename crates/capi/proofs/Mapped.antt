@@ -54,6 +54,6 @@ pub kept : (k : ℕ) (results before : List ℕ) → before ≡ batchAfter (suc 
 unfolding batchAfter
 kept k results before = refl
 
-pub filled : (f : ℕ → ℕ) (ids before : List ℕ) {now : List ℕ} → now ≡ paste 0 (map f ids) before → now ≡ batchAfter 0 (map f ids) before
+pub filled : (results before : List ℕ) {now : List ℕ} → now ≡ paste 0 results before → now ≡ batchAfter 0 results before
 unfolding batchAfter
-filled f ids before e = e ∙ paste-front (map f ids) before (length (map f ids)) refl
+filled results before e = e ∙ paste-front results before (length results) refl

@@ -23,6 +23,13 @@ extern "C" {
 extern "C" {
     pub fn coronagamba_grid_of(volume: Volume, grid: *mut [u32; 3]) -> u64;
     pub fn coronagamba_key_of(volume: Volume, cell: Cell, key: *mut u64) -> u64;
+    pub fn coronagamba_keys_of(
+        volume: Volume,
+        cells: *const u32,
+        count: usize,
+        keys: *mut u64,
+        keys_count: usize,
+    ) -> u64;
     pub fn coronagamba_cell_of(volume: Volume, key: u64, cell: *mut [u32; 3]) -> u64;
     pub fn coronagamba_bounds_of(
         volume: Volume,
@@ -170,8 +177,24 @@ extern "C" {
         count: usize,
         level: u32,
         node: u32,
-        near: *mut [f32; 3],
-        far: *mut [f32; 3],
+        near_corner: *mut [f32; 3],
+        far_corner: *mut [f32; 3],
+    ) -> u64;
+    pub fn coronagamba_manifest_walk_begin(
+        bytes: *const u8,
+        count: usize,
+        at: *mut [u32; 2],
+        places: *mut [u64; 2],
+    ) -> u64;
+    pub fn coronagamba_manifest_walk_step(
+        bytes: *const u8,
+        count: usize,
+        at: *mut [u32; 2],
+        places: *mut [u64; 2],
+        kind: *mut u32,
+        position: *mut [u32; 3],
+        start: *mut u64,
+        size: *mut u32,
     ) -> u64;
 }
 
