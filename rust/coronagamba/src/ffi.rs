@@ -3,11 +3,26 @@
 //! Each that can refuse answers a word: 0 for success, else the refusal's
 //! number + 2^8 times the minishard + 2^32 times the position. Results go
 //! through pointers; a refusal leaves everything behind them as it was.
+//!
+//! What may be passed: a pointer and a count of one live slice, results that
+//! are live, and nothing that is written overlaps anything else. An empty
+//! slice's pointer is never followed. All that crosses is numbers, in structs
+//! without padding, and any bits make a number.
 
 #[cfg(feature = "grid")]
 use crate::grid::{Cell, Volume};
 #[cfg(feature = "sharding")]
 use crate::sharding::Sharding;
+#[cfg(any(feature = "grid", feature = "sharding"))]
+use std::mem::size_of;
+
+// No padding: a struct is as large as its numbers together.
+#[cfg(feature = "grid")]
+const _: () = assert!(size_of::<Volume>() == 9 * size_of::<u32>());
+#[cfg(feature = "grid")]
+const _: () = assert!(size_of::<Cell>() == 3 * size_of::<u32>());
+#[cfg(feature = "sharding")]
+const _: () = assert!(size_of::<Sharding>() == 4);
 
 extern "C" {
     pub fn coronagamba_read_u16(bytes: *const u8, count: usize) -> u16;
