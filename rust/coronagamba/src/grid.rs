@@ -1,7 +1,7 @@
 //! Grid sizes, keys and cell bounds.
 
 use crate::ffi;
-use crate::refusal::{given, Refusal};
+use crate::refusal::{answer, given, Refusal};
 
 /// Three extents.
 #[repr(C)]
@@ -154,6 +154,41 @@ impl Volume {
     pub fn key(&self, cell: Cell) -> Result<u64, Refusal> {
         // SAFETY: the result is a live number, lent to this call alone.
         given(|key| unsafe { ffi::coronagamba_key_of(*self, cell, key) })
+    }
+
+    /// The keys of many cells, in their order. Refusal 2 where an extent is
+    /// zero or any cell is outside the grid, or 3.
+    ///
+    /// ```
+    /// use coronagamba::{Cell, Volume};
+    ///
+    /// let volume = Volume::new([5, 3, 1], [1, 1, 1], [0, 0, 0]);
+    /// let cells = [[4, 2, 0], [3, 1, 0], [0, 0, 0]].map(Cell::from);
+    /// assert_eq!(volume.keys(&cells)?, [24, 7, 0]);
+    /// # Ok::<(), coronagamba::Refusal>(())
+    /// ```
+    pub fn keys(&self, cells: &[Cell]) -> Result<Vec<u64>, Refusal> {
+        let mut keys = vec![0; cells.len()];
+        self.write_keys(cells, &mut keys)?;
+        Ok(keys)
+    }
+
+    /// Writes the keys of many cells, in their order, to the front of `keys`.
+    /// Refusals as of [`keys`](Volume::keys), then 13 where `keys` is shorter
+    /// than `cells`; it is then as it was.
+    pub fn write_keys(&self, cells: &[Cell], keys: &mut [u64]) -> Result<(), Refusal> {
+        // SAFETY: a cell is three numbers and no padding, so pointer and count
+        // are those of the numbers in one live slice, whose count fits as its
+        // bytes do; `keys` is another, lent to this call alone.
+        answer(unsafe {
+            ffi::coronagamba_keys_of(
+                *self,
+                cells.as_ptr().cast(),
+                3 * cells.len(),
+                keys.as_mut_ptr(),
+                keys.len(),
+            )
+        })
     }
 
     /// The cell of a key, or refusal 2, 3 or 4.

@@ -2,6 +2,7 @@
 
 use crate::ffi;
 use crate::refusal::{answer, given, Refusal};
+use std::iter::FusedIterator;
 
 /// The shape of the finest nodes and the origin of the grid.
 #[derive(Clone, Copy, Debug, Default, PartialEq)]
@@ -59,6 +60,17 @@ pub struct Node {
     pub size: u32,
     /// Where its fragment starts: the sum of all earlier sizes.
     pub start: u64,
+}
+
+/// A node that [`Nodes`] comes to.
+#[derive(Clone, Copy, Debug, Default, PartialEq, Eq, Hash)]
+pub struct Visit {
+    /// Its level, counted from 0.
+    pub level: u32,
+    /// Its number in the level, counted from 0.
+    pub index: u32,
+    /// The node.
+    pub node: Node,
 }
 
 /// The corners of a node.
@@ -261,6 +273,37 @@ impl<'a> Manifest<'a> {
         })
     }
 
+    /// All nodes, level by level, or refusal 15, 16 or 17. The bytes are
+    /// checked once, where [`node`](Manifest::node) checks them each time.
+    ///
+    /// ```
+    /// use coronagamba::Manifest;
+    ///
+    /// let real = f32::to_bits;
+    /// let mut items = vec![real(1.0); 6]; // shape and origin
+    /// items.extend([2, 0, 0, 0, 0, 0, 0, 0, 0]); // level count, scales, vertex offsets
+    /// items.extend([2, 1]); // node counts
+    /// items.extend([0, 1, 0, 0, 0, 0, 500, 80]); // two nodes: all x, y, z, all sizes
+    /// items.extend([0, 0, 0, 90]); // one node
+    /// let bytes: Vec<u8> = items.iter().flat_map(|item| item.to_le_bytes()).collect();
+    ///
+    /// let mut fragments = Vec::new();
+    /// for visit in Manifest::open(&bytes).nodes()? {
+    ///     fragments.push((visit.level, visit.index, visit.node.start, visit.node.size));
+    /// }
+    /// assert_eq!(fragments, [(0, 0, 0, 500), (0, 1, 500, 80), (1, 0, 580, 90)]);
+    /// # Ok::<(), coronagamba::Refusal>(())
+    /// ```
+    pub fn nodes(&self) -> Result<Nodes<'a>, Refusal> {
+        let bytes = self.bytes;
+        // SAFETY: pointer and count are those of one live slice; the results
+        // are two live arrays, lent to this call alone.
+        let walk = given(|(at, places)| unsafe {
+            ffi::coronagamba_manifest_walk_begin(bytes.as_ptr(), bytes.len(), at, places)
+        });
+        walk.map(|(at, places)| Nodes { bytes, at, places })
+    }
+
     /// A node's corners, or refusal 15 to 18; 18 also where a position is 2^24
     /// or more or a corner is not finite.
     pub fn corners(&self, level: u64, node: u64) -> Result<Corners, Refusal> {
@@ -278,6 +321,61 @@ impl<'a> Manifest<'a> {
         })
     }
 }
+
+/// The nodes of a manifest, level by level, from [`Manifest::nodes`].
+#[derive(Clone, Debug)]
+pub struct Nodes<'a> {
+    bytes: &'a [u8],
+    /// The level and the node that come next.
+    at: [u32; 2],
+    /// The item where that level begins, and where that node's fragment
+    /// starts.
+    places: [u64; 2],
+}
+
+/// A step that came to a node.
+const NODE: u32 = 1;
+/// A step that came to the end of a level.
+const LEVEL: u32 = 2;
+
+impl Nodes<'_> {
+    /// One step of the walk: its kind and, where that is `NODE`, the node.
+    fn step(&mut self) -> (u32, Node) {
+        let Nodes { bytes, at, places } = self;
+        // SAFETY: pointer and count are those of one live slice; the walk's
+        // two arrays and the results are live and lent to this call alone.
+        let step = given(|(kind, node): &mut (u32, Node)| unsafe {
+            ffi::coronagamba_manifest_walk_step(
+                bytes.as_ptr(),
+                bytes.len(),
+                at,
+                places,
+                kind,
+                &mut node.position,
+                &mut node.start,
+                &mut node.size,
+            )
+        });
+        step.expect("a walk stays within the bytes on which it began")
+    }
+}
+
+impl Iterator for Nodes<'_> {
+    type Item = Visit;
+
+    fn next(&mut self) -> Option<Visit> {
+        loop {
+            let [level, index] = self.at;
+            match self.step() {
+                (NODE, node) => return Some(Visit { level, index, node }),
+                (LEVEL, _) => {}
+                _ => return None,
+            }
+        }
+    }
+}
+
+impl FusedIterator for Nodes<'_> {}
 
 /// A number as the library takes it. No manifest of at most 16 MiB has a
 /// level, node or field of the greatest one, so what does not fit is refused

@@ -175,4 +175,5 @@ fn values_go_between_threads() {
     is_shared::<Shard>();
     is_shared::<coronagamba::Chunks>();
     is_shared::<Manifest>();
+    is_shared::<coronagamba::manifest::Nodes>();
 }
