@@ -256,7 +256,7 @@ impl<'a> Shard<'a> {
 }
 
 /// The chunks of a sound shard, from [`Shard::chunks`]. It holds the listing of
-/// one minishard at a time.
+/// one minishard at a time, 24 bytes for each of its chunks.
 #[derive(Clone, Debug)]
 pub struct Chunks<'a> {
     shard: Shard<'a>,
