@@ -11,7 +11,7 @@ from typing import Any, Iterable, Tuple
 
 def _fitting(name: str, value: Any, least: int, most: int) -> int:
     try:
-        number = operator.index(value)
+        number = int(operator.index(value))
     except TypeError:
         raise TypeError(
             f"{name} must be an integer, not {type(value).__name__}"
