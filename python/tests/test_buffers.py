@@ -11,7 +11,7 @@ from concurrent.futures import ThreadPoolExecutor
 
 from coronagamba import Absent, Card, Manifest, Refused, Shard, Sharding
 from coronagamba import Volume
-from coronagamba._buffers import Lent
+from coronagamba._buffers import Lent, u32_triples, u64s
 
 from . import shards
 from .manifests import manifest
@@ -200,6 +200,19 @@ class Uncopied(unittest.TestCase):
         own = (ctypes.c_ubyte * len(data)).from_buffer(data)
         with Lent("data", data) as lent:
             self.assertEqual(lent.address, ctypes.addressof(own))
+
+    def test_batches_are_copied_only_where_they_are_not_aligned(self):
+        for prepare, code, width in ((u64s, "Q", 8), (u32_triples, "I", 4)):
+            data = memoryview(bytearray(4 * 24))
+            for start in range(width):
+                given = data[start:start + 24].cast(code)
+                with Lent("given", given) as lent:
+                    address = lent.address
+                with Lent("kept", prepare("given", given)) as lent:
+                    self.assertEqual(lent.address % width, 0)
+                    self.assertIs(
+                        lent.address == address, address % width == 0
+                    )
 
 
 class Released(unittest.TestCase):
