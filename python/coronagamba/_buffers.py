@@ -100,9 +100,9 @@ class Lent:
 
     def overlaps(self, other: Lent) -> bool:
         """Whether some byte belongs to both."""
-        return (
-            self.address < other.address + other.count
-            and other.address < self.address + self.count
+        begin = max(self.address, other.address)
+        return begin < min(
+            self.address + self.count, other.address + other.count
         )
 
 

@@ -333,6 +333,10 @@ class Writing(unittest.TestCase):
                 with self.assertRaisesRegex(ValueError, "^buffer overlaps"):
                     shard.settle_into(out)
             self.assertEqual(room, before)
+            # A part of no bytes has none in common, wherever it stands.
+            with self.assertRaises(Refused) as caught:
+                shard.settle_into(view[5:5])
+            self.assertEqual(caught.exception.number, 13)
             # The neighbouring bytes are not shared.
             shard.settle_into(view[len(FILE):])
         self.assertEqual(room, FILE + FILE)
