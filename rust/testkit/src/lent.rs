@@ -1,39 +1,68 @@
-//! Buffers to lend, with bytes around them that must not change.
+//! Buffers to lend, with items around them that must not change.
 
 use crate::Rng;
 
-/// How many bytes stand guard on each side.
+/// How many items stand guard on each side, at least.
 const GUARD: usize = 32;
 
-/// A buffer of random bytes with random bytes before and behind it. Two of
-/// them are equal only where all of these bytes are.
+/// A buffer of random items with random items before and behind it. Two of
+/// them are equal only where all of these items are.
 #[derive(Clone, Debug, PartialEq, Eq)]
-pub struct Lent {
-    bytes: Vec<u8>,
+pub struct Lent<T = u8> {
+    items: Vec<T>,
+    start: usize,
 }
 
-impl Lent {
+impl Lent<u8> {
     /// A buffer of this length.
     pub fn new(rng: &mut Rng, length: usize) -> Self {
         Lent {
-            bytes: rng.bytes(GUARD + length + GUARD),
+            items: rng.bytes(GUARD + length + GUARD),
+            start: GUARD,
         }
     }
 
+    /// A buffer that holds these bytes, at a place of any alignment.
+    pub fn holding(rng: &mut Rng, bytes: &[u8]) -> Self {
+        let start = GUARD + rng.index(8);
+        let mut items = rng.bytes(start);
+        items.extend(bytes);
+        items.extend(rng.bytes(GUARD));
+        Lent { items, start }
+    }
+}
+
+impl Lent<u64> {
+    /// A buffer of this many numbers.
+    pub fn numbers(rng: &mut Rng, length: usize) -> Self {
+        let items = (0..GUARD + length + GUARD).map(|_| rng.bits());
+        Lent {
+            items: items.collect(),
+            start: GUARD,
+        }
+    }
+}
+
+impl<T> Lent<T> {
     /// The part to lend.
-    pub fn part(&mut self) -> &mut [u8] {
-        let end = self.bytes.len() - GUARD;
-        &mut self.bytes[GUARD..end]
+    pub fn part(&mut self) -> &mut [T] {
+        let end = self.items.len() - GUARD;
+        &mut self.items[self.start..end]
+    }
+
+    /// The part to lend for reading.
+    pub fn held(&self) -> &[T] {
+        &self.items[self.start..self.items.len() - GUARD]
     }
 }
 
 /// Lets both write into equal buffers and panics unless they answer the same
-/// and leave the same bytes. Gives the answer.
-pub fn same_writing<T: PartialEq + std::fmt::Debug>(
-    lent: &Lent,
-    one: impl FnOnce(&mut [u8]) -> T,
-    other: impl FnOnce(&mut [u8]) -> T,
-) -> T {
+/// and leave the same items. Gives the answer.
+pub fn same_writing<T: Clone + PartialEq, A: PartialEq + std::fmt::Debug>(
+    lent: &Lent<T>,
+    one: impl FnOnce(&mut [T]) -> A,
+    other: impl FnOnce(&mut [T]) -> A,
+) -> A {
     let (mut first, mut second) = (lent.clone(), lent.clone());
     let (answer, expected) = (one(first.part()), other(second.part()));
     assert_eq!(answer, expected, "the answers");

@@ -2,7 +2,7 @@
 
 use crate::Rng;
 use reference::endian::read_u32;
-use reference::manifest::z_curve;
+use reference::manifest::{z_curve, MOST_LEVELS};
 
 /// A finite real of any size; zeros and the smallest and largest are common.
 fn finite(rng: &mut Rng) -> f32 {
@@ -256,11 +256,39 @@ pub fn damaged(rng: &mut Rng, most: usize) -> Vec<u8> {
     bytes
 }
 
+/// A manifest of any kind: sound, damaged, of another length, or of random
+/// bytes.
+pub fn any(rng: &mut Rng) -> Vec<u8> {
+    match rng.below(16) {
+        0..6 => sound(rng, 8),
+        6..12 => damaged(rng, 8),
+        12 | 13 => truncated(rng, 8),
+        14 => extended(rng, 8),
+        _ => {
+            let length = rng.index(200);
+            rng.bytes(length)
+        }
+    }
+}
+
+/// How many levels the manifest says that it has, as far as it may.
+pub fn levels_said(bytes: &[u8]) -> u32 {
+    read_u32(bytes, 24).min(MOST_LEVELS)
+}
+
+/// How many nodes the manifest says that a level has, 0 for no level of it.
+pub fn nodes_said(bytes: &[u8], level: u64) -> u32 {
+    let levels = levels_said(bytes);
+    if level >= u64::from(levels) {
+        return 0;
+    }
+    read_u32(bytes, 28 + 16 * levels as usize + 4 * level as usize)
+}
+
 /// A level and node to ask for: mostly ones that the manifest has.
 pub fn question(rng: &mut Rng, bytes: &[u8]) -> (u64, u64) {
-    let levels = read_u32(bytes, 24).min(32);
-    let level = rng.below(u64::from(levels) + 1);
-    let count = read_u32(bytes, 28 + 16 * levels as usize + 4 * level as usize);
+    let level = rng.below(u64::from(levels_said(bytes)) + 1);
+    let count = nodes_said(bytes, level);
     let node = rng.below(u64::from(count.min(1_000)) + 1);
     match rng.below(12) {
         0 => (rng.edge_u64(), node),
