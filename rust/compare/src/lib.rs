@@ -10,6 +10,9 @@
 mod agree;
 mod parts;
 mod question;
+mod quiet;
+pub mod run;
+pub mod shrink;
 mod sides;
 
 /// What a comparison of two shards gives where both are sound and do not list

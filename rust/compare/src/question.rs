@@ -162,12 +162,15 @@ pub struct Spot {
 }
 
 impl Spot {
-    /// This cell as it stands, or another one of the same volume.
+    /// This cell as it stands, or mostly inside the grid.
     pub fn draw(rng: &mut Rng, cell: Cell) -> Self {
-        Spot {
-            kind: rng.below(256) as u8 & rng.below(2).wrapping_neg() as u8,
-            cell,
+        let mut kind = 0;
+        if rng.once_in(2) {
+            for _ in 0..3 {
+                kind = kind << 2 | rng.pick(&[0, 1, 1, 1, 1, 1, 2, 2, 2, 3]);
+            }
         }
+        Spot { kind, cell }
     }
 
     /// On each axis the number as it stands, one inside the grid, the last
@@ -213,7 +216,7 @@ impl Choice {
             return Choice::plain(number);
         }
         Choice {
-            kind: rng.below(4) as u8,
+            kind: *rng.pick(&[0, 1, 1, 2, 3, 3]),
             number: rng.edge_u64(),
         }
     }
@@ -266,16 +269,15 @@ impl Choice {
         })
     }
 
-    /// An id: as it stands, one that the file lists, or a neighbour of one.
+    /// An id: as it stands, one that the file lists, or the next one to it.
     pub fn id(&self, sharding: &Sharding, file: &[u8]) -> u64 {
-        let step = match self.kind % 4 {
-            0 => return self.number,
-            1 => 0,
-            2 => 1,
-            _ => u64::MAX,
-        };
         let listed = shards::listed_id(sharding, file, self.number);
-        listed.map_or(self.number, |id| id.wrapping_add(step))
+        match (self.kind % 4, listed) {
+            (0, _) | (_, None) => self.number,
+            (2, Some(id)) if self.number.count_ones() % 2 == 0 => id.wrapping_add(1),
+            (2, Some(id)) => id.wrapping_sub(1),
+            (_, Some(id)) => id,
+        }
     }
 
     /// A number of this many: as it stands, one of them, or just beyond them.

@@ -14,11 +14,12 @@ pub struct Lent<T = u8> {
 }
 
 impl Lent<u8> {
-    /// A buffer of this length.
+    /// A buffer of this length, at a place of any alignment.
     pub fn new(rng: &mut Rng, length: usize) -> Self {
+        let start = GUARD + rng.index(8);
         Lent {
-            items: rng.bytes(GUARD + length + GUARD),
-            start: GUARD,
+            items: rng.bytes(start + length + GUARD),
+            start,
         }
     }
 

@@ -526,12 +526,17 @@ pub fn brimming(rng: &mut Rng) -> Sample {
 /// A shard of any kind: sound, damaged, under another specification or number,
 /// or of random bytes.
 pub fn any(rng: &mut Rng) -> Sample {
-    let mut sample = match rng.below(16) {
-        0..6 => sound(rng, 12),
-        15 => random_bytes(rng),
-        _ => damaged(rng, 8),
+    let most = if rng.once_in(200) {
+        300
+    } else {
+        *rng.pick(&[2, 8, 12, 12, 40])
     };
-    if rng.once_in(6) {
+    let mut sample = match rng.below(32) {
+        0 => random_bytes(rng),
+        1..16 => sound(rng, most),
+        _ => damaged(rng, most),
+    };
+    if rng.once_in(8) {
         make_wild(rng, &mut sample);
     }
     sample

@@ -133,46 +133,48 @@ fn compare_listing(bytes: &[u8]) -> u8 {
     })
 }
 
-/// A shard of any kind, and a question's front: specification and number.
-pub fn front(rng: &mut Rng) -> (Sample, Writer) {
-    let sample = shards::any(rng);
-    let writer = Writer::new()
+/// A question's front: the sample's specification and mostly its number.
+pub fn front(rng: &mut Rng, sample: &Sample) -> Writer {
+    Writer::new()
         .sharding(&sample.sharding)
-        .choice(Choice::draw_near(rng, sample.number));
-    (sample, writer)
+        .choice(Choice::draw_near(rng, sample.number))
 }
 
 fn sample_lookup(rng: &mut Rng) -> Vec<u8> {
-    let (sample, writer) = front(rng);
+    let sample = shards::any(rng);
     let id = shards::question(rng, &sample);
-    writer
+    front(rng, &sample)
         .choice(Choice::draw(rng, id))
         .rest(&sample.file)
         .finish()
 }
 
 fn sample_check(rng: &mut Rng) -> Vec<u8> {
-    let (sample, writer) = front(rng);
-    writer.rest(&sample.file).finish()
+    let sample = shards::any(rng);
+    front(rng, &sample).rest(&sample.file).finish()
 }
 
-/// A minishard number to ask for.
+/// A minishard number to ask for: mostly one that the specification has.
 fn minishard(rng: &mut Rng, sharding: &Sharding) -> Choice {
-    let number = places::minishard_number(rng, sharding);
+    let number = if rng.once_in(4) {
+        places::minishard_number(rng, sharding)
+    } else {
+        rng.below(1 << sharding.minishard_bits.min(12))
+    };
     Choice::draw(rng, number)
 }
 
 fn sample_listed_count(rng: &mut Rng) -> Vec<u8> {
-    let (sample, writer) = front(rng);
-    writer
+    let sample = shards::any(rng);
+    front(rng, &sample)
         .choice(minishard(rng, &sample.sharding))
         .rest(&sample.file)
         .finish()
 }
 
 fn sample_listing(rng: &mut Rng) -> Vec<u8> {
-    let (sample, writer) = front(rng);
-    writer
+    let sample = shards::any(rng);
+    front(rng, &sample)
         .choice(minishard(rng, &sample.sharding))
         .room(Room::draw(rng))
         .rest(&sample.file)
