@@ -35,7 +35,7 @@ fn compare_chunk_name(bytes: &[u8]) -> u8 {
     let mut reader = Reader::new(bytes);
     let volume = reader.volume();
     let cell = reader.spot().cell(&volume);
-    let (library, at) = (sides::volume(&volume), sides::cell(cell));
+    let (library, at) = (sides::volume(&volume), cell.into());
     let name = names::chunk_name(&volume, cell);
     let output = output(&name, reader.room());
     same(

@@ -3,7 +3,7 @@
 use crate::agree::{guarded, same, same_writing};
 use crate::question::{Choice, Reader, Room, Writer};
 use crate::{sides, Part};
-use coronagamba::{Listed, Shard, Span};
+use coronagamba::{Chunk, Listed, Shard, Span};
 use reference::shard;
 use reference::sharding::Sharding;
 use testkit::shards::{self, Sample};
@@ -24,6 +24,15 @@ pub const CHECK: Part = Part {
     about: "the whole-shard check and the minishard that it names",
     meets: &[0, 1, 5, 6, 7, 8, 9, 10, 11],
     compare: compare_check,
+    sample: sample_check,
+};
+
+/// All chunks of a shard.
+pub const CHUNKS: Part = Part {
+    name: "chunks",
+    about: "all chunks of a sound shard",
+    meets: &[0, 1, 5, 6, 7, 8, 9, 10, 11],
+    compare: compare_chunks,
     sample: sample_check,
 };
 
@@ -90,6 +99,27 @@ fn compare_check(bytes: &[u8]) -> u8 {
             format_args!("check of shard {number} under {sharding:?}"),
             Shard::open(sides::sharding(&sharding), number, file).check(),
             shard::check(&sharding, number, file),
+        )
+    })
+}
+
+fn compare_chunks(bytes: &[u8]) -> u8 {
+    let mut reader = Reader::new(bytes);
+    let (sharding, number) = (reader.sharding(), reader.choice());
+    guarded(reader.rest(), |file| {
+        let number = number.shard(&sharding, file);
+        let chunk = |entry: &shard::Entry| Chunk {
+            minishard: sharding.place(entry.id).minishard,
+            id: entry.id,
+            span: span(entry),
+            bytes: entry.bytes(file),
+        };
+        let opened = Shard::open(sides::sharding(&sharding), number, file);
+        let entries = shard::list(&sharding, number, file);
+        same(
+            format_args!("chunks of shard {number} under {sharding:?}"),
+            opened.chunks().map(Iterator::collect::<Vec<Chunk>>),
+            entries.map(|entries| entries.iter().map(chunk).collect()),
         )
     })
 }

@@ -28,9 +28,15 @@ pub const PLACES: Part = Part {
 fn compare_place(bytes: &[u8]) -> u8 {
     let mut reader = Reader::new(bytes);
     let (sharding, id) = (reader.sharding(), reader.number());
+    let library = sides::sharding(&sharding);
+    same(
+        format_args!("whether {sharding:?} is allowed"),
+        library.allowed(),
+        sharding.allowed(),
+    );
     same(
         format_args!("place of {id} under {sharding:?}"),
-        sides::sharding(&sharding).place(id),
+        library.place(id),
         place_of(&sharding, id).map(sides::place),
     )
 }
