@@ -30,7 +30,7 @@ fn timed(clock: fn() -> Duration, operations: usize, run: &mut dyn FnMut() -> u6
 }
 
 /// The lower quartile, the median and the upper quartile.
-fn quartiles(mut values: Vec<f64>) -> [f64; 3] {
+pub fn quartiles(mut values: Vec<f64>) -> [f64; 3] {
     values.sort_by(f64::total_cmp);
     [1, 2, 3].map(|quarters| values[quarters * values.len() / 4])
 }
