@@ -1,9 +1,11 @@
 //! Keys and places of ids in plain Rust, with the same tests in the same order.
+//! What is short is marked for inlining, as it would be in its caller's crate.
 
 use coronagamba::{Cell, Sharding, Volume};
 
 /// The grid size, or 2.
-fn grid(volume: &Volume) -> Result<[u32; 3], u8> {
+#[inline]
+pub fn grid(volume: &Volume) -> Result<[u32; 3], u8> {
     let (size, chunk) = (volume.size, volume.chunk);
     let size = [size.x, size.y, size.z];
     let chunk = [chunk.x, chunk.y, chunk.z];
@@ -14,21 +16,22 @@ fn grid(volume: &Volume) -> Result<[u32; 3], u8> {
 }
 
 /// How many bits a coordinate below `size` needs.
-fn bits(size: u32) -> u32 {
+#[inline]
+pub fn bits(size: u32) -> u32 {
     32 - (size - 1).leading_zeros()
 }
 
-/// The key of a cell, bit by bit, or 2 or 3.
-pub fn key(volume: &Volume, cell: Cell) -> Result<u64, u8> {
-    let grid = grid(volume)?;
-    let cell = [cell.x, cell.y, cell.z];
-    if (0..3).any(|axis| cell[axis] >= grid[axis]) {
-        return Err(2);
-    }
-    let bits = grid.map(bits);
-    if bits.iter().sum::<u32>() > 64 {
-        return Err(3);
-    }
+/// Whether a cell lies in a grid.
+#[inline]
+pub fn inside(grid: [u32; 3], cell: Cell) -> bool {
+    let cell = <[u32; 3]>::from(cell);
+    (0..3).all(|axis| cell[axis] < grid[axis])
+}
+
+/// The key of a cell of a grid whose axes need these bits, bit by bit.
+#[inline]
+pub fn key_in(bits: [u32; 3], cell: Cell) -> u64 {
+    let cell = <[u32; 3]>::from(cell);
     let (mut key, mut place) = (0, 0);
     for bit in 0..bits[0].max(bits[1]).max(bits[2]) {
         for axis in 0..3 {
@@ -38,10 +41,42 @@ pub fn key(volume: &Volume, cell: Cell) -> Result<u64, u8> {
             }
         }
     }
-    Ok(key)
+    key
+}
+
+/// The key of a cell, or 2 or 3.
+#[inline]
+pub fn key(volume: &Volume, cell: Cell) -> Result<u64, u8> {
+    let grid = grid(volume)?;
+    if !inside(grid, cell) {
+        return Err(2);
+    }
+    let bits = grid.map(bits);
+    if bits.iter().sum::<u32>() > 64 {
+        return Err(3);
+    }
+    Ok(key_in(bits, cell))
+}
+
+/// The keys of many cells, or 2, 3 or 13: the grid worked out once.
+pub fn keys(volume: &Volume, cells: &[Cell], keys: &mut [u64]) -> Result<(), u8> {
+    let grid = grid(volume)?;
+    if !cells.iter().all(|cell| inside(grid, *cell)) {
+        return Err(2);
+    }
+    let bits = grid.map(bits);
+    if bits.iter().sum::<u32>() > 64 {
+        return Err(3);
+    }
+    let keys = keys.get_mut(..cells.len()).ok_or(13)?;
+    for (key, cell) in keys.iter_mut().zip(cells) {
+        *key = key_in(bits, *cell);
+    }
+    Ok(())
 }
 
 /// Spreads every bit of `h` over all of them.
+#[inline]
 fn finish(mut h: u32) -> u32 {
     h = (h ^ (h >> 16)).wrapping_mul(0x85eb_ca6b);
     h = (h ^ (h >> 13)).wrapping_mul(0xc2b2_ae35);
@@ -49,7 +84,8 @@ fn finish(mut h: u32) -> u32 {
 }
 
 /// The first 8 bytes of MurmurHash3_x86_128 of an 8-byte number, seed 0.
-fn murmur(number: u64) -> u64 {
+#[inline]
+pub fn murmur(number: u64) -> u64 {
     let (low, high) = (number as u32, (number >> 32) as u32);
     let one = low
         .wrapping_mul(0x239b_961b)
@@ -71,7 +107,8 @@ fn murmur(number: u64) -> u64 {
 }
 
 /// Refusal 1, or nothing.
-fn judged(sharding: &Sharding) -> Result<(), u8> {
+#[inline]
+pub fn judged(sharding: &Sharding) -> Result<(), u8> {
     let allowed = sharding.preshift <= 63
         && sharding.hash <= 1
         && sharding.minishard_bits <= 12
@@ -84,26 +121,47 @@ fn judged(sharding: &Sharding) -> Result<(), u8> {
 }
 
 /// The lowest bits of a number.
+#[inline]
 fn low(number: u64, bits: u8) -> u64 {
     number & ((1 << bits) - 1)
 }
 
 /// The shard and minishard of a hashed id.
-fn split(sharding: &Sharding, hashed: u64) -> (u64, u64) {
+#[inline]
+pub fn split(sharding: &Sharding, hashed: u64) -> (u64, u64) {
     let shard = low(hashed >> sharding.minishard_bits, sharding.shard_bits);
     (shard, low(hashed, sharding.minishard_bits))
 }
 
-/// The shard and minishard of an id, or 1.
-pub fn place(sharding: &Sharding, id: u64) -> Result<(u64, u64), u8> {
-    judged(sharding)?;
+/// The hashed id.
+#[inline]
+pub fn hashed(sharding: &Sharding, id: u64) -> u64 {
     let shifted = id >> sharding.preshift;
-    let hashed = if sharding.hash == 0 {
+    if sharding.hash == 0 {
         shifted
     } else {
         murmur(shifted)
-    };
-    Ok(split(sharding, hashed))
+    }
+}
+
+/// The shard and minishard of an id, or 1.
+#[inline]
+pub fn place(sharding: &Sharding, id: u64) -> Result<(u64, u64), u8> {
+    judged(sharding)?;
+    Ok(split(sharding, hashed(sharding, id)))
+}
+
+/// The same as a call that is not inlined, with its results behind pointers, as
+/// the library's is.
+#[inline(never)]
+pub fn place_called(sharding: &Sharding, id: u64, shard: &mut u64, minishard: &mut u64) -> u64 {
+    match place(sharding, id) {
+        Ok(at) => {
+            (*shard, *minishard) = at;
+            0
+        }
+        Err(refusal) => u64::from(refusal),
+    }
 }
 
 /// The places of many ids, or 1 or 13: judged once, the hash chosen once.

@@ -1,6 +1,6 @@
 //! Shards in plain Rust, with the same tests in the same order.
 
-use crate::places::plain::place;
+use super::places::{judged, place};
 use coronagamba::Sharding;
 
 /// The most bytes of a shard or a settled form.
@@ -24,7 +24,7 @@ fn number(row: &[u8], i: usize) -> u64 {
 
 /// Tests 1, 5 and 6.
 fn open(sharding: &Sharding, shard: u64, file: &[u8]) -> Result<(), u8> {
-    place(sharding, 0)?;
+    judged(sharding)?;
     if shard >> sharding.shard_bits != 0 {
         return Err(5);
     }

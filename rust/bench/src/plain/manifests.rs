@@ -110,3 +110,48 @@ pub fn check(bytes: &[u8]) -> Result<(), u8> {
     }
     Ok(())
 }
+
+/// A level's rows of items: x, y, z and the fragments' sizes.
+fn rows(level: &[u8]) -> [&[u8]; 4] {
+    let length = level.len() / 4;
+    std::array::from_fn(|row| &level[row * length..(row + 1) * length])
+}
+
+/// Checks a manifest and hands out the position, fragment start and fragment
+/// size of each node, level by level.
+pub fn nodes(bytes: &[u8], mut take: impl FnMut([u32; 3], u64, u32)) -> Result<(), u8> {
+    check(bytes)?;
+    let parts = parts(bytes)?;
+    let (mut levels, mut start) = (parts.levels, 0);
+    for count in items(parts.counts) {
+        let (level, rest) = levels.split_at(16 * count as usize);
+        levels = rest;
+        let [x, y, z, sizes] = rows(level).map(items);
+        for (((x, y), z), size) in x.zip(y).zip(z).zip(sizes) {
+            take([x, y, z], start, size);
+            start += u64::from(size);
+        }
+    }
+    Ok(())
+}
+
+/// Position, fragment start and fragment size of a node, or 15 to 18.
+pub fn node(bytes: &[u8], level: usize, node: usize) -> Result<([u32; 3], u64, u32), u8> {
+    check(bytes)?;
+    let parts = parts(bytes)?;
+    let (mut levels, mut start) = (parts.levels, 0);
+    let mut counts = items(parts.counts);
+    for count in counts.by_ref().take(level) {
+        let (level, rest) = levels.split_at(16 * count as usize);
+        levels = rest;
+        start += items(rows(level)[3]).map(u64::from).sum::<u64>();
+    }
+    let count = counts.next().ok_or(18)? as usize;
+    if node >= count {
+        return Err(18);
+    }
+    let [x, y, z, sizes] = rows(&levels[..16 * count]);
+    let at = |row: &[u8]| number(&row[4 * node..4 * node + 4]);
+    start += items(&sizes[..4 * node]).map(u64::from).sum::<u64>();
+    Ok(([at(x), at(y), at(z)], start, at(sizes)))
+}

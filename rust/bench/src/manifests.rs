@@ -1,8 +1,7 @@
 //! The check of a mesh manifest.
 
-mod plain;
-
-use crate::runner::{numbers, Measure};
+use crate::runner::{numbers, pass, Measure};
+use bench::plain::manifests as plain;
 use coronagamba::manifest::Manifest;
 use reference::manifest::{z_curve, MOST_BYTES};
 use std::hint::black_box;
@@ -56,7 +55,8 @@ fn plain(bytes: &[u8]) -> u64 {
     answer.map_or_else(u64::from, |()| 0)
 }
 
-/// The check of a sound manifest with these positions, timed by node.
+/// The check of a sound manifest with these positions, timed by node; the limit
+/// loads all bytes.
 fn checks(name: &str, mut positions: Vec<[u32; 3]>) {
     let bytes = manifest(&positions);
     assert_eq!(bytes.len(), MOST_BYTES, "{name}: the length");
@@ -64,16 +64,81 @@ fn checks(name: &str, mut positions: Vec<[u32; 3]>) {
     let measure = Measure {
         name,
         operations: NODES,
+        bar: Some(1.3),
     };
-    measure.run(|| library(&bytes), || plain(&bytes));
+    measure.run_beside(|| library(&bytes), || plain(&bytes), || pass(&bytes));
     // Both sides get as far as the last node.
     positions[NODES - 1] = positions[NODES - 2];
     let equal = manifest(&positions);
     assert_eq!((library(&equal), plain(&equal)), (17, 17), "{name}: order");
 }
 
+/// One number for a node.
+fn folded([x, y, z]: [u32; 3], start: u64, size: u32) -> u64 {
+    start ^ u64::from(x ^ y << 8 ^ z << 16) ^ u64::from(size) << 32
+}
+
+/// A walk over all nodes of a manifest, timed by node.
+fn walks(name: &str, positions: &[[u32; 3]]) {
+    let bytes = manifest(positions);
+    Measure {
+        name,
+        operations: positions.len(),
+        bar: None,
+    }
+    .run_beside(
+        || {
+            let nodes = Manifest::open(black_box(&bytes)).nodes();
+            nodes.expect("the manifest is sound").fold(0, |all, visit| {
+                let node = visit.node;
+                all ^ folded(node.position, node.start, node.size)
+            })
+        },
+        || {
+            let mut all = 0;
+            let sound = plain::nodes(black_box(&bytes), |position, start, size| {
+                all ^= folded(position, start, size);
+            });
+            assert!(sound.is_ok());
+            all
+        },
+        || pass(&bytes),
+    );
+}
+
+/// A node of a small manifest, which each call judges anew.
+fn nodes(name: &str, positions: &[[u32; 3]]) {
+    let bytes = manifest(positions);
+    let count = positions.len();
+    Measure {
+        name,
+        operations: count,
+        bar: None,
+    }
+    .run(
+        || {
+            (0..count as u64).fold(0, |all, number| {
+                let node = Manifest::open(black_box(&bytes)).node(0, number);
+                let node = node.expect("there is such a node");
+                all ^ folded(node.position, node.start, node.size)
+            })
+        },
+        || {
+            (0..count).fold(0, |all, number| {
+                let node = plain::node(black_box(&bytes), 0, number);
+                let (position, start, size) = node.expect("there is such a node");
+                all ^ folded(position, start, size)
+            })
+        },
+    );
+}
+
 /// Prints the lines.
 pub fn run() {
-    checks("manifest check, dense, a node", dense());
+    let dense = dense();
+    nodes("manifest, a node of 64", &dense[..64]);
+    nodes("manifest, a node of 4096", &dense[..4096]);
+    walks("manifest, all nodes, a node", &dense);
+    checks("manifest check, dense, a node", dense);
     checks("manifest check, scattered, a node", scattered());
 }
