@@ -211,22 +211,6 @@ extern "C" {
         start: *mut u64,
         size: *mut u32,
     ) -> u64;
-    pub fn coronagamba_manifest_walk_begin(
-        bytes: *const u8,
-        count: usize,
-        at: *mut [u32; 2],
-        places: *mut [u64; 2],
-    ) -> u64;
-    pub fn coronagamba_manifest_walk_step(
-        bytes: *const u8,
-        count: usize,
-        at: *mut [u32; 2],
-        places: *mut [u64; 2],
-        kind: *mut u32,
-        position: *mut [u32; 3],
-        start: *mut u64,
-        size: *mut u32,
-    ) -> u64;
 }
 
 /// A refusal's word is its number alone where the rules give no more, and it
