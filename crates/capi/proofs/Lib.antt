@@ -1,4 +1,5 @@
 pub mod Checked
+pub mod Each
 pub mod Front
 pub mod Mapped
 pub mod Threes

@@ -27,10 +27,6 @@ module _ (f : ℕ → ℕ) (ids : List ℕ) (i : ℕ) (d : List ℕ) {e : List �
   pub map-last : length ids ≤ i → d ≡ e
   map-last l = sym (paste-nil i d) ∙ ap (λ (x : List ℕ). paste i (map f x) d) (sym (drop-all ids i l)) ∙ h
 
-length-map : (f : ℕ → ℕ) (l : List ℕ) → length (map f l) ≡ length l
-length-map f [] = refl
-length-map f (x ∷ l) = ap suc (length-map f l)
-
 -- ---- the answers
 
 module _ (spec : Sharding) (ids shards minishards : List ℕ) {b : Bool} (a : b ≡ allowed spec) where
