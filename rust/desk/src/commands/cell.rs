@@ -1,0 +1,19 @@
+//! `cell`.
+
+use super::Command;
+use crate::args::Args;
+use crate::fault::Fault;
+use crate::help;
+use crate::report::Report;
+
+/// The command.
+pub const COMMAND: Command = Command {
+    name: "cell",
+    help: help::CELL,
+    options: &[],
+    run,
+};
+
+fn run(_args: &Args, _report: &mut Report) -> Result<(), Fault> {
+    Err(Fault::wrong_use("cell is not there yet"))
+}

@@ -1,0 +1,19 @@
+//! `explain`.
+
+use super::Command;
+use crate::args::Args;
+use crate::fault::Fault;
+use crate::help;
+use crate::report::Report;
+
+/// The command.
+pub const COMMAND: Command = Command {
+    name: "explain",
+    help: help::EXPLAIN,
+    options: &[],
+    run,
+};
+
+fn run(_args: &Args, _report: &mut Report) -> Result<(), Fault> {
+    Err(Fault::wrong_use("explain is not there yet"))
+}

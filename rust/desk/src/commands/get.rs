@@ -1,0 +1,19 @@
+//! `get`.
+
+use super::Command;
+use crate::args::Args;
+use crate::fault::Fault;
+use crate::help;
+use crate::report::Report;
+
+/// The command.
+pub const COMMAND: Command = Command {
+    name: "get",
+    help: help::GET,
+    options: &[],
+    run,
+};
+
+fn run(_args: &Args, _report: &mut Report) -> Result<(), Fault> {
+    Err(Fault::wrong_use("get is not there yet"))
+}

@@ -1,0 +1,19 @@
+//! `list`.
+
+use super::Command;
+use crate::args::Args;
+use crate::fault::Fault;
+use crate::help;
+use crate::report::Report;
+
+/// The command.
+pub const COMMAND: Command = Command {
+    name: "list",
+    help: help::LIST,
+    options: &[],
+    run,
+};
+
+fn run(_args: &Args, _report: &mut Report) -> Result<(), Fault> {
+    Err(Fault::wrong_use("list is not there yet"))
+}

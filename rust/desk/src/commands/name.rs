@@ -1,0 +1,19 @@
+//! `name`.
+
+use super::Command;
+use crate::args::Args;
+use crate::fault::Fault;
+use crate::help;
+use crate::report::Report;
+
+/// The command.
+pub const COMMAND: Command = Command {
+    name: "name",
+    help: help::NAME,
+    options: &[],
+    run,
+};
+
+fn run(_args: &Args, _report: &mut Report) -> Result<(), Fault> {
+    Err(Fault::wrong_use("name is not there yet"))
+}
