@@ -13,6 +13,7 @@ mod json;
 mod naming;
 mod output;
 mod report;
+mod sample;
 mod settings;
 
 use std::env;
