@@ -2,9 +2,14 @@
 
 #![forbid(unsafe_code)]
 
+mod commands;
 mod folders;
 mod json;
+mod memory;
+mod nothing_lost;
+mod odd_files;
 mod refusals;
 mod sample;
 mod shards;
 mod support;
+mod tour;
