@@ -122,6 +122,26 @@ fn killed_at_random_moments_while_settling() {
     deposit.finished("settled");
 }
 
+#[test]
+fn several_runs_into_one_folder() {
+    let deposit = Deposit::new(64, |_| 2_000);
+    let line = deposit.line();
+    let start = |_| {
+        let mut program = deposit.folder.program();
+        program.args(line.split_whitespace()).stdout(Stdio::piped());
+        program
+            .stderr(Stdio::piped())
+            .spawn()
+            .expect("the program starts")
+    };
+    let runs: Vec<_> = (0..3).map(start).collect();
+    for run in runs {
+        let output = run.wait_with_output().expect("ended");
+        Run::told(line.clone(), output).expect_status(0);
+    }
+    deposit.finished("settled");
+}
+
 /// Runs a script in a mount namespace of its own, where that is allowed: as
 /// root, or as root of a user namespace.
 fn with_mounts(folder: &Folder, script: &str, arguments: &[&str]) -> Option<Run> {

@@ -80,9 +80,7 @@ fn single_files_that_can_not_be_read() {
     let folder = Folder::with_sample();
     symlink("nowhere", folder.at("3.shard")).expect("a link");
     folder.make("4.shard");
-    let made = Command::new("mkfifo").arg(folder.at("5.shard")).status();
-    assert!(made.expect("mkfifo starts").success());
-    for name in ["3.shard", "nothing/3.shard", "5.shard"] {
+    for name in ["3.shard", "nothing/3.shard"] {
         for command in ["check", "list"] {
             let line = format!("{command} {name} --card demo/deposit.card");
             run_for_a_minute(&folder, &line).expect_status(3);
@@ -108,6 +106,44 @@ fn single_files_that_can_not_be_read() {
     let lost = folder.run_line("get demo/damaged 31 --card demo/deposit.card");
     lost.expect_status(3);
     assert!(lost.stderr.contains("7.shard"), "{lost}");
+}
+
+#[test]
+fn files_that_vanish_during_the_run() {
+    let sharding = "--preshift 0 --hash identity --minishard-bits 1 --shard-bits 8";
+    let folder = Folder::new();
+    let names: Vec<String> = (0..256)
+        .map(|number| format!("{number:02x}.shard"))
+        .collect();
+    for _ in 0..5 {
+        for name in &names {
+            folder.write(format!("deposit/{name}"), vec![0; 100_000]);
+        }
+        let mut command = folder.program();
+        command
+            .arg("check")
+            .arg("deposit")
+            .args(sharding.split(' '));
+        command.stdout(Stdio::piped()).stderr(Stdio::piped());
+        let child = command.spawn().expect("the program starts");
+        for name in names.iter().rev() {
+            fs::remove_file(folder.at(format!("deposit/{name}"))).expect("removed");
+        }
+        let run = Run::told("check".into(), child.wait_with_output().expect("ended"));
+        // Where it came too late, there was no shard or no folder to list.
+        assert!(matches!(run.status, Some(0 | 1 | 3)), "{run}");
+        let sound = run
+            .text()
+            .matches(": sound, 0 chunks, 100000 bytes")
+            .count();
+        let told = run.lines().len() + run.stderr.lines().count();
+        assert!(
+            run.stderr.lines().all(|line| line.contains("No such file")),
+            "{run}"
+        );
+        let summary = format!(": {sound} sound, 0 refused");
+        assert!(told == 1 || run.text().contains(&summary), "{run}");
+    }
 }
 
 /// The program as a user who may not read everything; as root where that can

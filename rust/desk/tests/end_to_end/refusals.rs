@@ -98,13 +98,7 @@ fn number_1_a_field_of_the_specification() {
     assert_eq!(folder.names("."), ["0.shard"]);
 }
 
-/// A card of the sample's volume with this byte put in this place.
-fn card_with(place: usize, byte: u8) -> Vec<u8> {
-    let mut bytes = sample_card();
-    bytes[place] = byte;
-    bytes
-}
-
+/// A card of the sample's volume.
 fn sample_card() -> Vec<u8> {
     let card = card::Card {
         sharding: ONE,
@@ -117,39 +111,40 @@ fn sample_card() -> Vec<u8> {
     card::to_bytes(&card).expect("an allowed card")
 }
 
+/// That card with other bytes from this place on.
+fn card_with(place: usize, bytes: &[u8]) -> Vec<u8> {
+    let mut card = sample_card();
+    card[place..][..bytes.len()].copy_from_slice(bytes);
+    card
+}
+
+/// Cards that are refused, and their numbers. The fields' bodies stand at 3
+/// preshift, 7 hash, 11 minishard bits, 15 shard bits, 19 size, 34 chunk, 49
+/// offset, each behind a tag and a length.
+fn refused_cards() -> Vec<(Vec<u8>, u8)> {
+    let mut wide = card_with(19, &[0xff; 12]);
+    wide[34..46].copy_from_slice(&[1, 0, 0, 0].repeat(3));
+    vec![
+        (Vec::new(), 14),
+        (sample_card()[..60].to_vec(), 14),
+        (card_with(0, &[2]), 14),
+        (card_with(1, &[2]), 14),
+        (card_with(49, &[0; 12]), 14),
+        (card_with(3, &[64]), 1),
+        (card_with(7, &[2]), 1),
+        (card_with(11, &[13]), 1),
+        (card_with(15, &[33]), 1),
+        (card_with(19, &[0; 4]), 2),
+        (card_with(34, &[0; 12]), 2),
+        (wide, 3),
+    ]
+}
+
 #[test]
 fn cards_give_14_then_1_then_2_then_3() {
     let folder = Folder::new();
     folder.write("0.shard", example());
-    // The fields stand at: 0 preshift, 4 hash, 8 minishard bits, 12 shard bits,
-    // 16 size, 31 chunk, 46 offset; each behind 3 bytes of tag and length.
-    let wide = {
-        let mut bytes = sample_card();
-        bytes[19..31].fill(0xff);
-        bytes[34..46].copy_from_slice(&[1, 0, 0, 0].repeat(3));
-        bytes
-    };
-    let cases = [
-        (sample_card()[..60].to_vec(), 14),
-        (card_with(0, 2), 14),
-        (card_with(1, 2), 14),
-        (card_with(49, 0)[..49].to_vec(), 14),
-        (Vec::new(), 14),
-        (card_with(3, 64), 1),
-        (card_with(7, 2), 1),
-        (card_with(11, 13), 1),
-        (card_with(15, 33), 1),
-        (
-            {
-                let mut bytes = sample_card();
-                bytes[19..23].fill(0);
-                bytes
-            },
-            2,
-        ),
-        (wide, 3),
-    ];
-    for (bytes, number) in cases {
+    for (bytes, number) in refused_cards() {
         assert_eq!(card::read(&bytes), Err(number));
         folder.write("bad.card", &bytes);
         refused_bare(&folder, "card check bad.card", number);
@@ -157,15 +152,10 @@ fn cards_give_14_then_1_then_2_then_3() {
         refused_bare(&folder, "locate 0,0,0 --card bad.card", number);
         refused_bare(&folder, "check 0.shard --card bad.card", number);
     }
-    assert_eq!(
-        card::read(&sample_card()).map(|card| card.sharding),
-        Ok(ONE)
-    );
     folder.write("good.card", sample_card());
     folder.run_line("card check good.card").expect_status(0);
-    folder
-        .run_line("check 0.shard --card good.card")
-        .expect_status(0);
+    let check = folder.run_line("check 0.shard --card good.card");
+    check.expect_status(0);
 }
 
 #[test]
@@ -386,11 +376,11 @@ fn numbers_15_to_18_manifests() {
     falling.levels[0].reverse();
     let mut longer = sound.bytes();
     longer.push(0);
-    let mut many = Parts::new([1.0; 3], [0.0; 3], vec![Vec::new(); 33]).bytes();
+    let many = Parts::new([1.0; 3], [0.0; 3], vec![Vec::new(); 33]).bytes();
     let cases = [
         (longer, 15),
         (sound.bytes()[..20].to_vec(), 15),
-        (std::mem::take(&mut many), 15),
+        (many, 15),
         (shape.bytes(), 16),
         (origin.bytes(), 16),
         (falling.bytes(), 17),
