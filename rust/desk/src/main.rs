@@ -8,13 +8,20 @@ mod commands;
 mod diagnosis;
 mod fault;
 mod files;
+mod folder;
 mod help;
 mod json;
+mod memory;
 mod naming;
 mod output;
+mod pool;
+mod progress;
 mod report;
+mod round;
 mod sample;
 mod settings;
+#[cfg(test)]
+mod trial;
 
 use std::env;
 use std::ffi::{OsStr, OsString};
