@@ -197,6 +197,7 @@ fn a_card_and_the_same_settings_in_words_give_the_same_answers() {
         let by_words = folder.run_line(&format!("{line} {words}"));
         assert_eq!(by_card.text(), by_words.text());
         assert_eq!(by_card.status, by_words.status);
+        assert!(matches!(by_card.status, Some(0 | 1)), "{by_card}");
         let joined = words.replace(" --", "\n--").replace(' ', "=");
         let by_joined = folder.run_line(&format!("{line} {joined}"));
         assert_eq!(by_card.text(), by_joined.text(), "{by_joined}");

@@ -116,6 +116,33 @@ fn two_hundred_shards_are_checked() {
 }
 
 #[test]
+fn every_refusal_is_explained_in_three_lines() {
+    let rng = &mut Rng::new(8);
+    let folder = Folder::new();
+    let line = format!("check deposit {}", options(&SHARDING));
+    for _ in 0..4 {
+        let mut shards = shards(rng, 256);
+        for file in shards.values_mut() {
+            damage(rng, &SHARDING, file);
+            damage(rng, &SHARDING, file);
+        }
+        store(&folder, "deposit", &shards);
+        let run = folder.run_line(&line);
+        let lines = run.lines();
+        let refused = |line: &&str| !line.starts_with(' ') && line.contains(": refused ");
+        let places: Vec<usize> = (0..lines.len()).filter(|at| refused(&lines[*at])).collect();
+        assert!(places.len() > 50, "{}", places.len());
+        for at in places {
+            for (line, start) in lines[at + 1..].iter().zip(["found", "expected", "look at"]) {
+                let said = line.strip_prefix(&format!("  {start}: "));
+                assert!(said.is_some_and(|said| said.len() > 5), "{line}\n{run}");
+            }
+            assert!(!lines[at + 4].starts_with(' '), "{run}");
+        }
+    }
+}
+
+#[test]
 fn two_hundred_shards_are_told_in_json() {
     let shards = shards(&mut Rng::new(2), 200);
     let folder = Folder::new();

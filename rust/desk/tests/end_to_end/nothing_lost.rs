@@ -318,6 +318,7 @@ fn an_input_is_never_its_own_output() {
     }
     assert_eq!(folder.names("deposit"), ["00.shard", "01.shard"]);
     assert_eq!(folder.names("."), ["00.shard", "deposit", "hard", "link"]);
+    folder.run_line(&deposit.line()).expect_status(0);
 }
 
 #[test]

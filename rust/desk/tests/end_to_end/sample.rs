@@ -117,6 +117,42 @@ fn the_damaged_copy_has_a_fault_of_each_kind() {
     assert_eq!(differing.count(), 1);
 }
 
+/// The number at a place of a file.
+fn number_at(file: &[u8], place: usize) -> u64 {
+    reference::endian::read_u64(file, place)
+}
+
+#[test]
+fn the_damage_is_shown_where_it_was_done() {
+    let folder = Folder::with_sample();
+    let damaged = shards(&folder, "damaged");
+    let run = folder.run_line("check demo/damaged --card demo/deposit.card");
+    run.expect_status(1);
+    let looked_at = |number: u64| -> usize {
+        let (_, told) = run
+            .text()
+            .split_once(&format!("{number}.shard: refused"))
+            .expect("a refusal");
+        let (_, place) = told.split_once("look at: byte ").expect("a place");
+        let (place, _) = place.split_once(' ').expect("a place");
+        place.parse().expect("a byte's number")
+    };
+    // Minishard 1 of shard 1: its entry is the second of the shard index.
+    assert_eq!(looked_at(1), 16);
+    assert!(number_at(&damaged[&1], 16) > number_at(&damaged[&1], 24));
+    // Minishard 0 of shard 2: the step to its second id.
+    let index = 32 + number_at(&damaged[&2], 0) as usize;
+    assert_eq!(
+        (looked_at(2), number_at(&damaged[&2], index + 8)),
+        (index + 8, 0)
+    );
+    // Minishard 1 of shard 3: its last size, behind two rows.
+    let index = 32 + number_at(&damaged[&3], 16) as usize;
+    let end = 32 + number_at(&damaged[&3], 24) as usize;
+    assert_eq!((looked_at(3), end - index), (end - 8, 24 * 4));
+    assert!(number_at(&damaged[&3], end - 8) > damaged[&3].len() as u64);
+}
+
 #[test]
 fn it_goes_into_a_new_or_empty_folder_only() {
     let folder = Folder::new();
