@@ -8,12 +8,19 @@ mod commands;
 mod diagnosis;
 mod fault;
 mod files;
+mod folder;
 mod help;
 mod json;
+mod memory;
 mod naming;
 mod output;
+mod pool;
+mod progress;
 mod report;
+mod round;
 mod settings;
+#[cfg(test)]
+mod trial;
 
 use std::env;
 use std::ffi::{OsStr, OsString};
