@@ -114,9 +114,8 @@ fn run_on(command: &Command, words: &[OsString]) -> Status {
     };
     let mut report = Report::new(args.flag("--json"));
     let ended = (command.run)(&args, &mut report);
-    let misused = matches!(ended, Err(Fault::Use { .. }));
     let told = report.go_on(ended);
-    if misused {
+    if report.misused() {
         see(command.name);
     }
     close(report, told)
