@@ -107,6 +107,11 @@ pub enum Fault {
     },
     /// Nobody reads the output any more. Nothing is said about it.
     ClosedPipe,
+    /// Standard output cannot be written for another reason.
+    Unwritten {
+        /// What the system says.
+        error: io::Error,
+    },
 }
 
 impl Fault {
@@ -131,8 +136,13 @@ impl Fault {
         match self {
             Fault::Refused(_) => Status::No,
             Fault::Use { .. } => Status::Use,
-            Fault::System { .. } | Fault::ClosedPipe => Status::System,
+            Fault::System { .. } | Fault::ClosedPipe | Fault::Unwritten { .. } => Status::System,
         }
+    }
+
+    /// Whether no further answer can be given.
+    pub fn ends_the_run(&self) -> bool {
+        matches!(self, Fault::ClosedPipe | Fault::Unwritten { .. })
     }
 }
 
@@ -151,6 +161,7 @@ impl fmt::Display for Fault {
                 write!(f, "{}: cannot be {done}: {error}", shown(path))
             }
             Fault::ClosedPipe => f.write_str("the output was closed"),
+            Fault::Unwritten { error } => write!(f, "standard output: cannot be written: {error}"),
         }
     }
 }

@@ -57,8 +57,15 @@ impl Object {
         self
     }
 
-    /// A member that is an array of finite reals, each with as many digits as
-    /// give back the very same f32.
+    /// A member that is a finite real, with as many digits as give back the
+    /// very same f32.
+    pub fn real(mut self, name: &str, value: f32) -> Self {
+        self.name(name);
+        let _ = write!(self.text, "{value}");
+        self
+    }
+
+    /// A member that is an array of finite reals.
     pub fn reals(mut self, name: &str, values: impl IntoIterator<Item = f32>) -> Self {
         self.name(name);
         array(values, &mut self.text);
@@ -177,8 +184,10 @@ mod tests {
 
     #[test]
     fn reals_come_back() {
-        let object = Object::new().reals("r", [1.0, -0.5, 0.1, 16777216.0]);
-        assert_eq!(object.finish(), "{\"r\":[1,-0.5,0.1,16777216]}");
+        let object = Object::new()
+            .real("s", -0.0)
+            .reals("r", [1.0, -0.5, 0.1, 16777216.0]);
+        assert_eq!(object.finish(), "{\"s\":-0,\"r\":[1,-0.5,0.1,16777216]}");
     }
 
     #[test]

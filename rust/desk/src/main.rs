@@ -7,6 +7,7 @@ mod args;
 mod commands;
 mod diagnosis;
 mod difference;
+mod explain;
 mod fault;
 mod files;
 mod folder;
@@ -114,8 +115,17 @@ fn run_on(command: &Command, words: &[OsString]) -> Status {
     };
     let mut report = Report::new(args.flag("--json"));
     let ended = (command.run)(&args, &mut report);
-    let told = ended.or_else(|fault| tell(&mut report, command, &fault));
-    match told.and_then(|()| report.flush()) {
+    let misused = matches!(ended, Err(Fault::Use { .. }));
+    let told = report.go_on(ended);
+    if misused {
+        see(command.name);
+    }
+    close(report, told)
+}
+
+/// Writes out the rest of a report and gives the status of the run.
+fn close(mut report: Report, ended: Result<(), Fault>) -> Status {
+    match ended.and_then(|()| report.flush()) {
         Ok(()) => report.worst(),
         Err(fault) => {
             if !matches!(fault, Fault::ClosedPipe) {
@@ -124,15 +134,6 @@ fn run_on(command: &Command, words: &[OsString]) -> Status {
             report.worst().max(fault.status())
         }
     }
-}
-
-/// Tells the fault that ended a command.
-fn tell(report: &mut Report, command: &Command, fault: &Fault) -> Result<(), Fault> {
-    report.complain(fault)?;
-    if let Fault::Use { .. } = fault {
-        see(command.name);
-    }
-    Ok(())
 }
 
 /// Complains of a word that names no command.
@@ -167,8 +168,5 @@ fn see(command: &str) {
 fn print(text: &str) -> Status {
     let mut report = Report::new(false);
     let printed = report.bytes(text.as_bytes());
-    match printed.and_then(|()| report.flush()) {
-        Ok(()) => Status::Yes,
-        Err(fault) => fault.status(),
-    }
+    close(report, printed)
 }

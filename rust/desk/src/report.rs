@@ -87,12 +87,20 @@ impl Report {
                     .text("result", "error")
                     .text("error", &fault.to_string()),
             ),
-            Fault::ClosedPipe => Ok(()),
             _ => {
                 self.flush()?;
                 complaint(fault);
                 Ok(())
             }
+        }
+    }
+
+    /// Tells a fault over one of many inputs, so that the next one has its
+    /// turn. A fault of the output itself ends the run.
+    pub fn go_on(&mut self, ended: Result<(), Fault>) -> Result<(), Fault> {
+        match ended {
+            Err(fault) if !fault.ends_the_run() => self.complain(&fault),
+            ended => ended,
         }
     }
 }
@@ -145,7 +153,7 @@ pub fn shown(path: &Path) -> String {
 fn unwritten(error: io::Error) -> Fault {
     match error.kind() {
         io::ErrorKind::BrokenPipe => Fault::ClosedPipe,
-        _ => Fault::system(Path::new("standard output"), "written", error),
+        _ => Fault::Unwritten { error },
     }
 }
 

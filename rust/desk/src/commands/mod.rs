@@ -1,7 +1,11 @@
 //! The commands.
 
-use crate::args::{Args, Opt};
-use crate::fault::Fault;
+use std::ffi::OsStr;
+
+use coronagamba::Cell;
+
+use crate::args::{triple, Args, Opt, U32};
+use crate::fault::{Fault, Refused};
 use crate::help;
 use crate::report::Report;
 
@@ -81,4 +85,25 @@ impl Group {
             .filter(|(first, _)| *first == self.name)
             .map(|(_, second)| second)
     }
+}
+
+/// The cell that a word names, X,Y,Z; `what` names the word in a complaint.
+fn cell_of(word: &OsStr, what: &str) -> Result<Cell, Fault> {
+    let [x, y, z] = triple(word, what, U32)?;
+    Ok(Cell { x, y, z })
+}
+
+/// A cell as it is written on the command line.
+fn cell_text(Cell { x, y, z }: Cell) -> String {
+    format!("{x},{y},{z}")
+}
+
+/// Tells a refusal where each question has a line of its own: plain, `refused
+/// N` stands in that line, as the proved program `locate` prints it, and the
+/// refusal in full goes to standard error.
+fn tell_refused(report: &mut Report, refused: Refused) -> Result<(), Fault> {
+    if !report.json() {
+        report.line(format_args!("refused {}", refused.refusal.number))?;
+    }
+    report.complain(&refused.into())
 }
