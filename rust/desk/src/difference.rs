@@ -73,11 +73,7 @@ impl fmt::Display for Difference {
 /// The least id whose chunks differ in two settled forms of one shard, and
 /// how. `None` where there is no memory for the listings, or none is found: the
 /// forms are equal then (demand 3).
-pub fn first_difference(
-    sharding: &Sharding,
-    number: u64,
-    forms: [&[u8]; 2],
-) -> Option<Difference> {
+pub fn first_difference(sharding: &Sharding, number: u64, forms: [&[u8]; 2]) -> Option<Difference> {
     let minishards = 0..1u64 << sharding.minishard_bits;
     let mut least: Option<Difference> = None;
     for minishard in minishards {
@@ -204,8 +200,14 @@ mod tests {
         assert_eq!(told(few, more).unwrap(), "id 10 is only in the second");
         assert_eq!(told(more, few).unwrap(), "id 10 is only in the first");
         assert_eq!(told(&[], few).unwrap(), "id 4 is only in the second");
-        assert_eq!(told(few, &[(6, b"ab")]).unwrap(), "id 4 is only in the first");
-        assert_eq!(told(&[(6, b"ab")], few).unwrap(), "id 4 is only in the second");
+        assert_eq!(
+            told(few, &[(6, b"ab")]).unwrap(),
+            "id 4 is only in the first"
+        );
+        assert_eq!(
+            told(&[(6, b"ab")], few).unwrap(),
+            "id 4 is only in the second"
+        );
     }
 
     #[test]

@@ -244,8 +244,8 @@ impl Task {
             Side::First => &mut room.form,
             Side::Second => &mut room.other,
         };
-        let form =
-            front(buffer, length as usize).map_err(|error| Fault::system(path, "settled", error))?;
+        let form = front(buffer, length as usize)
+            .map_err(|error| Fault::system(path, "settled", error))?;
         match self.shard(&room.file).settle(form) {
             Ok(length) => Ok(Some(length)),
             Err(refusal) => Err(round::refused(
@@ -308,7 +308,12 @@ impl Summary {
         match outcome.verdict {
             Comparison::Same => {
                 self.same += 1;
-                say(&name, "same", |object| object.text("result", "same"), report)
+                say(
+                    &name,
+                    "same",
+                    |object| object.text("result", "same"),
+                    report,
+                )
             }
             Comparison::Different(difference) => {
                 self.different += 1;

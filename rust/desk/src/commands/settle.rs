@@ -148,7 +148,8 @@ impl Task {
         not_one_place(path, &out)?;
         let to = self.read(room, path, number)?;
         let shard = Shard::open(self.sharding, number, &room.file);
-        let form = front(&mut room.form, to).map_err(|error| Fault::system(path, "settled", error))?;
+        let form =
+            front(&mut room.form, to).map_err(|error| Fault::system(path, "settled", error))?;
         let explain = |refusal| round::refused(path, &self.sharding, number, &room.file, refusal);
         shard.settle(form).map_err(explain)?;
         let chunks = chunk_count(&self.sharding, &shard).map_err(explain)?;
