@@ -6,6 +6,7 @@
 mod args;
 mod commands;
 mod diagnosis;
+mod difference;
 mod explain;
 mod fault;
 mod files;
