@@ -20,6 +20,7 @@ mod pool;
 mod progress;
 mod report;
 mod round;
+mod sample;
 mod settings;
 #[cfg(test)]
 mod trial;
