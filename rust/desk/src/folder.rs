@@ -36,6 +36,20 @@ pub struct Listing {
     pub shards: Vec<Input>,
     /// How many other files it has.
     pub others: u64,
+    /// Why it could not be listed to its end.
+    pub broken: Option<Fault>,
+}
+
+impl Listing {
+    /// All shards, and behind them the fault of the listing.
+    pub fn inputs(self, folder: &Path) -> Vec<Input> {
+        let mut inputs = self.shards;
+        inputs.extend(self.broken.map(|fault| Input {
+            path: folder.to_path_buf(),
+            number: Err(Trouble::Fault(fault)),
+        }));
+        inputs
+    }
 }
 
 /// Whether a path leads to a folder.
@@ -56,20 +70,16 @@ pub fn single(args: &Args, sharding: &Sharding, path: &Path) -> Input {
     }
 }
 
-/// The shards of a folder, not those of its subfolders. A folder that cannot
-/// be listed to its end has that fault as its last entry.
+/// The shards of a folder, not those of its subfolders.
 pub fn list(sharding: &Sharding, folder: &Path) -> Listing {
     let (names, others, ended) = names(folder);
     let entry = |name| entry(sharding, folder, name);
-    let mut shards: Vec<Input> = names.into_iter().map(entry).collect();
-    if let Err(error) = ended {
-        let fault = Fault::system(folder, "listed", error);
-        shards.push(Input {
-            path: folder.to_path_buf(),
-            number: Err(Trouble::Fault(fault)),
-        });
+    let broken = ended.err();
+    Listing {
+        shards: names.into_iter().map(entry).collect(),
+        others,
+        broken: broken.map(|error| Fault::system(folder, "listed", error)),
     }
-    Listing { shards, others }
 }
 
 /// The names of shards in order, the number of other files, and whether the
@@ -177,14 +187,11 @@ mod tests {
     fn a_folder_that_cannot_be_listed_is_told() {
         let folder = Folder::new("folder-not");
         let none = folder.at("none");
-        let listing = list(&SHARDING, &none);
-        let [Input {
-            path,
-            number: Err(Trouble::Fault(fault)),
-        }] = &listing.shards[..]
-        else {
-            panic!("one fault");
+        let inputs = list(&SHARDING, &none).inputs(&none);
+        let [input] = &inputs[..] else {
+            panic!("one input");
         };
-        assert_eq!((path, fault.status() as u8), (&none, 3));
+        assert_eq!(input.path, none);
+        assert!(matches!(&input.number, Err(Trouble::Fault(fault)) if fault.status() as u8 == 3));
     }
 }

@@ -6,6 +6,7 @@
 mod args;
 mod commands;
 mod diagnosis;
+mod difference;
 mod explain;
 mod fault;
 mod files;
@@ -115,9 +116,8 @@ fn run_on(command: &Command, words: &[OsString]) -> Status {
     };
     let mut report = Report::new(args.flag("--json"));
     let ended = (command.run)(&args, &mut report);
-    let misused = matches!(ended, Err(Fault::Use { .. }));
     let told = report.go_on(ended);
-    if misused {
+    if report.misused() {
         see(command.name);
     }
     close(report, told)

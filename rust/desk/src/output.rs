@@ -68,8 +68,19 @@ pub fn remove_stale_parts(folder: &Path, wanted: impl Fn(&OsStr) -> bool) {
     }
 }
 
+/// The same for one output.
+pub fn remove_stale_parts_of(output: &Path) {
+    let name = output.file_name().unwrap_or_default();
+    remove_stale_parts(folder_of(output), |part| part.as_bytes() == repeated(name));
+}
+
+/// Makes a name in a folder last.
+pub fn sync_folder_of(path: &Path) -> Result<(), Fault> {
+    sync_folder(folder_of(path)).map_err(|error| Fault::system(path, "made to last", error))
+}
+
 /// The folder that a path is in.
-pub fn folder_of(path: &Path) -> &Path {
+fn folder_of(path: &Path) -> &Path {
     match path.parent() {
         Some(folder) if folder != Path::new("") => folder,
         _ => Path::new("."),
@@ -78,7 +89,7 @@ pub fn folder_of(path: &Path) -> &Path {
 
 /// Whether a file has this name. Anything else under it is left alone: a link
 /// may lead to an input, and a device or folder holds no output.
-fn is_taken(path: &Path) -> Result<bool, Fault> {
+pub fn is_taken(path: &Path) -> Result<bool, Fault> {
     match fs::symlink_metadata(path) {
         Ok(about) if about.is_file() => Ok(true),
         Ok(about) => {
@@ -266,11 +277,16 @@ const MOST_NAME_BYTES: usize = 200;
 
 /// The name of a part file: `.NAME.PID.part`.
 fn part_name(name: &OsStr, process: u32) -> OsString {
-    let name = name.as_bytes();
     let mut part = vec![b'.'];
-    part.extend(&name[..name.len().min(MOST_NAME_BYTES)]);
+    part.extend(repeated(name));
     part.extend(format!(".{process}.part").as_bytes());
     OsString::from_vec(part)
+}
+
+/// What a part file's name repeats of the output's.
+fn repeated(name: &OsStr) -> &[u8] {
+    let name = name.as_bytes();
+    &name[..name.len().min(MOST_NAME_BYTES)]
 }
 
 /// The output's name in a part file's name.

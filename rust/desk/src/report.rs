@@ -15,6 +15,7 @@ const BUFFER_BYTES: usize = 1 << 16;
 pub struct Report {
     json: bool,
     worst: Status,
+    misused: bool,
     out: BufWriter<Stdout>,
 }
 
@@ -24,6 +25,7 @@ impl Report {
         Report {
             json,
             worst: Status::Yes,
+            misused: false,
             out: BufWriter::with_capacity(BUFFER_BYTES, io::stdout()),
         }
     }
@@ -36,6 +38,11 @@ impl Report {
     /// The worst status so far.
     pub fn worst(&self) -> Status {
         self.worst
+    }
+
+    /// Whether wrong use was complained of.
+    pub fn misused(&self) -> bool {
+        self.misused
     }
 
     /// Counts a status.
@@ -79,6 +86,7 @@ impl Report {
     /// answers, so that each input has one.
     pub fn complain(&mut self, fault: &Fault) -> Result<(), Fault> {
         self.note(fault.status());
+        self.misused |= matches!(fault, Fault::Use { .. });
         match fault {
             Fault::Refused(refused) if self.json => self.object(refusal_object(refused)),
             Fault::System { path, .. } if self.json => self.object(

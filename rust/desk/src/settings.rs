@@ -198,3 +198,127 @@ fn extents(args: &Args) -> Result<Volume, Fault> {
         offset: Offset { x, y, z },
     })
 }
+
+#[cfg(test)]
+mod tests {
+    use super::*;
+    use std::ffi::OsString;
+
+    const SHARDING: &str = "--preshift 1 --hash murmur --minishard-bits 2 --shard-bits 3";
+    const VOLUME: &str = "--size 100,90,80 --chunk 64,32,16";
+
+    fn args(line: &str) -> Args {
+        let words: Vec<OsString> = line.split_whitespace().map(OsString::from).collect();
+        Args::parse(&words, &[OPTIONS]).unwrap()
+    }
+
+    fn complaint<T: std::fmt::Debug>(read: Result<T, Fault>, status: u8) -> String {
+        let fault = read.unwrap_err();
+        assert_eq!(fault.status() as u8, status);
+        fault.to_string()
+    }
+
+    const ALLOWED: Sharding = Sharding {
+        preshift: 1,
+        hash: 1,
+        minishard_bits: 2,
+        shard_bits: 3,
+    };
+
+    #[test]
+    fn plain_options() {
+        let settings = of_shards(&args(SHARDING)).unwrap();
+        assert_eq!((settings.sharding, settings.volume), (ALLOWED, None));
+        let all = args(&format!("{SHARDING} {VOLUME} --offset -64,0,7"));
+        let (sharding, found) = of_cells(&all).unwrap();
+        assert_eq!(sharding, ALLOWED);
+        assert_eq!(found, Volume::new([100, 90, 80], [64, 32, 16], [-64, 0, 7]));
+        assert_eq!(of_shards(&all).unwrap().volume, Some(found));
+        assert_eq!(volume(&all).unwrap(), found);
+        let without_offset = volume(&args(VOLUME)).unwrap();
+        assert_eq!(without_offset.offset, Offset::default());
+    }
+
+    #[test]
+    fn missing_settings_are_named_exactly() {
+        let missing = |line: &str| complaint(of_cells(&args(line)), 2);
+        let named = |names: &str| {
+            format!(
+                "settings are never assumed; missing: {names} (a deposit card gives them all: \
+                 --card FILE)"
+            )
+        };
+        assert_eq!(
+            missing("--preshift 1 --shard-bits 3 --chunk 1,1,1"),
+            named("--hash, --minishard-bits, --size")
+        );
+        assert_eq!(missing(SHARDING), named("--size, --chunk"));
+        let begun = args(&format!("{SHARDING} --offset 0,0,0"));
+        assert_eq!(complaint(of_shards(&begun), 2), named("--size, --chunk"));
+        assert_eq!(
+            complaint(of_shards(&args("")), 2),
+            named("--preshift, --hash, --minishard-bits, --shard-bits")
+        );
+    }
+
+    #[test]
+    fn values_that_do_not_fit_are_wrong_use() {
+        let told = |from, to| complaint(of_shards(&args(&SHARDING.replace(from, to))), 2);
+        assert_eq!(
+            told("--preshift 1", "--preshift 256"),
+            "--preshift: '256' is not a number from 0 to 255"
+        );
+        assert_eq!(
+            told("murmur", "murmurhash3_x86_128"),
+            "--hash: 'murmurhash3_x86_128' is neither identity nor murmur"
+        );
+        let volume = |from, to| complaint(volume(&args(&VOLUME.replace(from, to))), 2);
+        assert!(volume("100,", "4294967296,").starts_with("--size: '4294967296' is not"));
+        assert!(volume("64,32,16", "64,32").starts_with("--chunk: '64,32' is not three"));
+    }
+
+    #[test]
+    fn values_that_fit_go_to_the_library() {
+        let told = complaint(
+            of_shards(&args(&SHARDING.replace("--preshift 1", "--preshift 64"))),
+            1,
+        );
+        assert!(told.starts_with("settings: refused 1: "), "{told}");
+        let told = complaint(volume(&args(&VOLUME.replace("100,", "0,"))), 1);
+        assert!(told.starts_with("settings: refused 2: "), "{told}");
+        let wide = args(&format!(
+            "{SHARDING} --size 4294967295,4294967295,4294967295 --chunk 1,1,1"
+        ));
+        let told = complaint(of_cells(&wide), 1);
+        assert!(told.starts_with("settings: refused 3: "), "{told}");
+        assert!(volume(&wide).is_ok());
+    }
+
+    #[test]
+    fn a_card_or_options_but_not_both() {
+        let both = complaint(of_shards(&args("--card a --hash murmur")), 2);
+        assert_eq!(
+            both,
+            "--card and --hash are given together; a card already says it"
+        );
+        assert_eq!(PLAIN_OPTIONS.len(), OPTIONS.len() - 1);
+        assert!(PLAIN_OPTIONS.iter().all(|option| option.name != CARD));
+    }
+
+    #[test]
+    fn a_card_gives_all() {
+        let card = Card {
+            sharding: ALLOWED,
+            volume: Volume::new([100, 90, 80], [64, 32, 16], [-64, 0, 7]),
+        };
+        let folder = crate::trial::Folder::new("settings-card");
+        let path = folder.write("card", &card.to_bytes().unwrap());
+        let given = args(&format!("--card {}", path.display()));
+        assert_eq!(of_cells(&given).unwrap(), (card.sharding, card.volume));
+        assert_eq!(of_shards(&given).unwrap().volume, Some(card.volume));
+        folder.write("card", b"{\"size\": 1}");
+        let told = complaint(of_shards(&given), 1);
+        assert!(told.contains("card: refused 14: "), "{told}");
+        assert!(told.contains("found: tag 123"), "{told}");
+    }
+}

@@ -68,11 +68,13 @@ fn gather(
         }
         round::no_shard_option(args, path)?;
         let listing = list(sharding, path);
-        if listing.shards.is_empty() {
-            round::tell_no_shards(path, listing.others, report)?;
+        let others = listing.others;
+        let inputs = listing.inputs(path);
+        if inputs.is_empty() {
+            round::tell_no_shards(path, others, report)?;
         } else {
-            found.inputs.extend(listing.shards);
-            found.others += listing.others;
+            found.inputs.extend(inputs);
+            found.others += others;
             found.folders = true;
         }
     }
