@@ -93,7 +93,8 @@ usage: coronagamba check PATH... [OPTIONS]
 
 PATH is a shard file, or a folder: then all of its files that end in .shard
 are checked, in name order, and the run goes on after a refused one. Other
-files are passed over and counted.
+files are passed over and counted. Symbolic links to shard files are followed;
+subfolders are not gone through.
 
 ",
     sharding!(),
@@ -126,7 +127,8 @@ usage: coronagamba settle FILE --out FILE2 [OPTIONS]
 A folder's shards are settled into files of the same names; the run goes on
 after a refused one. An output is written beside its place and gets its name
 only when it is whole. Inputs are never changed. A run that was stopped can
-be started again: what is already there with the same bytes is left.
+be started again: what is already there with the same bytes is left. An input
+cannot be the output too, by whatever path, also with --force.
 
 ",
     sharding!(),
@@ -161,7 +163,9 @@ compared byte for byte: for sound shards of one sharding and number these are
 equal exactly when the same ids list the same bytes, which is proved for this
 library. For each shard of either side a line says same, different (with the
 first id that differs, in rising order, and how), refused, or missing; then
-one sentence answers for the whole.
+one sentence answers for the whole. Bytes of a chunk are counted from 0. A
+shard file that only one side has counts as different, even where it lists no
+chunk.
 
 ",
     sharding!(),

@@ -1,14 +1,15 @@
 //! A line on the terminal that says how far a run has come.
 
 use std::env;
+use std::fs;
 use std::io::{self, IsTerminal, Write};
+use std::os::unix::fs::FileTypeExt;
 use std::time::{Duration, Instant};
 
 /// Time between two drawings of the line.
 const PAUSE: Duration = Duration::from_millis(100);
 
-/// How far a run has come. It is shown on standard error where that is a
-/// terminal, and nowhere else.
+/// How far a run has come.
 pub struct Progress {
     count: Count,
     begun: Instant,
@@ -30,7 +31,6 @@ impl Progress {
     /// The beginning of a run over so many shards; `done` is what is done with
     /// them: 'checked'.
     pub fn new(done: &'static str, total: usize) -> Self {
-        let dumb = env::var_os("TERM").is_none_or(|kind| kind == "dumb");
         let begun = Instant::now();
         Progress {
             count: Count {
@@ -41,7 +41,7 @@ impl Progress {
                 bytes: 0,
             },
             begun,
-            drawn: (io::stderr().is_terminal() && !dumb && total > 1).then_some(begun),
+            drawn: (total > 1 && has_a_place()).then_some(begun),
             visible: false,
         }
     }
@@ -101,6 +101,15 @@ fn rate(bytes: u64, time: Duration) -> String {
     } else {
         format!("{:.0} MB/s", in_second / 1e6)
     }
+}
+
+/// Whether the line can be drawn: on a terminal that can take it away again,
+/// and not while another program, perhaps a pager, shows the answers there.
+fn has_a_place() -> bool {
+    let dumb = env::var_os("TERM").is_none_or(|kind| kind == "dumb");
+    let answers = fs::metadata("/proc/self/fd/1");
+    let piped = answers.is_ok_and(|about| about.file_type().is_fifo());
+    io::stderr().is_terminal() && !dumb && !piped
 }
 
 /// Where standard error is closed, nobody sees the line.

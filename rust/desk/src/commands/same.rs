@@ -2,6 +2,7 @@
 
 use std::collections::BTreeMap;
 use std::ffi::OsString;
+use std::fs;
 use std::path::{Path, PathBuf};
 
 use coronagamba::{Shard, Sharding};
@@ -37,7 +38,7 @@ fn run(args: &Args, report: &mut Report) -> Result<(), Fault> {
             folders(&sharding, paths, report)?
         }
         [false, false] => vec![files(args, &sharding, paths)?],
-        _ => return Err(Fault::wrong_use("one is a folder, the other is not")),
+        _ => return Err(unlike(paths)),
     };
     if one_place(paths[0], paths[1]) {
         complaint("note: the first and the second are one and the same on the disk");
@@ -50,6 +51,16 @@ fn run(args: &Args, report: &mut Report) -> Result<(), Fault> {
     let tell = |outcome, report: &mut Report| summary.tell(&sharding, outcome, report);
     round::go(workers, "compared", pairs, work, tell, report)?;
     summary.print(report)
+}
+
+/// One path is that of a folder, the other is not, or leads nowhere.
+fn unlike(paths: [&Path; 2]) -> Fault {
+    for path in paths {
+        if let Err(error) = fs::metadata(path) {
+            return Fault::system(path, "read", error);
+        }
+    }
+    Fault::wrong_use("one is a folder, the other is not")
 }
 
 /// The files of one name in two folders, or the two files that were named.

@@ -282,7 +282,7 @@ impl Settled {
             }
             Placed::AlreadyThere => format!("{path}: already there"),
             Placed::OtherBytes => format!(
-                "{path}: {} exists with other bytes (--force overwrites)",
+                "{}: exists with other bytes (--force overwrites)",
                 shown(&self.out)
             ),
         }

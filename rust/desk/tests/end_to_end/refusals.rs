@@ -13,7 +13,7 @@ use testkit::manifests::Parts;
 /// The refusal that a plain run told in its first words about it.
 fn told(run: &Run) -> Option<Refusal> {
     let all = format!("{}\n{}", run.text(), run.stderr);
-    let (_, told) = all.split_once("refused ")?;
+    let (_, told) = all.split_once(": refused ")?;
     let line = told.lines().next()?;
     let (number, rest) = line.split_at(line.find(|c: char| !c.is_ascii_digit())?);
     let minishard = rest.strip_prefix(" in minishard ").map(|rest| {
