@@ -333,8 +333,7 @@ example:
 );
 
 /// `card` and its members.
-pub const CARD: &str = concat!(
-    "\
+pub const CARD: &str = "\
 Makes, shows and checks deposit cards. A card keeps the sharding and the
 volume of a deposit in 46 or 61 bytes, so that nobody has to assume them.
 
@@ -346,8 +345,7 @@ usage: coronagamba card make --out FILE [OPTIONS]
 
 example:
   coronagamba card show demo/deposit.card
-",
-);
+";
 
 /// `card make`.
 pub const CARD_MAKE: &str = concat!(
@@ -372,9 +370,7 @@ exit status: 0 written; 1 no card can say this; 2 wrong use, or the output
 exists; 3 the file cannot be written.
 
 example, the card of the sample deposit:
-  coronagamba card make --out my.card --preshift 1 --hash identity \\
-    --minishard-bits 1 --shard-bits 3 --size 300,260,200 --chunk 64,64,64 \\
-    --offset -64,0,0
+  coronagamba card make --out my.card --preshift 1 --hash identity --minishard-bits 1 --shard-bits 3 --size 300,260,200 --chunk 64,64,64 --offset -64,0,0
 ",
 );
 
@@ -417,8 +413,7 @@ example:
 );
 
 /// `manifest` and its members.
-pub const MANIFEST: &str = concat!(
-    "\
+pub const MANIFEST: &str = "\
 Shows and checks mesh manifests, and looks at one node.
 
 usage: coronagamba manifest show FILE [--nodes] [--json]
@@ -429,8 +424,7 @@ usage: coronagamba manifest show FILE [--nodes] [--json]
 
 example:
   coronagamba manifest show demo/mesh.manifest
-",
-);
+";
 
 /// `manifest show`.
 pub const MANIFEST_SHOW: &str = concat!(
@@ -519,8 +513,7 @@ example:
 );
 
 /// `sample`.
-pub const SAMPLE: &str = concat!(
-    "\
+pub const SAMPLE: &str = "\
 Makes a small deposit to try the commands on.
 
 usage: coronagamba sample DIR
@@ -540,5 +533,4 @@ exit status: 0 made; 2 wrong use, or DIR is not empty; 3 it cannot be written.
 example:
   coronagamba sample demo
   coronagamba check demo/copy-a --card demo/deposit.card
-",
-);
+";

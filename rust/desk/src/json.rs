@@ -4,6 +4,15 @@ use std::fmt::{Display, Write};
 use std::os::unix::ffi::OsStrExt;
 use std::path::Path;
 
+/// A whole number, which JSON shows as Rust does.
+pub trait Whole: Display {}
+
+impl Whole for u8 {}
+impl Whole for u32 {}
+impl Whole for u64 {}
+impl Whole for i32 {}
+impl Whole for i64 {}
+
 /// A JSON object under construction, its members in the order given.
 #[derive(Clone, Debug)]
 pub struct Object {
@@ -32,27 +41,15 @@ impl Object {
     }
 
     /// A member that is a whole number, in full.
-    pub fn number(mut self, name: &str, value: impl Into<i128>) -> Self {
+    pub fn number(mut self, name: &str, value: impl Whole) -> Self {
         self.name(name);
-        let _ = write!(self.text, "{}", value.into());
-        self
-    }
-
-    /// A member that is true or false.
-    pub fn flag(mut self, name: &str, value: bool) -> Self {
-        self.name(name);
-        self.text.push_str(if value { "true" } else { "false" });
+        let _ = write!(self.text, "{value}");
         self
     }
 
     /// A member that is an array of whole numbers.
-    pub fn numbers<T: Into<i128>>(
-        mut self,
-        name: &str,
-        values: impl IntoIterator<Item = T>,
-    ) -> Self {
+    pub fn numbers<T: Whole>(mut self, name: &str, values: impl IntoIterator<Item = T>) -> Self {
         self.name(name);
-        let values = values.into_iter().map(Into::into);
         array(values, &mut self.text);
         self
     }
@@ -69,13 +66,6 @@ impl Object {
     pub fn reals(mut self, name: &str, values: impl IntoIterator<Item = f32>) -> Self {
         self.name(name);
         array(values, &mut self.text);
-        self
-    }
-
-    /// A member that is an object.
-    pub fn object(mut self, name: &str, value: Object) -> Self {
-        self.name(name);
-        self.text.push_str(&value.finish());
         self
     }
 
@@ -161,14 +151,11 @@ mod tests {
             .text("a", "b")
             .number("n", u64::MAX)
             .number("m", -3)
-            .flag("yes", true)
             .numbers("none", [0u32; 0])
-            .numbers("cell", [1u32, 2, 3])
-            .object("inner", Object::new().flag("no", false));
+            .numbers("cell", [1u32, 2, 3]);
         assert_eq!(
             object.finish(),
-            "{\"a\":\"b\",\"n\":18446744073709551615,\"m\":-3,\"yes\":true,\"none\":[],\
-             \"cell\":[1,2,3],\"inner\":{\"no\":false}}"
+            "{\"a\":\"b\",\"n\":18446744073709551615,\"m\":-3,\"none\":[],\"cell\":[1,2,3]}"
         );
         assert_eq!(Object::new().finish(), "{}");
     }

@@ -157,6 +157,12 @@ pub fn shown(path: &Path) -> String {
     out
 }
 
+/// `1 shard`, `2 shards`.
+pub fn counted(count: u64, what: &str) -> String {
+    let plural = if count == 1 { "" } else { "s" };
+    format!("{count} {what}{plural}")
+}
+
 /// Why answers could not be written.
 fn unwritten(error: io::Error) -> Fault {
     match error.kind() {

@@ -14,6 +14,7 @@ use crate::memory::{Gate, Room};
 use crate::naming;
 use crate::pool::{self, Audience};
 use crate::progress::Progress;
+pub use crate::report::counted;
 use crate::report::{shown, Report};
 
 /// The options of a round.
@@ -218,12 +219,6 @@ pub fn and(count: u64, what: &str) -> String {
         0 => String::new(),
         count => format!(", {count} {what}"),
     }
-}
-
-/// `1 shard`, `2 shards`.
-pub fn counted(count: u64, what: &str) -> String {
-    let plural = if count == 1 { "" } else { "s" };
-    format!("{count} {what}{plural}")
 }
 
 /// A refusal of the whole-shard check or of settling, explained.

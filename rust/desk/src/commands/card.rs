@@ -115,7 +115,10 @@ impl Shown {
         let Sharding {
             shard_bits, hash, ..
         } = card.sharding;
-        let refused = |refusal| Refused::file(path, refusal, refused(&card, refusal).diagnosis);
+        let refused = |refusal| {
+            let diagnosis = refused(&card, refusal).diagnosis;
+            Fault::from(Refused::file(path, refusal, diagnosis))
+        };
         let name = |number| card.sharding.shard_name(number).map_err(refused);
         Ok(Shown {
             card,

@@ -35,7 +35,8 @@ fn tell(report: &mut Report, volume: &Volume, key: u64) -> Result<(), Fault> {
         Err(refusal) => {
             let diagnosis = diagnosis::of_key(volume, key, refusal);
             let subject = format!("key {key}");
-            return tell_refused(report, Refused::asked(subject, refusal, diagnosis));
+            let refused = Refused::asked(subject, refusal, diagnosis);
+            return tell_refused(report, Object::new().number("key", key), refused);
         }
     };
     if report.json() {

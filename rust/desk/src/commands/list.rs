@@ -63,6 +63,7 @@ fn list(
     if !report.json() {
         report.line("ID MINISHARD START LENGTH")?;
     }
+    let about_file = Object::new().path(path);
     let mut numbers = Vec::new();
     for minishard in minishards {
         let listed = fill(&shard, minishard, &mut numbers, path)?;
@@ -71,7 +72,7 @@ fn list(
             Refused::file(path, refusal, diagnosis)
         })?;
         for entry in numbers.chunks_exact(3) {
-            tell(report, path, minishard, entry)?;
+            tell(report, &about_file, minishard, entry)?;
         }
     }
     Ok(())
@@ -98,15 +99,20 @@ fn fill(
     Ok(shard.write_listing(minishard, numbers).map(|_| ()))
 }
 
-/// The line of one chunk.
-fn tell(report: &mut Report, path: &Path, minishard: u64, entry: &[u64]) -> Result<(), Fault> {
+/// The line of one chunk; an object begins with what it says about the file.
+fn tell(
+    report: &mut Report,
+    about_file: &Object,
+    minishard: u64,
+    entry: &[u64],
+) -> Result<(), Fault> {
     let &[id, start, length] = entry else {
         return Ok(());
     };
     if report.json() {
         return report.object(
-            Object::new()
-                .path(path)
+            about_file
+                .clone()
                 .number("id", id)
                 .number("minishard", minishard)
                 .number("start", start)

@@ -7,12 +7,11 @@ use std::path::Path;
 
 use coronagamba::{Cell, Place, Refusal, Sharding, Volume};
 
-use super::{cell_of, cell_text, tell_refused, Command};
+use super::{cell_object, cell_of, cell_text, tell_refused, Command};
 use crate::args::{flag, Args};
 use crate::diagnosis;
 use crate::fault::{Fault, Refused};
 use crate::help;
-use crate::json::Object;
 use crate::report::Report;
 use crate::settings;
 
@@ -67,13 +66,13 @@ fn tell(
         Err(refusal) => {
             let diagnosis = diagnosis::of_cell(volume, cell, refusal);
             let subject = format!("cell {}", cell_text(cell));
-            return tell_refused(report, Refused::asked(subject, refusal, diagnosis));
+            let refused = Refused::asked(subject, refusal, diagnosis);
+            return tell_refused(report, cell_object(cell), refused);
         }
     };
     if report.json() {
         return report.object(
-            Object::new()
-                .numbers("cell", [cell.x, cell.y, cell.z])
+            cell_object(cell)
                 .text("result", "located")
                 .number("key", key)
                 .number("shard", place.shard)

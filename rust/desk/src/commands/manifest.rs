@@ -12,7 +12,7 @@ use crate::fault::{Fault, Refused, Status};
 use crate::files::read_whole;
 use crate::help;
 use crate::json::Object;
-use crate::report::{shown, Report};
+use crate::report::{counted, shown, Report};
 
 /// `manifest show`.
 pub const SHOW: Command = Command {
@@ -70,9 +70,10 @@ fn check_file(report: &mut Report, path: &Path) -> Result<(), Fault> {
         );
     }
     report.line(format_args!(
-        "{}: sound manifest, {} levels, {nodes} nodes, {} bytes",
+        "{}: sound manifest, {}, {}, {} bytes",
         shown(path),
-        levels.len(),
+        counted(levels.len() as u64, "level"),
+        counted(nodes, "node"),
         bytes.len()
     ))
 }
@@ -147,10 +148,10 @@ fn show_level(report: &mut Report, number: usize, level: &Level, size: u64) -> R
         );
     }
     report.line(format_args!(
-        "  level {number}: scale {}, vertex offset {}, {} nodes, {size} fragment bytes",
+        "  level {number}: scale {}, vertex offset {}, {}, {size} fragment bytes",
         level.scale,
         reals(level.vertex_offset),
-        level.nodes
+        counted(u64::from(level.nodes), "node")
     ))
 }
 

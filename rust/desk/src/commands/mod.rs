@@ -5,9 +5,10 @@ use std::ffi::OsStr;
 use coronagamba::Cell;
 
 use crate::args::{triple, Args, Opt, U32};
-use crate::fault::{Fault, Refused};
+use crate::fault::{Fault, Refused, Status};
 use crate::help;
-use crate::report::Report;
+use crate::json::Object;
+use crate::report::{refusal_members, Report};
 
 mod card;
 mod cell;
@@ -93,6 +94,11 @@ fn cell_of(word: &OsStr, what: &str) -> Result<Cell, Fault> {
     Ok(Cell { x, y, z })
 }
 
+/// A cell as the question of a JSON object.
+fn cell_object(Cell { x, y, z }: Cell) -> Object {
+    Object::new().numbers("cell", [x, y, z])
+}
+
 /// A cell as it is written on the command line.
 fn cell_text(Cell { x, y, z }: Cell) -> String {
     format!("{x},{y},{z}")
@@ -100,10 +106,13 @@ fn cell_text(Cell { x, y, z }: Cell) -> String {
 
 /// Tells a refusal where each question has a line of its own: plain, `refused
 /// N` stands in that line, as the proved program `locate` prints it, and the
-/// refusal in full goes to standard error.
-fn tell_refused(report: &mut Report, refused: Refused) -> Result<(), Fault> {
-    if !report.json() {
-        report.line(format_args!("refused {}", refused.refusal.number))?;
+/// refusal in full goes to standard error. With --json, `question` gets the
+/// refusal's members.
+fn tell_refused(report: &mut Report, question: Object, refused: Refused) -> Result<(), Fault> {
+    if report.json() {
+        report.note(Status::No);
+        return report.object(refusal_members(question, &refused));
     }
+    report.line(format_args!("refused {}", refused.refusal.number))?;
     report.complain(&refused.into())
 }

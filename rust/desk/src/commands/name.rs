@@ -2,7 +2,7 @@
 
 use coronagamba::{Cell, Volume};
 
-use super::{cell_of, cell_text, tell_refused, Command};
+use super::{cell_object, cell_of, cell_text, tell_refused, Command};
 use crate::args::{flag, value, Args};
 use crate::diagnosis;
 use crate::fault::{Fault, Refused};
@@ -45,8 +45,8 @@ fn name_shard(args: &Args, report: &mut Report, number: u64) -> Result<(), Fault
         Ok(name) => report.line(name),
         Err(refusal) => {
             let diagnosis = diagnosis::of_shard_number(&sharding, number);
-            let subject = format!("shard {number}");
-            tell_refused(report, Refused::asked(subject, refusal, diagnosis))
+            let refused = Refused::asked(format!("shard {number}"), refusal, diagnosis);
+            tell_refused(report, Object::new().number("shard", number), refused)
         }
     }
 }
@@ -55,8 +55,7 @@ fn name_shard(args: &Args, report: &mut Report, number: u64) -> Result<(), Fault
 fn name_chunk(report: &mut Report, volume: &Volume, cell: Cell) -> Result<(), Fault> {
     match volume.chunk_name(cell) {
         Ok(name) if report.json() => report.object(
-            Object::new()
-                .numbers("cell", [cell.x, cell.y, cell.z])
+            cell_object(cell)
                 .text("result", "named")
                 .text("name", &name),
         ),
@@ -64,7 +63,8 @@ fn name_chunk(report: &mut Report, volume: &Volume, cell: Cell) -> Result<(), Fa
         Err(refusal) => {
             let diagnosis = diagnosis::of_cell(volume, cell, refusal);
             let subject = format!("cell {}", cell_text(cell));
-            tell_refused(report, Refused::asked(subject, refusal, diagnosis))
+            let refused = Refused::asked(subject, refusal, diagnosis);
+            tell_refused(report, cell_object(cell), refused)
         }
     }
 }

@@ -3,7 +3,8 @@
 use coronagamba::{Extents, Offset, Refusal, Sharding, Volume};
 
 use super::places::{bad_fields, told_bits, told_fields, told_zeros, zero_extents};
-use super::{counted, u32_at, Diagnosis};
+use super::{u32_at, Diagnosis};
+use crate::report::counted;
 
 /// A field of a card.
 struct Field {
@@ -68,7 +69,7 @@ fn malformed(bytes: &[u8]) -> Option<Diagnosis> {
         return Some(Diagnosis::new(
             format!(
                 "{} behind the last field",
-                counted((bytes.len() - place) as u64, "byte", "bytes")
+                counted((bytes.len() - place) as u64, "byte")
             ),
             "a card of 46 bytes, or of 61 with a voxel offset",
             byte(place, "the first byte too many"),

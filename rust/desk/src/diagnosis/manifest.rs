@@ -4,7 +4,8 @@ use std::cmp::Ordering;
 
 use coronagamba::Refusal;
 
-use super::{commas, counted, u32_at, Diagnosis};
+use super::{commas, u32_at, Diagnosis};
+use crate::report::counted;
 
 /// The most bytes of a manifest.
 const MOST_BYTES: u64 = 1 << 24;
@@ -85,7 +86,7 @@ impl Seen<'_> {
     /// Refusal 15.
     fn bad_length(&self) -> Option<Diagnosis> {
         let length = self.length();
-        let found = format!("a manifest of {}", counted(length, "byte", "bytes"));
+        let found = format!("a manifest of {}", counted(length, "byte"));
         let at_length = "the manifest's length: was it cut short, or is it another kind of file?";
         if length > MOST_BYTES {
             let found = format!("a manifest of more than {MOST_BYTES} bytes");
@@ -99,7 +100,7 @@ impl Seen<'_> {
         let levels = u64::from(u32_at(self.bytes, LEVELS)?);
         if levels > MOST_LEVELS {
             return Some(Diagnosis::new(
-                counted(levels, "level", "levels"),
+                counted(levels, "level"),
                 "at most 32 levels",
                 byte(LEVELS, "level count"),
             ));
@@ -196,7 +197,7 @@ impl Seen<'_> {
         let levels = self.levels()?;
         if level >= levels {
             return Some(Diagnosis::new(
-                format!("level {level} of {}", counted(levels, "level", "levels")),
+                format!("level {level} of {}", counted(levels, "level")),
                 numbers_below("level", levels),
                 byte(LEVELS, "level count"),
             ));
@@ -204,10 +205,7 @@ impl Seen<'_> {
         let nodes = self.nodes(level)?;
         (node >= nodes).then(|| {
             Diagnosis::new(
-                format!(
-                    "node {node} of {} of level {level}",
-                    counted(nodes, "node", "nodes")
-                ),
+                format!("node {node} of {} of level {level}", counted(nodes, "node")),
                 numbers_below("node", nodes),
                 byte(
                     self.counts().unwrap_or_default() + 4 * level,

@@ -55,14 +55,6 @@ fn commas<T: std::fmt::Display>([x, y, z]: [T; 3]) -> String {
     format!("{x},{y},{z}")
 }
 
-/// `one` of a kind, or the number and the kind's plural.
-fn counted(count: u64, one: &str, many: &str) -> String {
-    match count {
-        1 => format!("1 {one}"),
-        _ => format!("{count} {many}"),
-    }
-}
-
 /// The u64 at a place, where it is inside.
 fn u64_at(bytes: &[u8], place: u64) -> Option<u64> {
     let place = usize::try_from(place).ok()?;

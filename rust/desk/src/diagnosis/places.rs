@@ -209,7 +209,7 @@ pub fn of_shard_number(sharding: &Sharding, number: u64) -> Diagnosis {
     let shards = 1u128 << sharding.shard_bits.min(64);
     Diagnosis::new(
         format!("shard number {number}"),
-        format!("a number below {shards}: {} shard bits", sharding.shard_bits),
+        format!("a number below {shards} (shard bits: {})", sharding.shard_bits),
         "the shard number, from --shard or from the file's name; and the shard bits of the settings",
     )
 }
@@ -313,6 +313,6 @@ mod tests {
         };
         let told = of_shard_number(&sharding, 1 << 32);
         assert_eq!(told.found, "shard number 4294967296");
-        assert_eq!(told.expected, "a number below 4294967296: 32 shard bits");
+        assert_eq!(told.expected, "a number below 4294967296 (shard bits: 32)");
     }
 }

@@ -2,7 +2,8 @@
 
 use coronagamba::{Refusal, Sharding};
 
-use super::{counted, of_shard_number, of_sharding, u64_at, Diagnosis};
+use super::{of_shard_number, of_sharding, u64_at, Diagnosis};
+use crate::report::counted;
 
 /// The most bytes of a shard and of a settled form.
 const MOST_BYTES: u64 = 1 << 30;
@@ -117,10 +118,10 @@ impl Seen<'_> {
             );
         }
         Diagnosis::new(
-            format!("a file of {}", counted(length, "byte", "bytes")),
+            format!("a file of {}", counted(length, "byte")),
             format!(
                 "at least {index} bytes: a shard index of 16 bytes for each of {}",
-                counted(self.minishards(), "minishard", "minishards")
+                counted(self.minishards(), "minishard")
             ),
             "the file's length: was it cut short? and the minishard bits of the settings",
         )
@@ -131,7 +132,7 @@ impl Seen<'_> {
         Diagnosis::new(
             format!("minishard number {minishard}"),
             format!(
-                "a number below {}: {} minishard bits",
+                "a number below {} (minishard bits: {})",
                 self.minishards(),
                 self.sharding.minishard_bits
             ),
@@ -358,7 +359,7 @@ impl Seen<'_> {
         Some(Diagnosis::new(
             format!(
                 "{where_listed} lists {}, not this one; {near}",
-                counted(ids()?.count() as u64, "chunk", "chunks")
+                counted(ids()?.count() as u64, "chunk")
             ),
             expected,
             byte(place, &format!("index of minishard {minishard}")),
@@ -684,7 +685,7 @@ mod tests {
         assert_eq!(refusal.number, 5);
         let told = of_listing(&SHARDING, 0, &file, 2, refusal);
         assert_eq!(told.found, "minishard number 2");
-        assert_eq!(told.expected, "a number below 2: 1 minishard bits");
+        assert_eq!(told.expected, "a number below 2 (minishard bits: 1)");
     }
 
     /// 4,096 minishards, each with one chunk of the same 300,000 bytes.
