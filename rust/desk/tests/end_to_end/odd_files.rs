@@ -5,6 +5,7 @@ use crate::shards::{example, options, ONE};
 use crate::support::{Folder, Run, PROGRAM};
 use std::ffi::OsStr;
 use std::fs::{self, File, Permissions};
+use std::io;
 use std::os::unix::ffi::OsStrExt;
 use std::os::unix::fs::{symlink, MetadataExt, PermissionsExt};
 use std::os::unix::process::CommandExt;
@@ -332,13 +333,13 @@ const TALKATIVE: [&str; 9] = [
 fn an_output_that_nobody_reads_any_more() {
     let folder = Folder::with_sample();
     for line in TALKATIVE {
+        let (reader, writer) = io::pipe().expect("a pipe");
+        drop(reader);
         let mut command = folder.program();
-        command.args(line.split_whitespace());
-        command.stdout(Stdio::piped()).stderr(Stdio::piped());
-        let mut child = command.spawn().expect("the program starts");
-        drop(child.stdout.take());
-        let run = Run::told(line.to_string(), child.wait_with_output().expect("ended"));
-        assert_eq!((run.status, run.stderr.as_str()), (Some(3), ""), "{run}");
+        command.args(line.split_whitespace()).stdout(writer);
+        let run = Run::of(&mut command);
+        let told = (run.status, run.stderr.as_str());
+        assert_eq!(told, (Some(3), ""), "{run}");
         let shell = Command::new("sh")
             .args(["-c", "\"$0\" \"$@\" | head -n 1", PROGRAM])
             .args(line.split_whitespace())
