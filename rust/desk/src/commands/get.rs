@@ -1,0 +1,110 @@
+//! `get`: the bytes of one chunk.
+
+use std::path::{Path, PathBuf};
+
+use coronagamba::{Shard, Sharding};
+
+use super::{cell_of, Command};
+use crate::args::{flag, number, value, Args};
+use crate::diagnosis;
+use crate::fault::{Fault, Refused};
+use crate::files::{one_place, read_whole};
+use crate::help;
+use crate::naming::number_of_file;
+use crate::output::write_new;
+use crate::report::{shown, Report};
+use crate::settings;
+
+/// The command.
+pub const COMMAND: Command = Command {
+    name: "get",
+    help: help::GET,
+    options: &[
+        settings::OPTIONS,
+        &[
+            value("--cell"),
+            value("--shard"),
+            value("--out"),
+            flag("--force"),
+        ],
+    ],
+    run,
+};
+
+fn run(args: &Args, report: &mut Report) -> Result<(), Fault> {
+    let (path, sharding, id) = asked(args)?;
+    let (path, number) = shard_file(args, &sharding, path, id)?;
+    let out = args.value("--out").map(Path::new);
+    if let Some(out) = out {
+        not_an_input(out, &[Some(&path), args.value("--card").map(Path::new)])?;
+    }
+    let file = read_whole(&path)?;
+    let chunk = Shard::open(sharding, number, &file).chunk(id);
+    let chunk = chunk.map_err(|refusal| {
+        let diagnosis = diagnosis::of_lookup(&sharding, number, &file, id, refusal);
+        Refused::file(&path, refusal, diagnosis)
+    })?;
+    match out {
+        Some(out) => write_new(out, args.flag("--force"), chunk),
+        None => report.bytes(chunk),
+    }
+}
+
+/// The path, the sharding and the id asked for: the id itself, or the key of a
+/// cell.
+fn asked(args: &Args) -> Result<(&Path, Sharding, u64), Fault> {
+    let Some(word) = args.value("--cell") else {
+        let [path, id] = args.exactly(["PATH", "ID (or --cell X,Y,Z)"])?;
+        let id = number(id, "ID")?;
+        return Ok((Path::new(path), settings::of_shards(args)?.sharding, id));
+    };
+    let [path] = args.exactly(["PATH"])?;
+    let cell = cell_of(word, "--cell")?;
+    let (sharding, volume) = settings::of_cells(args)?;
+    let key = volume.key(cell).map_err(|refusal| {
+        let diagnosis = diagnosis::of_cell(&volume, cell, refusal);
+        Refused::asked(
+            format!("cell {}", shown(Path::new(word))),
+            refusal,
+            diagnosis,
+        )
+    })?;
+    Ok((Path::new(path), sharding, key))
+}
+
+/// The shard file and its number. In a folder it is the id's own.
+fn shard_file(
+    args: &Args,
+    sharding: &Sharding,
+    path: &Path,
+    id: u64,
+) -> Result<(PathBuf, u64), Fault> {
+    if !path.is_dir() {
+        let number = number_of_file(args, sharding, path)?;
+        return Ok((path.to_path_buf(), number));
+    }
+    if args.flag("--shard") {
+        return Err(Fault::wrong_use(format!(
+            "--shard is for one file; {} is a folder, whose files say it by their names",
+            shown(path)
+        )));
+    }
+    let subject = || format!("id {id}");
+    let refused = |refusal| Refused::asked(subject(), refusal, diagnosis::of_sharding(sharding));
+    let number = sharding.place(id).map_err(refused)?.shard;
+    let name = sharding.shard_name(number).map_err(refused)?;
+    Ok((path.join(name), number))
+}
+
+/// Keeps an output from taking an input's place, by whatever path.
+fn not_an_input(out: &Path, inputs: &[Option<&Path>]) -> Result<(), Fault> {
+    let mut inputs = inputs.iter().flatten();
+    match inputs.find(|input| one_place(out, input)) {
+        None => Ok(()),
+        Some(input) => Err(Fault::wrong_use(format!(
+            "{} is the input {}; an input is never overwritten",
+            shown(out),
+            shown(input)
+        ))),
+    }
+}

@@ -1,0 +1,486 @@
+//! `same`.
+
+use std::collections::BTreeMap;
+use std::ffi::OsString;
+use std::fs;
+use std::path::{Path, PathBuf};
+
+use coronagamba::{Shard, Sharding};
+
+use super::Command;
+use crate::args::{flag, Args};
+use crate::difference::{first_difference, Difference, Kind, Side};
+use crate::fault::{Fault, Refused, Status, Subject};
+use crate::files::{length_to_read, one_place, read_into};
+use crate::folder::{is_folder, list, single, Input, Trouble};
+use crate::help;
+use crate::json::Object;
+use crate::memory::{front, Lengths, Room};
+use crate::report::{complaint, refusal_members, shown, Report};
+use crate::round::{self, and, counted, Outcome};
+use crate::settings;
+
+/// The command.
+pub const COMMAND: Command = Command {
+    name: "same",
+    help: help::SAME,
+    options: &[settings::OPTIONS, round::OPTIONS, &[flag("--json")]],
+    run,
+};
+
+fn run(args: &Args, report: &mut Report) -> Result<(), Fault> {
+    let sharding = settings::of_shards(args)?.sharding;
+    let workers = round::workers(args)?;
+    let paths = args.exactly(["PATH1", "PATH2"])?.map(Path::new);
+    let pairs = match paths.map(is_folder) {
+        [true, true] => {
+            round::no_shard_option(args, paths[0])?;
+            folders(&sharding, paths, report)?
+        }
+        [false, false] => vec![files(args, &sharding, paths)?],
+        _ => return Err(unlike(paths)),
+    };
+    if one_place(paths[0], paths[1]) {
+        complaint("note: the first and the second are one and the same on the disk");
+    }
+    if pairs.is_empty() {
+        return Ok(());
+    }
+    let mut summary = Summary::default();
+    let work = |room: &mut Room, pair: Pair| pair.compare(&sharding, room);
+    let tell = |outcome, report: &mut Report| summary.tell(&sharding, outcome, report);
+    round::go(workers, "compared", pairs, work, tell, report)?;
+    summary.print(report)
+}
+
+/// One path is that of a folder, the other is not, or leads nowhere.
+fn unlike(paths: [&Path; 2]) -> Fault {
+    for path in paths {
+        if let Err(error) = fs::metadata(path) {
+            return Fault::system(path, "read", error);
+        }
+    }
+    Fault::wrong_use("one is a folder, the other is not")
+}
+
+/// The files of one name in two folders, or the two files that were named.
+struct Pair {
+    name: OsString,
+    sides: Sides,
+}
+
+/// On which sides there is a file.
+enum Sides {
+    Both([Input; 2]),
+    Only(Side, Input),
+}
+
+/// All shards of either folder.
+fn folders(
+    sharding: &Sharding,
+    paths: [&Path; 2],
+    report: &mut Report,
+) -> Result<Vec<Pair>, Fault> {
+    let mut union: BTreeMap<OsString, Sides> = BTreeMap::new();
+    for (side, path) in Side::BOTH.into_iter().zip(paths) {
+        let listing = list(sharding, path);
+        // Of a folder that is not known to its end, nothing can be said to be
+        // missing.
+        if let Some(fault) = listing.broken {
+            return Err(fault);
+        }
+        if listing.shards.is_empty() {
+            round::tell_no_shards(path, listing.others, report)?;
+        }
+        for input in listing.shards {
+            let name = input.path.file_name().unwrap_or_default().to_os_string();
+            let sides = match union.remove(&name) {
+                Some(Sides::Only(Side::First, first)) => Sides::Both([first, input]),
+                _ => Sides::Only(side, input),
+            };
+            union.insert(name, sides);
+        }
+    }
+    let pair = |(name, sides)| Pair { name, sides };
+    Ok(union.into_iter().map(pair).collect())
+}
+
+/// Two files, which must be copies of one shard.
+fn files(args: &Args, sharding: &Sharding, paths: [&Path; 2]) -> Result<Pair, Fault> {
+    let sides = paths.map(|path| single(args, sharding, path));
+    let name = match (&sides[0].number, &sides[1].number) {
+        (Ok(first), Ok(second)) if first != second => {
+            return Err(Fault::wrong_use(format!(
+                "these are shards {first} and {second}; copies of one shard can be compared"
+            )))
+        }
+        (Ok(number), _) | (_, Ok(number)) => sharding.shard_name(*number).ok(),
+        _ => None,
+    };
+    let first = paths[0].file_name().unwrap_or_default();
+    Ok(Pair {
+        name: name.map_or_else(|| first.to_os_string(), OsString::from),
+        sides: Sides::Both(sides),
+    })
+}
+
+/// What came of a pair.
+enum Comparison {
+    Same,
+    /// The first difference, where there was memory to look for it.
+    Different(Option<Difference>),
+    Missing(Side),
+    /// Refused, not read, misnamed.
+    Unknown(Vec<Unread>),
+}
+
+/// A file that could not be compared.
+struct Unread {
+    side: Side,
+    path: PathBuf,
+    trouble: Trouble,
+}
+
+impl Pair {
+    fn compare(self, sharding: &Sharding, room: &mut Room) -> Outcome<Comparison> {
+        let mut read = 0;
+        let verdict = match self.sides {
+            Sides::Both(inputs) => match [&inputs[0].number, &inputs[1].number] {
+                [&Ok(number), Ok(_)] => {
+                    let paths = inputs.map(|input| input.path);
+                    read = paths.iter().map(|path| length_to_read(path)).sum();
+                    Task {
+                        sharding: *sharding,
+                        number,
+                        paths,
+                    }
+                    .compare(room)
+                }
+                _ => Comparison::Unknown(unread(Side::BOTH.into_iter().zip(inputs))),
+            },
+            Sides::Only(side, input) => match input.number {
+                Ok(_) => Comparison::Missing(side.other()),
+                Err(_) => Comparison::Unknown(unread([(side, input)])),
+            },
+        };
+        Outcome {
+            path: self.name.into(),
+            refused: verdict.is_refused(),
+            verdict,
+            read,
+        }
+    }
+}
+
+/// Those inputs that are in trouble.
+fn unread(inputs: impl IntoIterator<Item = (Side, Input)>) -> Vec<Unread> {
+    let mut unread = Vec::new();
+    for (side, input) in inputs {
+        let path = input.path;
+        if let Err(trouble) = input.number {
+            unread.push(Unread {
+                side,
+                path,
+                trouble,
+            });
+        }
+    }
+    unread
+}
+
+impl Comparison {
+    fn is_refused(&self) -> bool {
+        matches!(self, Comparison::Unknown(unread) if unread.iter().any(Unread::is_refused))
+    }
+}
+
+impl Unread {
+    fn is_refused(&self) -> bool {
+        matches!(self.trouble, Trouble::Fault(Fault::Refused(_)))
+    }
+}
+
+/// Two copies of one shard.
+struct Task {
+    sharding: Sharding,
+    number: u64,
+    paths: [PathBuf; 2],
+}
+
+impl Task {
+    /// Compares the settled forms. The second file takes the first one's
+    /// place in memory.
+    fn compare(&self, room: &mut Room) -> Comparison {
+        let [first, second] = [0, 1].map(|side| length_to_read(&self.paths[side]));
+        let mut lengths = [first.max(second), first, second];
+        loop {
+            room.wait_for(lengths);
+            let settled = Side::BOTH.map(|side| self.settle(room, side, &mut lengths));
+            match settled {
+                [Ok(Some(first)), Ok(Some(second))] => return self.judge(room, [first, second]),
+                [Ok(_), Ok(_)] => {}
+                settled => return self.unknown(settled.map(Result::err)),
+            }
+        }
+    }
+
+    /// Settles the file of one side and gives the form's length. `None` where
+    /// others hold the memory for it; `lengths` says then how much it takes.
+    fn settle(
+        &self,
+        room: &mut Room,
+        side: Side,
+        lengths: &mut Lengths,
+    ) -> Result<Option<usize>, Fault> {
+        let path = &self.paths[side as usize];
+        read_into(path, &mut room.file)?;
+        let length = match self.shard(&room.file).settled_length() {
+            Ok(length) => length,
+            Err(refusal) => {
+                return Err(round::refused(
+                    path,
+                    &self.sharding,
+                    self.number,
+                    &room.file,
+                    refusal,
+                ))
+            }
+        };
+        let wanted = &mut lengths[1 + side as usize];
+        *wanted = length.max(*wanted);
+        if !room.may_have(*lengths) {
+            return Ok(None);
+        }
+        let buffer = match side {
+            Side::First => &mut room.form,
+            Side::Second => &mut room.other,
+        };
+        let form = front(buffer, length as usize)
+            .map_err(|error| Fault::system(path, "settled", error))?;
+        match self.shard(&room.file).settle(form) {
+            Ok(length) => Ok(Some(length)),
+            Err(refusal) => Err(round::refused(
+                path,
+                &self.sharding,
+                self.number,
+                &room.file,
+                refusal,
+            )),
+        }
+    }
+
+    fn shard<'a>(&self, file: &'a [u8]) -> Shard<'a> {
+        Shard::open(self.sharding, self.number, file)
+    }
+
+    /// The answer over two settled forms of these lengths.
+    fn judge(&self, room: &mut Room, [first, second]: [usize; 2]) -> Comparison {
+        let forms = [&room.form[..first], &room.other[..second]];
+        if forms[0] == forms[1] {
+            return Comparison::Same;
+        }
+        // The listings take the place of the file.
+        room.file = Vec::new();
+        Comparison::Different(first_difference(&self.sharding, self.number, forms))
+    }
+
+    fn unknown(&self, faults: [Option<Fault>; 2]) -> Comparison {
+        let mut unread = Vec::new();
+        for (side, fault) in Side::BOTH.into_iter().zip(faults) {
+            unread.extend(fault.map(|fault| Unread {
+                side,
+                path: self.paths[side as usize].clone(),
+                trouble: Trouble::Fault(fault),
+            }));
+        }
+        Comparison::Unknown(unread)
+    }
+}
+
+/// Counts over all shards.
+#[derive(Default)]
+struct Summary {
+    same: u64,
+    different: u64,
+    refused: u64,
+    missing: [u64; 2],
+    not_read: u64,
+    misnamed: u64,
+}
+
+impl Summary {
+    fn tell(
+        &mut self,
+        sharding: &Sharding,
+        outcome: Outcome<Comparison>,
+        report: &mut Report,
+    ) -> Result<(), Fault> {
+        let name = outcome.path;
+        match outcome.verdict {
+            Comparison::Same => {
+                self.same += 1;
+                say(
+                    &name,
+                    "same",
+                    |object| object.text("result", "same"),
+                    report,
+                )
+            }
+            Comparison::Different(difference) => {
+                self.different += 1;
+                report.note(Status::No);
+                tell_different(&name, difference, report)
+            }
+            Comparison::Missing(side) => {
+                self.missing[side as usize] += 1;
+                report.note(Status::No);
+                tell_missing(&name, side, report)
+            }
+            Comparison::Unknown(unread) => {
+                self.count_unread(&unread);
+                unread
+                    .into_iter()
+                    .try_for_each(|unread| tell_unread(sharding, &name, unread, report))
+            }
+        }
+    }
+
+    /// A pair counts once, by the worst that came of its files.
+    fn count_unread(&mut self, unread: &[Unread]) {
+        let misnamed = |unread: &Unread| matches!(unread.trouble, Trouble::Misnamed);
+        if unread.iter().all(misnamed) {
+            self.misnamed += 1;
+        } else if unread.iter().all(Unread::is_refused) {
+            self.refused += 1;
+        } else {
+            self.not_read += 1;
+        }
+    }
+
+    /// The answer for the two as a whole, in one sentence.
+    fn print(&self, report: &mut Report) -> Result<(), Fault> {
+        let (answer, sentence) = self.sentence();
+        if !report.json() {
+            return report.line(sentence);
+        }
+        report.object(
+            Object::new()
+                .text("result", "summary")
+                .text("answer", answer)
+                .number("same", self.same)
+                .number("different", self.different)
+                .number("refused", self.refused)
+                .number("missing_in_first", self.missing[0])
+                .number("missing_in_second", self.missing[1])
+                .number("not_read", self.not_read)
+                .number("misnamed", self.misnamed)
+                .text("sentence", &sentence),
+        )
+    }
+
+    /// The answer in a word and in a sentence.
+    fn sentence(&self) -> (&'static str, String) {
+        let [first, second] = self.missing;
+        let (answer, beginning) = if self.different + first + second > 0 {
+            ("different", "The two do not hold the same chunks")
+        } else if self.refused + self.not_read + self.misnamed > 0 {
+            (
+                "unknown",
+                "It is not known whether the two hold the same chunks",
+            )
+        } else {
+            let shards = counted(self.same, "shard");
+            let sentence =
+                format!("The two hold the same chunks: {shards} compared, all the same.");
+            return ("same", sentence);
+        };
+        let sentence = format!(
+            "{beginning}: {} same, {} different, {} refused, {first} missing in the first, \
+             {second} missing in the second{}{}.",
+            counted(self.same, "shard"),
+            self.different,
+            self.refused,
+            and(self.not_read, "not read"),
+            and(self.misnamed, "misnamed"),
+        );
+        (answer, sentence)
+    }
+}
+
+/// A shard's answer: a line, or an object with these members.
+fn say(
+    name: &Path,
+    line: &str,
+    members: impl FnOnce(Object) -> Object,
+    report: &mut Report,
+) -> Result<(), Fault> {
+    if report.json() {
+        report.object(members(Object::new().path(name)))
+    } else {
+        report.line(format_args!("{}: {line}", shown(name)))
+    }
+}
+
+fn tell_different(
+    name: &Path,
+    difference: Option<Difference>,
+    report: &mut Report,
+) -> Result<(), Fault> {
+    let Some(difference) = difference else {
+        return say(name, "different", |o| o.text("result", "different"), report);
+    };
+    let members = |object: Object| {
+        let object = object.text("result", "different");
+        let object = object.number("id", difference.id);
+        match difference.kind {
+            Kind::OnlyIn(side) => object.text("only_in", side.name()),
+            Kind::Bytes { at, lengths } => object
+                .number("first_difference", at as u64)
+                .numbers("lengths", lengths.map(|length| length as u64)),
+        }
+    };
+    say(name, &format!("different: {difference}"), members, report)
+}
+
+fn tell_missing(name: &Path, side: Side, report: &mut Report) -> Result<(), Fault> {
+    let line = format!("missing in the {}", side.name());
+    let members = |object: Object| {
+        let object = object.text("result", "missing");
+        object.text("missing_in", side.name())
+    };
+    say(name, &line, members, report)
+}
+
+/// Why a file could not be compared.
+fn tell_unread(
+    sharding: &Sharding,
+    name: &Path,
+    unread: Unread,
+    report: &mut Report,
+) -> Result<(), Fault> {
+    match unread.trouble {
+        Trouble::Misnamed => round::tell_misnamed(sharding, &unread.path, report),
+        Trouble::Fault(Fault::Refused(refused)) => {
+            report.note(Status::No);
+            tell_refused(name, unread.side, *refused, report)
+        }
+        Trouble::Fault(fault) => report.complain(&fault),
+    }
+}
+
+/// `0a.shard: in the first: refused 9: ..`
+fn tell_refused(
+    name: &Path,
+    side: Side,
+    refused: Refused,
+    report: &mut Report,
+) -> Result<(), Fault> {
+    if report.json() {
+        let object = Object::new().path(name).text("side", side.name());
+        return report.object(refusal_members(object, &refused));
+    }
+    report.line(Refused {
+        subject: Subject::Asked(format!("{}: in the {}", shown(name), side.name())),
+        ..refused
+    })
+}
