@@ -385,7 +385,7 @@ fn what_is_refused_or_missing_on_one_side() {
     folder.write("one/02.shard", file(rng, 2));
     let run = folder.run_line(&format!("same one two {options}"));
     run.expect_status(1).expect_line("02.shard: missing in the second").expect_line(
-        "The two do not hold the same chunks: 1 shards same, 0 different, 0 refused, 0 missing in the first, 1 missing in the second.",
+        "The two do not hold the same chunks: 1 shard same, 0 different, 0 refused, 0 missing in the first, 1 missing in the second.",
     );
     let back = folder.run_line(&format!("same two one {options}"));
     back.expect_status(1)
