@@ -127,6 +127,7 @@ impl Task {
     }
 
     fn work(&self, room: &mut Room, job: Job) -> Outcome<Verdict<Settled>> {
+        room.file.clear();
         let path = job.input.path;
         match job.input.number {
             Ok(number) => {
