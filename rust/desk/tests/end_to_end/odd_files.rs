@@ -5,6 +5,7 @@ use crate::shards::{example, options, ONE};
 use crate::support::{Folder, Run, PROGRAM};
 use std::ffi::OsStr;
 use std::fs::{self, File, Permissions};
+use std::io;
 use std::os::unix::ffi::OsStrExt;
 use std::os::unix::fs::{symlink, MetadataExt, PermissionsExt};
 use std::os::unix::process::CommandExt;
@@ -171,7 +172,7 @@ fn files_without_permission() {
         return;
     };
     let bad = folder.write("deposit/3.shard", empty());
-    fs::set_permissions(&bad, Permissions::from_mode(0)).expect("no permission");
+    fs::set_permissions(&bad, Permissions::from_mode(0o000)).expect("no permission");
     let line = format!("check deposit {OPTIONS}");
     let run = Run::of(command.args(line.split_whitespace()));
     the_rest_is_judged(&run, "3.shard");
@@ -334,10 +335,11 @@ fn an_output_that_nobody_reads_any_more() {
     for line in TALKATIVE {
         let mut command = folder.program();
         command.args(line.split_whitespace());
-        command.stdout(Stdio::piped()).stderr(Stdio::piped());
-        let mut child = command.spawn().expect("the program starts");
-        drop(child.stdout.take());
-        let run = Run::told(line.to_string(), child.wait_with_output().expect("ended"));
+        // The reader is gone before the program starts.
+        let (reader, writer) = io::pipe().expect("a pipe");
+        drop(reader);
+        command.stdout(writer);
+        let run = Run::told(line.to_string(), command.output().expect("ended"));
         assert_eq!((run.status, run.stderr.as_str()), (Some(3), ""), "{run}");
         let shell = Command::new("sh")
             .args(["-c", "\"$0\" \"$@\" | head -n 1", PROGRAM])
