@@ -53,6 +53,12 @@ fn list(
     path: &Path,
     only: Option<u64>,
 ) -> Result<(), Fault> {
+    if path.is_dir() {
+        return Err(Fault::wrong_use(format!(
+            "{}: is a folder; list takes shard files",
+            shown(path)
+        )));
+    }
     let number = number_of_file(args, sharding, path)?;
     let file = read_whole(path)?;
     let shard = Shard::open(*sharding, number, &file);
