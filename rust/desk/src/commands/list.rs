@@ -54,10 +54,8 @@ fn list(
     only: Option<u64>,
 ) -> Result<(), Fault> {
     if path.is_dir() {
-        return Err(Fault::wrong_use(format!(
-            "{}: is a folder; list takes shard files",
-            shown(path)
-        )));
+        let error = io::ErrorKind::IsADirectory.into();
+        return Err(Fault::system(path, "listed", error));
     }
     let number = number_of_file(args, sharding, path)?;
     let file = read_whole(path)?;
