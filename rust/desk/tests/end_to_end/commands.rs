@@ -368,10 +368,9 @@ fn help_is_there_in_each_form() {
         let by_name = folder.run_line(&format!("help {command}"));
         assert_eq!(long.expect_status(0).text(), short.expect_status(0).text());
         assert_eq!(long.text(), by_name.expect_status(0).text());
-        assert!(
-            long.lines().iter().all(|line| line.chars().count() <= 100),
-            "{long}"
-        );
+        // An example may be longer than a terminal is wide.
+        let fits = |line: &&str| line.chars().count() <= 80 || line.contains("  coronagamba ");
+        assert!(long.lines().iter().all(fits), "{long}");
     }
     let all = folder.run_line("--help");
     for command in COMMANDS {

@@ -165,17 +165,20 @@ fn with_mounts(folder: &Folder, script: &str, arguments: &[&str]) -> Option<Run>
 fn a_full_disk() {
     // Small shards fit, large ones do not.
     let deposit = Deposit::new(24, |number| if number % 3 == 0 { 60_000 } else { 300 });
-    deposit.folder.make("settled");
+    deposit.folder.make("disk");
     let script = r#"
-        mount -t tmpfs -o size=900k none settled || exit 99
+        mount -t tmpfs -o size=8m none disk || exit 99
+        head -c 7200k /dev/zero >disk/filler || exit 99
         "$0" "$@" >first.out 2>first.err
         echo $? >first.status
-        cp -R settled first
-        mount -o remount,size=64m settled || exit 99
+        cp -R disk/settled first
+        rm disk/filler
         "$0" "$@" >second.out 2>second.err
         echo $? >second.status
-        cp -R settled second"#;
-    let line = deposit.line();
+        cp -R disk/settled second"#;
+    let line = deposit
+        .line()
+        .replace("--out settled", "--out disk/settled");
     let words: Vec<&str> = line.split_whitespace().collect();
     let Some(run) = with_mounts(&deposit.folder, script, &words) else {
         eprintln!("no mount is allowed here; the file-size limit is tried alone");
@@ -203,7 +206,7 @@ fn a_file_size_limit() {
     let deposit = Deposit::new(24, |number| if number % 3 == 0 { 60_000 } else { 300 });
     let (folder, line) = (&deposit.folder, deposit.line());
     // The signal ends the run where the first large file is written.
-    let signalled = folder.run_after("ulimit -f 100", &line);
+    let signalled = folder.run_after("ulimit -c 0; ulimit -f 100", &line);
     assert_eq!(signalled.status, None, "{signalled}");
     assert!(deposit.whole("settled") <= 16);
     // Without the signal the write fails, and the run goes on.

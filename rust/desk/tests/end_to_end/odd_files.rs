@@ -172,7 +172,7 @@ fn files_without_permission() {
         return;
     };
     let bad = folder.write("deposit/3.shard", empty());
-    fs::set_permissions(&bad, Permissions::from_mode(0o000)).expect("no permission");
+    fs::set_permissions(&bad, Permissions::from_mode(0)).expect("no permission");
     let line = format!("check deposit {OPTIONS}");
     let run = Run::of(command.args(line.split_whitespace()));
     the_rest_is_judged(&run, "3.shard");
@@ -333,14 +333,13 @@ const TALKATIVE: [&str; 9] = [
 fn an_output_that_nobody_reads_any_more() {
     let folder = Folder::with_sample();
     for line in TALKATIVE {
-        let mut command = folder.program();
-        command.args(line.split_whitespace());
-        // The reader is gone before the program starts.
         let (reader, writer) = io::pipe().expect("a pipe");
         drop(reader);
-        command.stdout(writer);
-        let run = Run::told(line.to_string(), command.output().expect("ended"));
-        assert_eq!((run.status, run.stderr.as_str()), (Some(3), ""), "{run}");
+        let mut command = folder.program();
+        command.args(line.split_whitespace()).stdout(writer);
+        let run = Run::of(&mut command);
+        let told = (run.status, run.stderr.as_str());
+        assert_eq!(told, (Some(3), ""), "{run}");
         let shell = Command::new("sh")
             .args(["-c", "\"$0\" \"$@\" | head -n 1", PROGRAM])
             .args(line.split_whitespace())
