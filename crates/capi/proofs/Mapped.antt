@@ -12,7 +12,7 @@ use Rattle.endian.specs.Place.{paste}
 use Rattle.endian.proofs.Paste.{paste-nil, paste-cons, paste-front}
 use Rattle.sharding.specs.declared.Sharding.{Sharding}
 use Rattle.sharding.specs.Specification.{allowed}
-use Rattle.capi.specs.Batch.{batchWord, batchAfter}
+use Rattle.capi.specs.Batch.{batchWord, batchAfter, countedAfter}
 
 drop-all : (l : List ℕ) (i : ℕ) → length l ≤ i → drop i l ≡ []
 drop-all [] i h = drop-nil i
@@ -49,6 +49,15 @@ module _ (spec : Sharding) (ids shards minishards : List ℕ) {b : Bool} (a : b 
 pub kept : (k : ℕ) (results before : List ℕ) → before ≡ batchAfter (suc k) results before
 unfolding batchAfter
 kept k results before = refl
+
+-- the same of the lent length
+pub count-kept : {A : Type 0} (k : ℕ) (results : List A) (before : ℕ) → before ≡ countedAfter (suc k) results before
+unfolding countedAfter
+count-kept k results before = refl
+
+pub counted : {A : Type 0} (results : List A) (before : ℕ) {now : ℕ} → now ≡ length results → now ≡ countedAfter 0 results before
+unfolding countedAfter
+counted results before e = e
 
 pub filled : (results before : List ℕ) {now : List ℕ} → now ≡ paste 0 results before → now ≡ batchAfter 0 results before
 unfolding batchAfter

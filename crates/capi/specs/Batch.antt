@@ -25,6 +25,11 @@ unfoldable pub batchAfter : ℕ → List ℕ → List ℕ → List ℕ
 batchAfter zero results before = results ++ drop (length results) before
 batchAfter (suc k) results before = before
 
+-- what the lent length holds after the word: how many results there are, or, refused, what it held
+unfoldable pub countedAfter : {A : Type 0} → ℕ → List A → ℕ → ℕ
+countedAfter zero results before = length results
+countedAfter (suc k) results before = before
+
 -- the cells of lent numbers, x, y and z of each in turn; one or two numbers left over are no cell
 unfoldable pub cellsOf : List ℕ → List Cell
 cellsOf (x ∷ y ∷ z ∷ rest) = record { x = x; y = y; z = z } ∷ cellsOf rest

@@ -9,7 +9,7 @@ ghost use Rattle.sharding.specs.Specification.{allowed};
 ghost use Rattle.sharding.specs.Place.{shardOf, minishardOf};
 ghost use Rattle.grid.specs.Grid.{gridOf};
 ghost use Rattle.grid.specs.Key.{keyBits, keyOf};
-ghost use Rattle.capi.specs.Batch.{batchWord, batchAfter, cellAt, cellsOf, eachInGrid, keysWord};
+ghost use Rattle.capi.specs.Batch.{batchWord, batchAfter, countedAfter, cellAt, cellsOf, eachInGrid, keysWord};
 use grid::Cell;
 use grid::Extents;
 use grid::Volume;
@@ -43,10 +43,12 @@ pub extern "C" fn coronagamba_places_of(
     ids: &[u64],
     shards: &mut [u64],
     minishards: &mut [u64],
+    length: &mut u64,
 ) -> u64
     ensures answer { λ r. ⌜ r ≡ batchWord sharding (now (ids .entry)) (now (shards .entry)) (now (minishards .entry)) ⌝ }
     ensures shards { λ r. ⌜ now (shards .exit) ≡ batchAfter r (map (shardOf sharding) (now (ids .entry))) (now (shards .entry)) ⌝ }
     ensures minishards { λ r. ⌜ now (minishards .exit) ≡ batchAfter r (map (minishardOf sharding) (now (ids .entry))) (now (minishards .entry)) ⌝ }
+    ensures length { λ r. ⌜ now (length .exit) ≡ countedAfter r (now (ids .entry)) (now (length .entry)) ⌝ }
 {
     if !is_allowed(sharding) {
         return 1;
@@ -58,6 +60,7 @@ pub extern "C" fn coronagamba_places_of(
         return 13;
     }
     fill_places(sharding, ids, shards, minishards);
+    *length = ids.len() as u64;
     0
 }
 
@@ -101,9 +104,15 @@ fn fill_keys(grid: Extents, cells: &[u32], keys: &mut [u64])
 }
 
 #[no_mangle]
-pub extern "C" fn coronagamba_keys_of(volume: Volume, cells: &[u32], keys: &mut [u64]) -> u64
+pub extern "C" fn coronagamba_keys_of(
+    volume: Volume,
+    cells: &[u32],
+    keys: &mut [u64],
+    length: &mut u64,
+) -> u64
     ensures answer { λ r. ⌜ r ≡ keysWord volume (cellsOf (now (cells .entry))) (now (keys .entry)) ⌝ }
     ensures keys { λ r. ⌜ now (keys .exit) ≡ batchAfter r (map (keyOf (gridOf volume)) (cellsOf (now (cells .entry)))) (now (keys .entry)) ⌝ }
+    ensures length { λ r. ⌜ now (length .exit) ≡ countedAfter r (cellsOf (now (cells .entry))) (now (length .entry)) ⌝ }
 {
     if zero_extent(volume) {
         return 2;
@@ -119,5 +128,6 @@ pub extern "C" fn coronagamba_keys_of(volume: Volume, cells: &[u32], keys: &mut 
         return 13;
     }
     fill_keys(grid, cells, keys);
+    *length = (cells.len() / 3) as u64;
     0
 }
