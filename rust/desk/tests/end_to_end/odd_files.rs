@@ -172,7 +172,7 @@ fn files_without_permission() {
         return;
     };
     let bad = folder.write("deposit/3.shard", empty());
-    fs::set_permissions(&bad, Permissions::from_mode(0)).expect("no permission");
+    fs::set_permissions(&bad, Permissions::from_mode(0o000)).expect("no permission");
     let line = format!("check deposit {OPTIONS}");
     let run = Run::of(command.args(line.split_whitespace()));
     the_rest_is_judged(&run, "3.shard");
