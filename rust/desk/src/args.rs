@@ -138,10 +138,13 @@ impl Args {
     }
 }
 
-/// Whether a word is an option. A lone dash is an argument.
+/// Whether a word is an option. A lone dash and a negative number are
+/// arguments.
 fn is_option(word: &OsStr) -> bool {
-    let bytes = word.as_bytes();
-    bytes.starts_with(b"-") && bytes != b"-"
+    match word.as_bytes() {
+        [b'-', next, ..] => !next.is_ascii_digit(),
+        _ => false,
+    }
 }
 
 /// The name of an option word and the value joined to it.
@@ -271,8 +274,8 @@ mod tests {
 
     #[test]
     fn options_stand_anywhere() {
-        let args = parse(&["a", "--out", "b", "c", "--force", "-"]).unwrap();
-        assert_eq!(args.arguments(), ["a", "c", "-"]);
+        let args = parse(&["a", "--out", "b", "c", "--force", "-", "-1,0,0"]).unwrap();
+        assert_eq!(args.arguments(), ["a", "c", "-", "-1,0,0"]);
         assert_eq!(args.value("--out"), Some(OsStr::new("b")));
         assert!(args.flag("--force"));
         assert_eq!(args.value("--offset"), None);

@@ -370,7 +370,9 @@ exit status: 0 written; 1 no card can say this; 2 wrong use, or the output
 exists; 3 the file cannot be written.
 
 example, the card of the sample deposit:
-  coronagamba card make --out my.card --preshift 1 --hash identity --minishard-bits 1 --shard-bits 3 --size 300,260,200 --chunk 64,64,64 --offset -64,0,0
+  coronagamba card make --out my.card --preshift 1 --hash identity \\
+    --minishard-bits 1 --shard-bits 3 --size 300,260,200 --chunk 64,64,64 \\
+    --offset -64,0,0
 ",
 );
 

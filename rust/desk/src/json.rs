@@ -115,6 +115,21 @@ fn array(values: impl IntoIterator<Item = impl Display>, out: &mut String) {
 /// escaped too, since it is a control character on a terminal.
 fn quote(value: &str, out: &mut String) {
     out.push('"');
+    if value.bytes().all(is_plain) {
+        out.push_str(value);
+    } else {
+        escape(value, out);
+    }
+    out.push('"');
+}
+
+/// Whether a byte is a character of its own that is not escaped.
+fn is_plain(byte: u8) -> bool {
+    (b' '..=b'~').contains(&byte) && byte != b'"' && byte != b'\\'
+}
+
+/// Text with all escapes that JSON asks for.
+fn escape(value: &str, out: &mut String) {
     for character in value.chars() {
         match character {
             '"' => out.push_str("\\\""),
@@ -128,7 +143,6 @@ fn quote(value: &str, out: &mut String) {
             other => out.push(other),
         }
     }
-    out.push('"');
 }
 
 /// Bytes in lowercase hexadecimal.

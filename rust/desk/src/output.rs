@@ -48,7 +48,7 @@ pub fn place(path: &Path, force: bool, bytes: &[u8]) -> Result<Placed, Fault> {
     // Another run may have written the file since it was looked for.
     let same = holds(path, bytes).map_err(|error| Fault::system(path, "compared", error));
     match (same, force) {
-        (Ok(true), _) => Ok(Placed::AlreadyThere),
+        (Ok(true), _) => sync_folder_of(path).map(|()| Placed::AlreadyThere),
         (Ok(false), false) => Ok(Placed::OtherBytes),
         (Err(fault), false) => Err(fault),
         (_, true) => put(path, true, bytes).map(|_| Placed::Written),
@@ -108,7 +108,8 @@ pub fn is_taken(path: &Path) -> Result<bool, Fault> {
     }
 }
 
-/// Whether the file holds exactly these bytes. It is read in pieces.
+/// Whether the file holds exactly these bytes, and lastingly: whoever put them
+/// there may have been killed before they were flushed. It is read in pieces.
 fn holds(path: &Path, bytes: &[u8]) -> io::Result<bool> {
     let mut file = File::open(path)?;
     if file.metadata()?.len() != bytes.len() as u64 {
@@ -122,7 +123,7 @@ fn holds(path: &Path, bytes: &[u8]) -> io::Result<bool> {
             count => count?,
         };
         if count == 0 {
-            return Ok(rest.is_empty());
+            return file.sync_all().map(|()| rest.is_empty());
         }
         if rest.get(..count) != Some(&piece[..count]) {
             return Ok(false);

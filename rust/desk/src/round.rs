@@ -14,8 +14,7 @@ use crate::memory::{Gate, Room};
 use crate::naming;
 use crate::pool::{self, Audience};
 use crate::progress::Progress;
-pub use crate::report::counted;
-use crate::report::{shown, Report};
+use crate::report::{counted, shown, Report};
 
 /// The options of a round.
 pub const OPTIONS: &[Opt] = &[value("--shard"), value(JOBS)];
@@ -166,7 +165,7 @@ impl Aside {
             }
             Verdict::Fault(fault) => {
                 self.failed += 1;
-                report.complain(&fault)?;
+                tell_fault(&outcome.path, &fault, report)?;
             }
         }
         Ok(None)
@@ -175,6 +174,19 @@ impl Aside {
     /// How many they are.
     pub fn total(&self) -> u64 {
         self.refused + self.failed + self.misnamed
+    }
+}
+
+/// Tells what kept a shard from its answer. With --json each shard has an
+/// object, also one that was asked for wrongly.
+pub fn tell_fault(path: &Path, fault: &Fault, report: &mut Report) -> Result<(), Fault> {
+    report.complain(fault)?;
+    match fault {
+        Fault::Use { message } if report.json() => {
+            let object = Object::new().path(path).text("result", "error");
+            report.object(object.text("error", message))
+        }
+        _ => Ok(()),
     }
 }
 

@@ -13,8 +13,8 @@ use crate::folder::{is_folder, list, single, Input};
 use crate::help;
 use crate::json::Object;
 use crate::memory::Room;
-use crate::report::{shown, Report};
-use crate::round::{self, and, chunk_count, counted, passed_over, Aside, Outcome, Verdict};
+use crate::report::{counted, shown, Report};
+use crate::round::{self, and, chunk_count, passed_over, Aside, Outcome, Verdict};
 use crate::settings;
 
 /// The command.

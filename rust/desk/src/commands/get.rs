@@ -108,3 +108,24 @@ fn not_an_input(out: &Path, inputs: &[Option<&Path>]) -> Result<(), Fault> {
         ))),
     }
 }
+
+#[cfg(test)]
+mod tests {
+    use super::*;
+    use crate::trial::Folder;
+    use std::os::unix::fs::symlink;
+
+    #[test]
+    fn an_output_never_takes_an_input_s_place() {
+        let folder = Folder::new("get-inputs");
+        let (shard, card) = (folder.write("0.shard", b"x"), folder.write("card", b"y"));
+        let link = folder.at("link");
+        symlink(&card, &link).unwrap();
+        let inputs = [Some(shard.as_path()), Some(card.as_path())];
+        for out in [&shard, &card, &link, &folder.at("./card")] {
+            assert!(not_an_input(out, &inputs).is_err(), "{}", out.display());
+        }
+        assert!(not_an_input(&folder.at("new"), &inputs).is_ok());
+        assert!(not_an_input(&card, &[Some(&shard), None]).is_ok());
+    }
+}

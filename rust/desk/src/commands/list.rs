@@ -53,6 +53,10 @@ fn list(
     path: &Path,
     only: Option<u64>,
 ) -> Result<(), Fault> {
+    if path.is_dir() {
+        let error = io::ErrorKind::IsADirectory.into();
+        return Err(Fault::system(path, "listed", error));
+    }
     let number = number_of_file(args, sharding, path)?;
     let file = read_whole(path)?;
     let shard = Shard::open(*sharding, number, &file);

@@ -16,8 +16,8 @@ use crate::folder::{is_folder, list, single, Input, Trouble};
 use crate::help;
 use crate::json::Object;
 use crate::memory::{front, Lengths, Room};
-use crate::report::{complaint, refusal_members, shown, Report};
-use crate::round::{self, and, counted, Outcome};
+use crate::report::{complaint, counted, refusal_members, shown, Report};
+use crate::round::{self, and, Outcome};
 use crate::settings;
 
 /// The command.
@@ -464,7 +464,7 @@ fn tell_unread(
             report.note(Status::No);
             tell_refused(name, unread.side, *refused, report)
         }
-        Trouble::Fault(fault) => report.complain(&fault),
+        Trouble::Fault(fault) => round::tell_fault(&unread.path, &fault, report),
     }
 }
 
@@ -483,4 +483,96 @@ fn tell_refused(
         subject: Subject::Asked(format!("{}: in the {}", shown(name), side.name())),
         ..refused
     })
+}
+
+#[cfg(test)]
+mod tests {
+    use super::*;
+    use crate::memory::Gate;
+    use crate::trial::{twice_listed, Crowd, Folder, TWO_MINISHARDS};
+
+    #[test]
+    fn forms_that_are_longer_than_their_files_wait_for_memory() {
+        let folder = Folder::new("same-waits");
+        let file = twice_listed(1000);
+        let paths = ["a", "b"].map(|name| folder.write(name, &file));
+        let pair = || Pair {
+            name: "0.shard".into(),
+            sides: Sides::Both(paths.clone().map(|path| Input {
+                path,
+                number: Ok(0),
+            })),
+        };
+        let file = file.len() as u64;
+        let form = 32 + 2 * (1000 + 24);
+        // Two pairs fit by the lengths of their files, but not with their
+        // forms.
+        let gate = Gate::new(2 * (file + form + form) - 1);
+        assert!(2 * 3 * file < 2 * (file + form + form) - 1);
+        let work = |room: &mut Room, pair: Pair| {
+            let outcome = pair.compare(&TWO_MINISHARDS, room);
+            matches!(outcome.verdict, Comparison::Same)
+        };
+        let jobs = (0..100).map(|_| pair()).collect();
+        assert_eq!(Crowd::default().run(jobs, &gate, work), vec![true; 100]);
+    }
+
+    fn sentence(summary: Summary) -> String {
+        summary.sentence().1
+    }
+
+    #[test]
+    fn the_answer_for_the_whole() {
+        let same = || Summary {
+            same: 12,
+            ..Summary::default()
+        };
+        assert_eq!(
+            sentence(same()),
+            "The two hold the same chunks: 12 shards compared, all the same."
+        );
+        assert_eq!(
+            sentence(Summary {
+                same: 10,
+                different: 1,
+                refused: 1,
+                ..Summary::default()
+            }),
+            "The two do not hold the same chunks: 10 shards same, 1 different, 1 refused, \
+             0 missing in the first, 0 missing in the second."
+        );
+        assert_eq!(
+            sentence(Summary {
+                missing: [0, 1],
+                misnamed: 2,
+                ..same()
+            }),
+            "The two do not hold the same chunks: 12 shards same, 0 different, 0 refused, \
+             0 missing in the first, 1 missing in the second, 2 misnamed."
+        );
+        let unknown = "It is not known whether the two hold the same chunks: 12 shards same, \
+                       0 different,";
+        assert_eq!(
+            sentence(Summary {
+                refused: 1,
+                ..same()
+            }),
+            format!("{unknown} 1 refused, 0 missing in the first, 0 missing in the second.")
+        );
+        assert_eq!(
+            sentence(Summary {
+                not_read: 3,
+                ..same()
+            }),
+            format!(
+                "{unknown} 0 refused, 0 missing in the first, 0 missing in the second, \
+                 3 not read."
+            )
+        );
+        assert!(sentence(Summary {
+            misnamed: 1,
+            ..same()
+        })
+        .starts_with(unknown));
+    }
 }

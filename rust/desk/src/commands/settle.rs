@@ -16,8 +16,8 @@ use crate::json::Object;
 use crate::memory::{front, Room};
 use crate::naming::shard_number;
 use crate::output::{self, Placed};
-use crate::report::{shown, Report};
-use crate::round::{self, and, chunk_count, counted, passed_over, Aside, Outcome, Verdict};
+use crate::report::{counted, shown, Report};
+use crate::round::{self, and, chunk_count, passed_over, Aside, Outcome, Verdict};
 use crate::settings;
 
 /// The command.
@@ -127,6 +127,7 @@ impl Task {
     }
 
     fn work(&self, room: &mut Room, job: Job) -> Outcome<Verdict<Settled>> {
+        room.file.clear();
         let path = job.input.path;
         match job.input.number {
             Ok(number) => {
@@ -301,5 +302,42 @@ impl Settled {
             .number("chunks", self.chunks)
             .number("bytes", self.from as u64)
             .number("settled_bytes", self.to as u64)
+    }
+}
+
+#[cfg(test)]
+mod tests {
+    use super::*;
+    use crate::memory::Gate;
+    use crate::trial::{twice_listed, Crowd, Folder, TWO_MINISHARDS};
+
+    #[test]
+    fn forms_that_are_longer_than_their_files_wait_for_memory() {
+        let folder = Folder::new("settle-waits");
+        let file = twice_listed(1000);
+        let path = folder.write("a", &file);
+        let job = |number| Job {
+            input: Input {
+                path: path.clone(),
+                number: Ok(0),
+            },
+            out: folder.at(format!("{number}")),
+        };
+        let file = file.len() as u64;
+        let form = 32 + 2 * (1000 + 24);
+        // Two shards fit by the lengths of their files, but not with their
+        // forms.
+        let gate = Gate::new(2 * (file + form) - 1);
+        assert!(2 * 2 * file < 2 * (file + form) - 1);
+        let task = Task {
+            sharding: TWO_MINISHARDS,
+            force: false,
+        };
+        let work = |room: &mut Room, job| match task.work(room, job).verdict {
+            Verdict::Answer(settled) => (settled.placed, settled.to as u64),
+            _ => (Placed::OtherBytes, 0),
+        };
+        let told = Crowd::default().run((0..100).map(job).collect(), &gate, work);
+        assert_eq!(told, vec![(Placed::Written, form); 100]);
     }
 }

@@ -4,6 +4,8 @@
 //!
 //! Bytes, minishards, entries, levels and nodes are counted from 0.
 
+#[cfg(test)]
+mod agreement;
 mod card;
 mod manifest;
 mod places;
