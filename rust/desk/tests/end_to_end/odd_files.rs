@@ -172,14 +172,14 @@ fn files_without_permission() {
         return;
     };
     let bad = folder.write("deposit/3.shard", empty());
-    fs::set_permissions(&bad, Permissions::from_mode(0)).expect("no permission");
+    fs::set_permissions(&bad, Permissions::from_mode(0o000)).expect("no permission");
     let line = format!("check deposit {OPTIONS}");
     let run = Run::of(command.args(line.split_whitespace()));
     the_rest_is_judged(&run, "3.shard");
 
     // No permission to write into the folder, or to read it.
     folder.make("locked");
-    for mode in [0o555, 0] {
+    for mode in [0o555, 0o000] {
         let permissions = Permissions::from_mode(mode);
         fs::set_permissions(folder.at("locked"), permissions).expect("changed");
         let settle = format!("settle deposit --out locked {OPTIONS}");
