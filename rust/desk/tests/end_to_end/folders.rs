@@ -116,6 +116,30 @@ fn two_hundred_shards_are_checked() {
 }
 
 #[test]
+fn a_long_shard_is_told_in_its_place() {
+    let folder = Folder::new();
+    // All entries of the shard index are empty, so both kinds are sound.
+    folder.write("deposit/00.shard", vec![0; 40_000_000]);
+    for number in 1..40 {
+        folder.write(format!("deposit/{}", name(number)), [0; 64]);
+    }
+    for command in [
+        "check deposit",
+        "settle deposit --out out",
+        "same deposit deposit",
+    ] {
+        let run = folder.run_line(&format!("{command} --jobs 4 {}", options(&SHARDING)));
+        run.expect_status(0);
+        let names: Vec<&str> = answers(&run)
+            .into_iter()
+            .filter_map(|line| line.split_once(".shard: ").map(|(name, _)| name))
+            .collect();
+        assert_eq!(names.len(), 40, "{run}");
+        assert!(names.is_sorted(), "{run}");
+    }
+}
+
+#[test]
 fn every_refusal_is_explained_in_three_lines() {
     let rng = &mut Rng::new(8);
     let folder = Folder::new();

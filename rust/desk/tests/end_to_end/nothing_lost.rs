@@ -230,8 +230,8 @@ fn a_failed_write_keeps_the_old_file() {
     folder.run_after(no_room, &settle).expect_status(3);
     let get = format!("get deposit/00.shard 0 --out chunk --force {options}");
     folder.run_after(no_room, &get).expect_status(3);
-    assert_eq!(folder.read("settled/00.shard"), b"old");
-    assert_eq!(folder.read("chunk"), b"old");
+    assert!(folder.read("settled/00.shard") == b"old");
+    assert!(folder.read("chunk") == b"old");
     assert_eq!(folder.names("settled"), ["00.shard"]);
     assert_eq!(folder.names("."), ["chunk", "deposit", "settled"]);
 }

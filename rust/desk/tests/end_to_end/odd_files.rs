@@ -179,7 +179,7 @@ fn files_without_permission() {
 
     // No permission to write into the folder, or to read it.
     folder.make("locked");
-    for mode in [0o555, 0] {
+    for mode in [0o555, 0o000] {
         let permissions = Permissions::from_mode(mode);
         fs::set_permissions(folder.at("locked"), permissions).expect("changed");
         let settle = format!("settle deposit --out locked {OPTIONS}");
