@@ -88,14 +88,17 @@ FUNCTIONS: Dict[str, Tuple[Any, Tuple[Any, ...]]] = {
     "coronagamba_copy": (WORD, _BYTES + _BYTES),
     "coronagamba_grid_of": (WORD, (Volume, THREE_U32)),
     "coronagamba_key_of": (WORD, (Volume, Cell, U64)),
-    "coronagamba_keys_of": (WORD, (Volume, U32S, c_size_t, U64S, c_size_t)),
+    "coronagamba_keys_of": (
+        WORD,
+        (Volume, U32S, c_size_t, U64S, c_size_t, U64),
+    ),
     "coronagamba_cell_of": (WORD, (Volume, c_uint64, THREE_U32)),
     "coronagamba_bounds_of": (WORD, (Volume, Cell, THREE_I64, THREE_I64)),
     "coronagamba_chunk_name": (WORD, (Volume, Cell, U8S, c_size_t, U64)),
     "coronagamba_place_of": (WORD, (Sharding, c_uint64, U64, U64)),
     "coronagamba_places_of": (
         WORD,
-        (Sharding, U64S, c_size_t, U64S, c_size_t, U64S, c_size_t),
+        (Sharding, U64S, c_size_t, U64S, c_size_t, U64S, c_size_t, U64),
     ),
     "coronagamba_shard_name": (
         WORD,

@@ -129,6 +129,7 @@ class Volume:
                     3 * count,
                     own(c_uint64, keys),
                     count,
+                    byref(c_uint64()),
                 )
             )
         return keys

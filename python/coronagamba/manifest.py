@@ -41,10 +41,10 @@ class Node(NamedTuple):
 
 
 class Visit(NamedTuple):
-    """A node met on a walk, with its level and its number in that level."""
+    """A node met on a walk, with its level and its index in that level."""
 
     level: int
-    number: int
+    index: int
     node: Node
 
 
@@ -115,8 +115,8 @@ class Manifest(Held):
             )
         return real.value if kind.value == 1 else whole.value
 
-    def node(self, level: int, number: int) -> Node:
-        """A node by its level and its number in it, both counted from 0.
+    def node(self, level: int, node: int) -> Node:
+        """A node by its level and its index in it, both counted from 0.
         Refusals 15 to 18."""
         position, start, size = _ThreeU32(), c_uint64(), c_uint32()
         with self._lent() as lent:
@@ -125,7 +125,7 @@ class Manifest(Held):
                     lent.bytes,
                     lent.count,
                     u32("level", level),
-                    u32("number", number),
+                    u32("node", node),
                     byref(position),
                     byref(start),
                     byref(size),
@@ -133,7 +133,7 @@ class Manifest(Held):
             )
         return _node(position, start, size)
 
-    def corners(self, level: int, number: int) -> Corners:
+    def corners(self, level: int, node: int) -> Corners:
         """The corners of a node's box. Refusals 15 to 18."""
         near, far = _ThreeF32(), _ThreeF32()
         with self._lent() as lent:
@@ -142,7 +142,7 @@ class Manifest(Held):
                     lent.bytes,
                     lent.count,
                     u32("level", level),
-                    u32("number", number),
+                    u32("node", node),
                     byref(near),
                     byref(far),
                 )
@@ -167,7 +167,7 @@ class Manifest(Held):
         kind, position = c_uint32(), _ThreeU32()
         start, size = c_uint64(), c_uint32()
         while True:
-            level, number = at
+            level, index = at
             with self._lent() as lent:
                 answer(
                     library.coronagamba_manifest_walk_step(
@@ -184,7 +184,7 @@ class Manifest(Held):
             if kind.value == _END:
                 return
             if kind.value == _NODE:
-                yield Visit(level, number, _node(position, start, size))
+                yield Visit(level, index, _node(position, start, size))
 
 
 def _reals(three: Any) -> Reals:

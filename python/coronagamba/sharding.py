@@ -84,6 +84,7 @@ class Sharding:
                     count,
                     own(c_uint64, minishards),
                     count,
+                    byref(c_uint64()),
                 )
             )
         return shards, minishards

@@ -118,7 +118,9 @@ fn placements(name: &str, hash: u8) {
     }
     .run_beside(
         || {
-            assert!(sharding.places(&ids, &mut shards, &mut minishards).is_ok());
+            assert!(sharding
+                .write_places(&ids, &mut shards, &mut minishards)
+                .is_ok());
             shards[ids.len() / 2] ^ minishards[ids.len() / 3]
         },
         || {

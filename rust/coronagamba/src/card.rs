@@ -19,7 +19,7 @@ use crate::sharding::Sharding;
 /// assert_eq!(Card::read(&bytes)?, card);
 /// # Ok::<(), coronagamba::Refusal>(())
 /// ```
-#[derive(Clone, Copy, Debug, Default, PartialEq, Eq, Hash)]
+#[derive(Clone, Copy, Debug, PartialEq, Eq, Hash)]
 pub struct Card {
     /// The sharding specification.
     pub sharding: Sharding,
@@ -98,7 +98,8 @@ impl Card {
     ///     volume: Volume::new([100, 1, 1], [64, 1, 1], [-64, 0, 0]),
     /// };
     /// assert_eq!(card.to_bytes()?.len(), 61);
-    /// assert_eq!(Card::default().to_bytes().unwrap_err().number, 2);
+    /// let empty = Card { volume: Volume::default(), ..card };
+    /// assert_eq!(empty.to_bytes().unwrap_err().number, 2);
     /// # Ok::<(), coronagamba::Refusal>(())
     /// ```
     pub fn to_bytes(&self) -> Result<Vec<u8>, Refusal> {

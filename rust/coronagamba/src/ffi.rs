@@ -44,6 +44,7 @@ extern "C" {
         count: usize,
         keys: *mut u64,
         keys_count: usize,
+        length: *mut u64,
     ) -> u64;
     pub fn coronagamba_cell_of(volume: Volume, key: u64, cell: *mut [u32; 3]) -> u64;
     pub fn coronagamba_bounds_of(
@@ -70,6 +71,7 @@ extern "C" {
         shards_count: usize,
         minishards: *mut u64,
         minishards_count: usize,
+        length: *mut u64,
     ) -> u64;
 }
 
@@ -265,25 +267,32 @@ mod tests {
             chunk: extents(1),
             ..Volume::default()
         };
-        let (cells, mut keys) = ([5, 0, 0, 8, 0, 0], [KEPT; 2]);
+        let (cells, mut keys, mut length) = ([5, 0, 0, 8, 0, 0], [KEPT; 2], KEPT);
         let (from, to) = (cells.as_ptr(), keys.as_mut_ptr());
         // SAFETY: each pointer and count are those of one array or of its
         // front.
         unsafe {
-            assert_eq!(coronagamba_keys_of(volume, from, 6, to, 2), 2);
-            assert_eq!(coronagamba_keys_of(volume, from, 3, to, 0), 13);
+            assert_eq!(coronagamba_keys_of(volume, from, 6, to, 2, &mut length), 2);
+            assert_eq!(coronagamba_keys_of(volume, from, 3, to, 0, &mut length), 13);
         }
-        assert_eq!(keys, [KEPT; 2]);
+        assert_eq!((keys, length), ([KEPT; 2], KEPT));
         // The two numbers left over are no cell.
         // SAFETY: as before.
         unsafe {
-            assert_eq!(
-                coronagamba_keys_of(volume, from, 5, keys.as_mut_ptr(), 2),
-                0
-            );
+            let to = keys.as_mut_ptr();
+            assert_eq!(coronagamba_keys_of(volume, from, 5, to, 2, &mut length), 0);
         }
-        assert_eq!(keys, [5, KEPT]);
+        assert_eq!((keys, length), ([5, KEPT], 1));
     }
+
+    /// The specification of one shard with one minishard.
+    #[cfg(any(feature = "names", feature = "shards"))]
+    const NO_BITS: Sharding = Sharding {
+        preshift: 0,
+        hash: 0,
+        minishard_bits: 0,
+        shard_bits: 0,
+    };
 
     /// A specification that is refused with 1.
     #[cfg(feature = "sharding")]
@@ -325,7 +334,7 @@ mod tests {
                 coronagamba_shard_name(REFUSED, 0, place, 20, &mut length),
                 1
             );
-            let allowed = Sharding::default();
+            let allowed = NO_BITS;
             assert_eq!(
                 coronagamba_shard_name(allowed, 1, place, 20, &mut length),
                 5
@@ -404,7 +413,7 @@ mod tests {
                 coronagamba_settle(sharding, 0, file, count, place, 40, &mut length),
                 7
             );
-            let sound = Sharding::default();
+            let sound = NO_BITS;
             assert_eq!(
                 coronagamba_settle(sound, 0, file, count, place, 15, &mut length),
                 13

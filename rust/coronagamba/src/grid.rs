@@ -1,7 +1,7 @@
 //! Grid sizes, keys and cell bounds.
 
 use crate::ffi;
-use crate::refusal::{answer, given, Refusal};
+use crate::refusal::{given, written, Refusal};
 
 /// Three extents.
 #[repr(C)]
@@ -173,20 +173,21 @@ impl Volume {
         Ok(keys)
     }
 
-    /// Writes the keys of many cells, in their order, to the front of `keys`.
-    /// Refusals as of [`keys`](Volume::keys), then 13 where `keys` is shorter
-    /// than `cells`; it is then as it was.
-    pub fn write_keys(&self, cells: &[Cell], keys: &mut [u64]) -> Result<(), Refusal> {
+    /// Writes the keys of many cells, in their order, to the front of `keys`,
+    /// and gives how many these are. Refusals as of [`keys`](Volume::keys),
+    /// then 13 where `keys` is shorter than `cells`; it is then as it was.
+    pub fn write_keys(&self, cells: &[Cell], keys: &mut [u64]) -> Result<usize, Refusal> {
         // SAFETY: a cell is three numbers and no padding, so pointer and count
         // are those of the numbers in one live slice, whose count fits as its
-        // bytes do; `keys` is another, lent to this call alone.
-        answer(unsafe {
+        // bytes do; `keys` is another, lent to this call alone with the result.
+        written(|length| unsafe {
             ffi::coronagamba_keys_of(
                 *self,
                 cells.as_ptr().cast(),
                 3 * cells.len(),
                 keys.as_mut_ptr(),
                 keys.len(),
+                length,
             )
         })
     }

@@ -123,7 +123,7 @@ pub(crate) fn given<T: Default>(call: impl FnOnce(&mut T) -> u64) -> Result<T, R
 
 /// The length that a writing call reports, or its refusal. What was written
 /// fits a slice, so its length fits.
-#[cfg(any(feature = "names", feature = "shards", feature = "card"))]
+#[cfg(any(feature = "grid", feature = "sharding"))]
 pub(crate) fn written(call: impl FnOnce(&mut u64) -> u64) -> Result<usize, Refusal> {
     given(call).map(|length| length as usize)
 }

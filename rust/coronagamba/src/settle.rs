@@ -64,7 +64,8 @@ impl Shard<'_> {
     ///
     /// // A shard of no chunks, with 4 bytes that no entry lists.
     /// let file = [0; 16 + 4];
-    /// let shard = Shard::open(Sharding::default(), 0, &file);
+    /// let sharding = Sharding { preshift: 0, hash: 0, minishard_bits: 0, shard_bits: 0 };
+    /// let shard = Shard::open(sharding, 0, &file);
     /// let mut out = [7; 18];
     /// assert_eq!(shard.settle(&mut out[..15]).unwrap_err().number, 13);
     /// assert_eq!(out, [7; 18]);

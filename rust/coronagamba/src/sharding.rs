@@ -1,7 +1,7 @@
 //! From an id to its shard and minishard.
 
 use crate::ffi;
-use crate::refusal::{answer, given, Refusal};
+use crate::refusal::{given, written, Refusal};
 
 /// A sharding specification, its fields as in a deposit card.
 ///
@@ -23,7 +23,7 @@ use crate::refusal::{answer, given, Refusal};
 /// # Ok::<(), coronagamba::Refusal>(())
 /// ```
 #[repr(C)]
-#[derive(Clone, Copy, Debug, Default, PartialEq, Eq, Hash)]
+#[derive(Clone, Copy, Debug, PartialEq, Eq, Hash)]
 pub struct Sharding {
     /// Low bits of an id that do not count, at most 63.
     pub preshift: u8,
@@ -82,28 +82,47 @@ impl Sharding {
         })
     }
 
-    /// The shards and minishards of many ids, in their order, at the front of
-    /// the two buffers. Refusal 1, or 13 where one of them is shorter than
-    /// `ids`; both are then as they were.
+    /// The shards and minishards of many ids, in their order, or refusal 1.
+    ///
+    /// ```
+    /// use coronagamba::{Place, Sharding};
+    ///
+    /// let sharding = Sharding { preshift: 0, hash: 0, minishard_bits: 1, shard_bits: 2 };
+    /// let places = sharding.places(&[5, 3])?;
+    /// assert_eq!(places, [Place { shard: 2, minishard: 1 }, Place { shard: 1, minishard: 1 }]);
+    /// # Ok::<(), coronagamba::Refusal>(())
+    /// ```
+    pub fn places(&self, ids: &[u64]) -> Result<Vec<Place>, Refusal> {
+        let (mut shards, mut minishards) = (vec![0; ids.len()], vec![0; ids.len()]);
+        self.write_places(ids, &mut shards, &mut minishards)?;
+        let both = shards.into_iter().zip(minishards);
+        Ok(both
+            .map(|(shard, minishard)| Place { shard, minishard })
+            .collect())
+    }
+
+    /// Writes the shards and minishards of many ids, in their order, to the
+    /// front of the two buffers, and gives how many these are. Refusal 1, or 13
+    /// where one of them is shorter than `ids`; both are then as they were.
     ///
     /// ```
     /// use coronagamba::Sharding;
     ///
     /// let sharding = Sharding { preshift: 0, hash: 0, minishard_bits: 1, shard_bits: 2 };
     /// let (mut shards, mut minishards) = ([9; 3], [9; 3]);
-    /// sharding.places(&[5, 3], &mut shards, &mut minishards)?;
+    /// assert_eq!(sharding.write_places(&[5, 3], &mut shards, &mut minishards)?, 2);
     /// assert_eq!((shards, minishards), ([2, 1, 9], [1, 1, 9]));
     /// # Ok::<(), coronagamba::Refusal>(())
     /// ```
-    pub fn places(
+    pub fn write_places(
         &self,
         ids: &[u64],
         shards: &mut [u64],
         minishards: &mut [u64],
-    ) -> Result<(), Refusal> {
+    ) -> Result<usize, Refusal> {
         // SAFETY: each pointer and count are those of one live slice, the two
-        // buffers lent to this call alone.
-        answer(unsafe {
+        // buffers and the result lent to this call alone.
+        written(|length| unsafe {
             ffi::coronagamba_places_of(
                 *self,
                 ids.as_ptr(),
@@ -112,6 +131,7 @@ impl Sharding {
                 shards.len(),
                 minishards.as_mut_ptr(),
                 minishards.len(),
+                length,
             )
         })
     }

@@ -27,8 +27,10 @@ fn a_finished_listing_stays_finished() {
 #[test]
 fn empty_minishards_are_passed_over() {
     let specification = coronagamba::Sharding {
+        preshift: 0,
+        hash: 0,
         minishard_bits: 12,
-        ..Default::default()
+        shard_bits: 0,
     };
     let mut file = vec![0; 16 * 4_096];
     file.extend(b"abc");

@@ -15,8 +15,10 @@ fn the_cases_of_the_paper() {
     assert_eq!(strip.chunk_name(cell([1, 0, 0])).unwrap(), "0-36_0-1_0-1");
     for (shard_bits, shard, name) in [(4, 10, "a.shard"), (5, 10, "0a.shard"), (0, 0, "0.shard")] {
         let specification = coronagamba::Sharding {
+            preshift: 0,
+            hash: 0,
+            minishard_bits: 0,
             shard_bits,
-            ..Default::default()
         };
         assert_eq!(specification.shard_name(shard).unwrap(), name);
     }

@@ -145,8 +145,10 @@ fn forms_around_a_gibibyte() {
     const CHUNKS: u64 = 128;
     let gibibyte = 1u64 << 30;
     let specification = coronagamba::Sharding {
+        preshift: 0,
+        hash: 0,
         minishard_bits: 7,
-        ..Default::default()
+        shard_bits: 0,
     };
     let index_end = 16 * CHUNKS;
     let whole = (gibibyte - index_end - 24 * CHUNKS) / CHUNKS;

@@ -82,7 +82,12 @@ fn truncations_at_every_length() {
 
 #[test]
 fn lengths_around_a_gibibyte() {
-    let specification = coronagamba::Sharding::default();
+    let specification = coronagamba::Sharding {
+        preshift: 0,
+        hash: 0,
+        minishard_bits: 0,
+        shard_bits: 0,
+    };
     let mut file = vec![0; (1 << 30) + 1];
     let shard = Shard::open(specification, 0, &file);
     assert_eq!(shard.check().unwrap_err().number, 6);

@@ -49,8 +49,9 @@ fn every_value_of_each_field() {
 fn the_cases_of_the_paper() {
     let specification = coronagamba::Sharding {
         preshift: 1,
+        hash: 0,
         minishard_bits: 1,
-        ..Default::default()
+        shard_bits: 0,
     };
     for (id, minishard) in [(2, 1), (3, 1), (4, 0)] {
         assert_eq!(specification.place(id).unwrap().minishard, minishard);

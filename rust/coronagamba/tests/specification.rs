@@ -7,7 +7,12 @@ use coronagamba::Sharding;
 fn every_value_of_each_field() {
     for value in 0..=u8::MAX {
         let allowed = |sharding: Sharding| sharding.allowed().is_ok();
-        let zero = Sharding::default();
+        let zero = Sharding {
+            preshift: 0,
+            hash: 0,
+            minishard_bits: 0,
+            shard_bits: 0,
+        };
         let preshift = Sharding {
             preshift: value,
             ..zero

@@ -69,8 +69,10 @@ mod tests {
 
     fn sharding(shard_bits: u8) -> Sharding {
         Sharding {
+            preshift: 0,
+            hash: Sharding::IDENTITY,
+            minishard_bits: 0,
             shard_bits,
-            ..Sharding::default()
         }
     }
 

@@ -111,7 +111,7 @@ fn compare_keys(bytes: &[u8]) -> u8 {
     let met = same_writing(
         format_args!("keys of {cells:?} in {volume:?}"),
         &Lent::numbers(&mut Rng::new(length as u64), length),
-        |out| library.write_keys(&asked, out).map(|()| asked.len()),
+        |out| library.write_keys(&asked, out),
         |out| write_keys(&volume, &cells, out),
     );
     if met == 0 {

@@ -47,7 +47,7 @@ fn batch(
     ids: &[u64],
     shards: &mut [u64],
     minishards: &mut [u64],
-) -> Result<(), u8> {
+) -> Result<usize, u8> {
     sharding.allowed()?;
     if shards.len() < ids.len() || minishards.len() < ids.len() {
         return Err(13);
@@ -56,7 +56,7 @@ fn batch(
         let place = sharding.place(*id);
         (shards[i], minishards[i]) = (place.shard, place.minishard);
     }
-    Ok(())
+    Ok(ids.len())
 }
 
 fn compare_places(bytes: &[u8]) -> u8 {
@@ -73,7 +73,7 @@ fn compare_places(bytes: &[u8]) -> u8 {
         (before.clone(), before.clone());
     let met = same(
         format_args!("places of {} ids under {sharding:?}", ids.len()),
-        sides::sharding(&sharding).places(&ids, shards.part(), minishards.part()),
+        sides::sharding(&sharding).write_places(&ids, shards.part(), minishards.part()),
         batch(&sharding, &ids, shards_too.part(), minishards_too.part()),
     );
     let after = [shards, minishards];

@@ -308,8 +308,10 @@ mod tests {
     #[test]
     fn shard_numbers() {
         let sharding = Sharding {
+            preshift: 0,
+            hash: Sharding::IDENTITY,
+            minishard_bits: 0,
             shard_bits: 32,
-            ..Sharding::default()
         };
         let told = of_shard_number(&sharding, 1 << 32);
         assert_eq!(told.found, "shard number 4294967296");
