@@ -24,7 +24,8 @@ _SENTENCES = {
     16: "A real in the manifest is not finite, "
     "or a chunk shape is not above zero.",
     17: "The nodes of a level are not in strictly rising Z-curve order.",
-    18: "There is no such level, node or field, or the node has no corners.",
+    18: "There is no such level, node or field, the node has no corners, "
+    "or a walk leaves the bytes.",
 }
 
 

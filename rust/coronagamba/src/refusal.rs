@@ -22,7 +22,7 @@ const SENTENCES: [&str; 18] = [
     "The manifest has a wrong length or level count.",
     "A real in the manifest is not finite, or a chunk shape is not above zero.",
     "The nodes of a level are not in strictly rising Z-curve order.",
-    "There is no such level, node or field, or the node has no corners.",
+    "There is no such level, node or field, the node has no corners, or a walk leaves the bytes.",
 ];
 
 /// Why a call refused: a number from the archive's table and, where the

@@ -123,7 +123,7 @@ const SENTENCES: [(u8, &str); 18] = [
     ),
     (
         18,
-        "There is no such level, node or field, or the node has no corners.",
+        "There is no such level, node or field, the node has no corners, or a walk leaves the bytes.",
     ),
 ];
 
