@@ -41,9 +41,9 @@ ARGUMENTS = [
     ("minishard", U64, SHARD.listing),
     ("number", U32, MANIFEST.field),
     ("level", U32, lambda n: MANIFEST.node(n, 0)),
-    ("number", U32, lambda n: MANIFEST.node(0, n)),
+    ("node", U32, lambda n: MANIFEST.node(0, n)),
     ("level", U32, lambda n: MANIFEST.corners(n, 0)),
-    ("number", U32, lambda n: MANIFEST.corners(0, n)),
+    ("node", U32, lambda n: MANIFEST.corners(0, n)),
 ]
 
 
