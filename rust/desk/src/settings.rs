@@ -48,11 +48,16 @@ struct Given {
     volume: Option<Volume>,
 }
 
+/// A setting that `read` was told is needed. It is never assumed.
+fn there<T>(setting: Option<T>) -> T {
+    setting.expect("a needed setting that is missing is complained of")
+}
+
 /// The sharding, which must be given, and the volume where it is given.
 pub fn of_shards(args: &Args) -> Result<Settings, Fault> {
     let given = read(args, &SHARDING)?;
     Ok(Settings {
-        sharding: allowed(given.sharding.unwrap_or_default())?,
+        sharding: allowed(there(given.sharding))?,
         volume: given.volume,
     })
 }
@@ -60,13 +65,13 @@ pub fn of_shards(args: &Args) -> Result<Settings, Fault> {
 /// The sharding and a volume whose cells have keys; both must be given.
 pub fn of_cells(args: &Args) -> Result<(Sharding, Volume), Fault> {
     let given = read(args, &[SHARDING.as_slice(), &EXTENTS].concat())?;
-    let sharding = allowed(given.sharding.unwrap_or_default())?;
-    Ok((sharding, with_keys(given.volume.unwrap_or_default())?))
+    let sharding = allowed(there(given.sharding))?;
+    Ok((sharding, with_keys(there(given.volume))?))
 }
 
 /// The volume, which must be given. Only its extents are judged.
 pub fn volume(args: &Args) -> Result<Volume, Fault> {
-    let volume = read(args, &EXTENTS)?.volume.unwrap_or_default();
+    let volume = there(read(args, &EXTENTS)?.volume);
     volume
         .grid()
         .map_err(|refusal| refused_volume(volume, refusal))?;
@@ -77,8 +82,8 @@ pub fn volume(args: &Args) -> Result<Volume, Fault> {
 pub fn for_card(args: &Args) -> Result<Card, Fault> {
     let given = read(args, &[SHARDING.as_slice(), &EXTENTS].concat())?;
     Ok(Card {
-        sharding: given.sharding.unwrap_or_default(),
-        volume: given.volume.unwrap_or_default(),
+        sharding: there(given.sharding),
+        volume: there(given.volume),
     })
 }
 
