@@ -149,12 +149,9 @@ impl Seen<'_> {
 
     /// The position of a node.
     fn position(&self, level: u64, node: u64) -> Option<[u32; 3]> {
-        let place = |axis| Some(self.rows(level)? + 4 * (axis * self.nodes(level)? + node));
-        Some([
-            u32_at(self.bytes, place(0)?)?,
-            u32_at(self.bytes, place(1)?)?,
-            u32_at(self.bytes, place(2)?)?,
-        ])
+        let (nodes, rows) = (self.nodes(level)?, self.rows(level)?);
+        let item = |axis| u32_at(self.bytes, rows + 4 * (axis * nodes + node));
+        Some([item(0)?, item(1)?, item(2)?])
     }
 
     /// Refusal 17: the first node that does not come after the one before it.
@@ -165,13 +162,9 @@ impl Seen<'_> {
     /// The first such node of a level.
     fn bad_order_in(&self, level: u64) -> Option<Diagnosis> {
         let (nodes, rows) = (self.nodes(level)?, self.rows(level)?);
-        let position = |node| {
-            let item = |axis: u64| u32_at(self.bytes, rows + 4 * (axis * nodes + node));
-            Some([item(0)?, item(1)?, item(2)?])
-        };
-        let mut before = position(0)?;
+        let mut before = self.position(level, 0)?;
         for node in 1..nodes {
-            let here = position(node)?;
+            let here = self.position(level, node)?;
             if z_order(before, here) != Ordering::Less {
                 return Some(Diagnosis::new(
                     format!(
