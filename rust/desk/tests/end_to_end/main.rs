@@ -8,6 +8,7 @@ mod json;
 mod memory;
 mod nothing_lost;
 mod odd_files;
+mod reading;
 mod refusals;
 mod sample;
 mod shards;

@@ -401,5 +401,6 @@ fn numbers_15_to_18_manifests() {
     // A node without corners is a node all the same.
     assert_eq!(manifest::corners(&sound.bytes(), 1, 0), Err(18));
     let run = folder.run_line("manifest node m 1 0");
-    assert!(run.text().contains("16777216"), "{run}");
+    run.expect_status(1).expect_line("  position: 16777216,0,0");
+    assert!(run.text().contains("corners: none, refused 18: "), "{run}");
 }
