@@ -9,6 +9,7 @@ use lib.Dec.{ltb}
 use borrow.Author.Tests.{ltb-true}
 use Rattle.endian.specs.Choice.{pick}
 use Rattle.endian.specs.Little.{leAt}
+use Rattle.endian.specs.Range.{sumTo, anyBelow, first}
 use Rattle.endian.proofs.Little.{leAt-drop, leAt-take}
 use Rattle.sharding.specs.declared.Sharding.{Sharding}
 use Rattle.sharding.specs.Specification.{minishardCount}
@@ -16,7 +17,6 @@ use Rattle.sharding.specs.Place.{minishardOf}
 use Rattle.sharding.proofs.Placed.{minishard-below}
 use Rattle.shard.specs.declared.LookupAnswer.{LookupAnswer}
 use Rattle.shard.specs.declared.LookupAnswer.the-variants.{Found, Refused}
-use Rattle.shard.specs.Sums.{sumTo, anyBelow, first}
 use Rattle.shard.specs.Index.{entryStart, entryEnd, entryCount, idSteps, startSteps, sizes, idAt, startAt}
 use Rattle.shard.specs.Faults.{badEntry, badId, foreignAt, outside, faultAt, faultOf}
 use Rattle.shard.specs.File.{indexLength, indexPart, dataPart}

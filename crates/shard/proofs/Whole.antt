@@ -9,16 +9,16 @@ use lib.Dec.{ltb}
 use lib.ListN.{length}
 use borrow.Author.Tests.{ltb-true, ltb-false, lt-ltb, le-ltb, leb-false, lt-leb, eqb-true, eqb-false, eq-eqb, not-true, not-false}
 use Rattle.endian.specs.Choice.{pick}
+use Rattle.endian.specs.Range.{anyBelow, first}
+use Rattle.endian.proofs.Ranges.{any-miss, any-no, first-none, first-lt, first-holds}
 use Rattle.sharding.specs.declared.Sharding.{Sharding}
 use Rattle.sharding.specs.Specification.{allowed, minishardCount, shardCount}
 use Rattle.shard.specs.declared.inner.Fault.{Fault}
 use Rattle.shard.specs.declared.CheckAnswer.{CheckAnswer}
 use Rattle.shard.specs.declared.CheckAnswer.the-variants.{Sound, Refused, Faulty}
-use Rattle.shard.specs.Sums.{anyBelow, first}
 use Rattle.shard.specs.Faults.{faultOf, faulty, firstFault, shardFault}
 use Rattle.shard.specs.File.{mostShardBytes, indexLength, indexPart, dataPart, noSuchShard, badFileLength, verdict, checkAnswer}
 use Rattle.shard.specs.Sound.{SoundMinishard, SoundShard}
-use Rattle.shard.proofs.First.{any-miss, any-no, first-none, first-lt, first-holds}
 use Rattle.shard.proofs.Judged.{either-false, passes-minishard, minishard-passes}
 
 -- ---- the first fault of n minishards

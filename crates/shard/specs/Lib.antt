@@ -1,5 +1,4 @@
 -- Reading shards (01, 'From id to shard'; source 002).
-pub mod Sums
 pub mod Index
 pub mod Faults
 pub mod File

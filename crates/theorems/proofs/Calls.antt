@@ -10,6 +10,8 @@ use borrow.Author.Tests.{lt-ltb, le-ltb}
 use Rattle.endian.specs.Choice.{pick}
 use Rattle.endian.specs.Buffer.{written, leftBy}
 use Rattle.endian.specs.declared.Written.the-variants.{Length, Refused}
+use Rattle.endian.specs.Range.{anyBelow, first}
+use Rattle.endian.proofs.Ranges.{first-lt, first-none}
 use Rattle.grid.specs.declared.Volume.{Volume}
 use Rattle.grid.specs.declared.Cell.{Cell}
 use Rattle.grid.specs.declared.GridAnswer.the-variants as G
@@ -27,12 +29,10 @@ use Rattle.names.specs.Shards.{shardName, shardNameAnswer, shardNameLeft}
 use Rattle.shard.specs.declared.CheckAnswer.the-variants.{Refused as CheckRefused}
 use Rattle.shard.specs.declared.LookupAnswer.the-variants.{Found, Refused as NotFound}
 use Rattle.shard.specs.declared.CountAnswer.the-variants.{Count, Refused as NoCount}
-use Rattle.shard.specs.Sums.{anyBelow, first}
 use Rattle.shard.specs.Index.{entryStart, entryEnd, entryCount, idSteps}
 use Rattle.shard.specs.Faults.{faultOf}
 use Rattle.shard.specs.File.{mostShardBytes, indexPart, dataPart, noSuchShard, verdict, checkAnswer}
 use Rattle.shard.specs.Find.{isId, foundAt, foundIn, unless, lookupIn, lookupAnswer, listingRefusal, listedCount, listingOf, counted, countAnswer, listed, leftListed}
-use Rattle.shard.proofs.First.{first-lt, first-none}
 use Rattle.shard.proofs.Retrieval.{fault-most}
 use Rattle.settle.specs.Content.{formLength}
 use Rattle.settle.specs.Answers.{checkNumber, refusedBy, lengthAnswer, tooLong, settleAnswer, unlessRefused, settleLeft}

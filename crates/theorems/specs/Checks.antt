@@ -7,6 +7,7 @@ use mathlib.Core.List.{List, [], _∷_}
 use lib.Dec.{ltb, leb, eqb}
 use lib.ListN.{length}
 use Rattle.endian.specs.Choice.{pick}
+use Rattle.endian.specs.Range.{anyBelow}
 use Rattle.grid.specs.declared.Volume.{Volume}
 use Rattle.grid.specs.declared.Cell.{Cell}
 use Rattle.grid.specs.Grid.{gridOf, zeroExtent}
@@ -20,7 +21,6 @@ use Rattle.names.specs.Shards.{shardName}
 use Rattle.card.specs.declared.Card.{Card}
 use Rattle.card.specs.Layout.{cardBytes}
 use Rattle.card.specs.Reading.{wellFormed, cardIn}
-use Rattle.shard.specs.Sums.{anyBelow}
 use Rattle.shard.specs.Index.{entryStart, entryEnd, entryCount, idSteps, startSteps, sizes}
 use Rattle.shard.specs.Faults.{badEntry, badLength, badId, foreignAt, outside}
 use Rattle.shard.specs.File.{mostShardBytes, indexPart, dataPart, noSuchShard, badFileLength}
