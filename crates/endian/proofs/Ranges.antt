@@ -144,6 +144,17 @@ first-holds f (suc n) l = go (λ e. first-holds f n e) (anyBelow n f) refl (f n)
     go ih false e true u = rw (e, u) u
     go ih false e false u = absurd (omega (arith, rw (e, u) at l))
 
+-- it holds of none before it
+pub first-before : (f : ℕ → Bool) (n j : ℕ) → j < first f n → f j ≡ false
+unfolding first anyBelow
+first-before f zero j l = absurd (not-suc-le-zero l)
+first-before f (suc n) j l = go (λ h. first-before f n j h) (anyBelow n f) refl (f n) refl
+  where
+    go : (j < first f n → f j ≡ false) → (b : Bool) → anyBelow n f ≡ b → (t : Bool) → f n ≡ t → f j ≡ false
+    go h true e t u = h (rw e at l)
+    go h false e true u = any-miss f n j e (rw (e, u) at l)
+    go h false e false u = any-miss f (suc n) j (rw (e, u)) (rw (e, u) at l)
+
 -- what an answer `first f n` tells
 pub told-some : (f : ℕ → Bool) (n : ℕ) {r : ℕ} → r ≡ first f n → r < n → anyBelow n f ≡ true
 told-some f n {r} e l = any-hit f n (first f n) (omega arith) (first-holds f n (omega arith))
