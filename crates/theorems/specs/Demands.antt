@@ -19,14 +19,14 @@ use Rattle.grid.specs.Grid.{gridOf, InU32}
 use Rattle.grid.specs.Key.{keyBits, keyOf}
 use Rattle.grid.specs.Answers.{noCell, gridAnswer, keyAnswer, cellAnswer, boundsAnswer}
 use Rattle.sharding.specs.declared.Sharding.{Sharding}
-use Rattle.sharding.specs.Specification.{allowed, minishardCount}
+use Rattle.sharding.specs.Specification.{allowed, minishardCount, noSuchShard}
 use Rattle.sharding.specs.Place.{shardOf, minishardOf, placeAnswer}
 use Rattle.names.specs.Chunks.{chunkNameAnswer, chunkNameLeft}
 use Rattle.names.specs.Shards.{shardNameAnswer, shardNameLeft}
 use Rattle.shard.specs.declared.CheckAnswer.the-variants.{Sound, Faulty, Refused as CheckRefused}
 use Rattle.shard.specs.declared.LookupAnswer.the-variants.{Found, Refused as NotFound}
 use Rattle.shard.specs.declared.CountAnswer.the-variants.{Refused as NoCount}
-use Rattle.shard.specs.File.{mostShardBytes, indexLength, indexPart, dataPart, noSuchShard, checkAnswer}
+use Rattle.shard.specs.File.{mostShardBytes, indexLength, indexPart, dataPart, checkAnswer}
 use Rattle.shard.specs.Find.{lookupAnswer, partBytes, listingRefusal, listingOf, countAnswer, listed, leftListed}
 use Rattle.shard.specs.Sound.{SoundMinishard, SoundShard}
 use Rattle.shard.specs.Lists.{ListsIn, SameListing}
