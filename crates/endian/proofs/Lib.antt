@@ -4,3 +4,4 @@ pub mod Holds
 pub mod Paste
 pub mod Copy
 pub mod Buffer
+pub mod Signs
