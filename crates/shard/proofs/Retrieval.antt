@@ -23,9 +23,10 @@ use Rattle.shard.specs.declared.LookupAnswer.the-variants.{Found, Refuse
 use Rattle.shard.specs.Index.{entryStart, entryEnd, entryCount, idSteps, startSteps, sizes, idAt, startAt}
 use Rattle.shard.specs.Faults.{fault, badEntry, badLength, badId, foreignAt, outside, faultAt, faultOf}
 use Rattle.shard.specs.File.{mostShardBytes, indexLength, indexPart, dataPart}
-use Rattle.shard.specs.Find.{isId, foundAt, foundIn, unless, lookupIn, lookupAnswer, partBytes}
+use Rattle.shard.specs.Find.{isId, foundAt, foundIn, unless, lookupIn, lookupAnswer}
 use Rattle.shard.specs.Sound.{SoundMinishard}
 use Rattle.shard.specs.Lists.{ListsAt, ListsIn}
+use Rattle.shard.specs.Lookups.{HandsOut}
 use Rattle.shard.proofs.Answers.{length-good}
 use Rattle.shard.proofs.Judged.{passes-minishard, minishard-passes}
 
@@ -137,13 +138,6 @@ module _ (spec : Sharding) (shard : ℕ) (x d : List ℕ) (id : ℕ) where
       )
 
 -- ---- in a file
-
--- a call whose answer is a chunk, these bytes
-pub record HandsOut (answer : LookupAnswer) (file bytes : List ℕ) : Type 0 where
-  pub start : ℕ
-  pub count : ℕ
-  pub found : answer ≡ Found start count
-  pub part : partBytes answer file ≡ bytes
 
 -- an allowed specification, an id of the shard, a file of allowed length
 module _ (spec : Sharding) (shard : ℕ) (file : List ℕ) (id : ℕ) (permitted : allowed spec ≡ true) (numbered : shardOf spec id ≡ shard)

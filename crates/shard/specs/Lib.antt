@@ -5,3 +5,4 @@ pub mod File
 pub mod Find
 pub mod Sound
 pub mod Lists
+pub mod Lookups
