@@ -10,7 +10,8 @@ use lib.ListN.{length}
 use lib.Ieee.{Float}
 use borrow.Author.Needs.{needs}
 use borrow.Author.Tests.{lt-ltb, le-ltb, eq-eqb, ne-eqb}
-use Rattle.manifest.specs.Layout.{itemAt, sumTo, levelsOf, isReal, countOf, nodesBefore, fieldCount, sizeAt}
+use Rattle.endian.specs.Range.{sumTo}
+use Rattle.manifest.specs.Layout.{itemAt, levelsOf, isReal, countOf, nodesBefore, fieldCount, sizeAt}
 use Rattle.manifest.specs.Bits.{finite, realAt}
 use Rattle.manifest.specs.Verdict.{verdict, manifestAnswer}
 use Rattle.manifest.specs.Questions.{headerAt, headerAnswer, fieldAt, fieldAnswer, hasNode, levelBytes, fragmentStart, nodeIn, nodeAt, nodeAnswer}

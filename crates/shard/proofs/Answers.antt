@@ -8,6 +8,7 @@ use native.Mathlib.Omega.{arith}
 use lib.ListN.{length}
 use lib.Dec.{ltb}
 use borrow.Author.Tests.{lt-ltb, le-ltb, le-leb, lt-leb, eq-eqb, ne-eqb, not-true, not-false}
+use Rattle.endian.specs.Range.{first}
 use Rattle.sharding.specs.declared.Sharding.{Sharding}
 use Rattle.sharding.specs.Specification.{allowed, shardCount}
 use Rattle.sharding.specs.Place.{shardOf, minishardOf}
@@ -15,7 +16,6 @@ use Rattle.sharding.proofs.Allowed.{minishards-most}
 use Rattle.shard.specs.declared.inner.Fault.{Fault}
 use Rattle.shard.specs.declared.LookupAnswer.{LookupAnswer}
 use Rattle.shard.specs.declared.LookupAnswer.the-variants.{Refused}
-use Rattle.shard.specs.Sums.{first}
 use Rattle.shard.specs.Index.{entryStart, entryEnd, entryCount}
 use Rattle.shard.specs.Faults.{faultOf}
 use Rattle.shard.specs.File.{mostShardBytes, indexLength, indexPart, dataPart, badFileLength}

@@ -12,12 +12,12 @@ use mir.Syntax.{w64}
 use borrow.Author.Tests.{ltb-false}
 use Rattle.endian.specs.Choice.{pick}
 use Rattle.sharding.specs.declared.Sharding.{Sharding}
-use Rattle.sharding.specs.Specification.{allowed}
+use Rattle.sharding.specs.Specification.{allowed, noSuchShard}
 use Rattle.sharding.specs.Place.{shardOf, minishardOf}
 use Rattle.shard.specs.declared.LookupAnswer.{LookupAnswer}
 use Rattle.shard.specs.declared.LookupAnswer.the-variants.{Found, Refused}
 use Rattle.shard.specs.Index.{entryStart, entryEnd, entryCount}
-use Rattle.shard.specs.File.{mostShardBytes, indexLength, indexPart, dataPart, noSuchShard, badFileLength}
+use Rattle.shard.specs.File.{mostShardBytes, indexLength, indexPart, dataPart, badFileLength}
 use Rattle.shard.specs.Find.{unless, lookupIn, lookupAnswer, partStart, partBytes}
 use Rattle.shard.proofs.Passed.{or-false, Passed, passed}
 use Rattle.shard.proofs.Seek.{found-within}

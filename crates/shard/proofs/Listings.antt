@@ -9,14 +9,14 @@ use lib.Dec.{ltb, leb}
 use borrow.Author.Tests.{le-leb, lt-leb, leb-false, ltb-false, lt-ltb, le-ltb, not-false}
 use Rattle.endian.specs.Choice.{pick}
 use Rattle.endian.specs.Place.{paste}
+use Rattle.endian.specs.Range.{anyBelow}
 use Rattle.endian.proofs.Paste.{paste-nil, paste-front}
 use Rattle.sharding.specs.declared.Sharding.{Sharding}
-use Rattle.sharding.specs.Specification.{allowed, minishardCount, shardCount}
+use Rattle.sharding.specs.Specification.{allowed, minishardCount, shardCount, noSuchShard}
 use Rattle.shard.specs.declared.CountAnswer.the-variants.{Count, Refused}
-use Rattle.shard.specs.Sums.{anyBelow}
 use Rattle.shard.specs.Index.{entryStart, entryEnd, entryCount, idSteps, startSteps, sizes}
 use Rattle.shard.specs.Faults.{badEntry, badId, outside, faultOf}
-use Rattle.shard.specs.File.{mostShardBytes, indexLength, indexPart, dataPart, noSuchShard, badFileLength}
+use Rattle.shard.specs.File.{mostShardBytes, indexLength, indexPart, dataPart, badFileLength}
 use Rattle.shard.specs.Find.{listingRefusal, listedCount, counted, countAnswer, listingFrom, listingOf, listed, leftListed}
 use Rattle.shard.proofs.Answers.{told-allowed, told-refused, length-short, length-long, length-good, index-short}
 use Rattle.shard.proofs.Passed.{Passed, passed, or-false, entry-order, entry-within}

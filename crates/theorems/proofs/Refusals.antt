@@ -8,16 +8,16 @@ use lib.Dec.{ltb, leb}
 use lib.ListN.{length}
 use borrow.Author.Tests.{leb-true, lt-ltb, le-ltb, not-true, eqb-false}
 use Rattle.endian.specs.Choice.{pick}
+use Rattle.endian.specs.Range.{anyBelow, first}
+use Rattle.endian.proofs.Ranges.{first-none, first-lt, first-holds}
 use Rattle.sharding.specs.declared.Sharding.{Sharding}
-use Rattle.sharding.specs.Specification.{allowed, minishardCount}
+use Rattle.sharding.specs.Specification.{allowed, minishardCount, noSuchShard}
 use Rattle.shard.specs.declared.inner.Fault.{Fault}
 use Rattle.shard.specs.declared.CheckAnswer.the-variants.{Sound, Refused}
-use Rattle.shard.specs.Sums.{anyBelow, first}
 use Rattle.shard.specs.Index.{entryStart, entryEnd, entryCount, idSteps, startSteps, sizes}
 use Rattle.shard.specs.Faults.{fault, badEntry, badLength, badId, foreignAt, outside, faultAt, faultOf, faulty, firstFault, shardFault}
-use Rattle.shard.specs.File.{indexPart, dataPart, noSuchShard, badFileLength, verdict, checkAnswer}
+use Rattle.shard.specs.File.{indexPart, dataPart, badFileLength, verdict, checkAnswer}
 use Rattle.shard.specs.Find.{listingRefusal}
-use Rattle.shard.proofs.First.{first-none, first-lt, first-holds}
 use Rattle.shard.proofs.Whole.{faulty-not}
 use Rattle.shard.proofs.Retrieval.{fault-most}
 use Rattle.settle.specs.Answers.{checkNumber}
