@@ -210,3 +210,121 @@ fn again(
         unknown(text)
     }
 }
+
+#[cfg(test)]
+mod tests {
+    use super::*;
+
+    /// As `objdump` lists a function that jumps over a call, a constant behind
+    /// padding, and an exported function that ends in a jump to the first.
+    const LISTING: &str = "
+two.o:     file format elf64-x86-64
+
+Sections:
+Idx Name              Size      VMA               LMA               File off  Algn  Flags
+  0 .text.a::b        00000018  0000000000000000  0000000000000000  00000040  2**4  CONTENTS, ALLOC, LOAD, RELOC, READONLY, CODE
+  1 .text.exported    00000005  0000000000000000  0000000000000000  00000060  2**4  CONTENTS, ALLOC, LOAD, RELOC, READONLY, CODE
+  2 .rodata.cst4      00000004  0000000000000000  0000000000000000  00000068  2**2  CONTENTS, ALLOC, LOAD, READONLY, DATA
+SYMBOL TABLE:
+0000000000000000 l    df *ABS*\t0000000000000000 two
+0000000000000000 l     F .text.a::b\t0000000000000018 a::b
+0000000000000000 l    d  .text.a::b\t0000000000000000 .text.a::b
+0000000000000000 g     F .text.exported\t0000000000000005 exported
+0000000000000000         *UND*\t0000000000000000 memset
+0000000000000000 l       .rodata.cst4\t0000000000000000 .LCPI0_0
+Contents of section .rodata.cst4:
+ 0000 0a0bff40                             ...@
+Disassembly of section .text.a::b:
+
+0000000000000000 <a::b>:
+   0:\ttest   %edi,%edi
+   2:\tje     10 <a::b+0x10>
+   4:\tcall   9 <a::b+0x9>\t5: R_X86_64_PLT32\tmemset-0x4
+   9:\tnopl   0x0(%rax)
+  10:\tmovss  0x0(%rip),%xmm0        # 18 <a::b+0x18>\t14: R_X86_64_PC32\t.LCPI0_0-0x4
+
+Disassembly of section .text.exported:
+
+0000000000000000 <exported>:
+   0:\tjmp    5 <exported+0x5>\t1: R_X86_64_PLT32\t.text.a::b-0x4
+";
+
+    /// Written by hand from the listing.
+    const ASSEMBLY: &str = "\t.section \".text.a::b\",\"ax\",@progbits
+\t.p2align 4
+\t.type \"a::b\",@function
+\"a::b\":
+\".La::b.0\":
+\tmovb $1,coronagamba_blocks+0(%rip)
+\ttest   %edi,%edi
+\tje \".La::b.2\"
+\".La::b.1\":
+\tmovb $1,coronagamba_blocks+1(%rip)
+\tcall \"memset\"
+\".La::b.2\":
+\tmovb $1,coronagamba_blocks+2(%rip)
+\tmovss  \".L.rodata.cst4\"+0(%rip),%xmm0
+\t.section \".text.exported\",\"ax\",@progbits
+\t.p2align 4
+\t.globl \"exported\"
+\t.type \"exported\",@function
+\"exported\":
+\".Lexported.0\":
+\tmovb $1,coronagamba_blocks+3(%rip)
+\tjmp \"a::b\"
+\t.section \".rodata.cst4\",\"a\",@progbits
+\t.p2align 2
+\".L.rodata.cst4\":
+\t.byte 10
+\t.byte 11
+\t.byte 255
+\t.byte 64
+\t.section __libfuzzer_extra_counters,\"aw\",@progbits
+\t.globl coronagamba_blocks
+coronagamba_blocks:
+\t.zero 4
+\t.globl coronagamba_blocks_end
+coronagamba_blocks_end:
+\t.section .note.GNU-stack,\"\",@progbits
+";
+
+    #[test]
+    fn a_counter_in_front_of_each_block() {
+        let made = assembly(LISTING, true).unwrap();
+        assert_eq!(made.text, ASSEMBLY);
+        let block = |name: &str, at| (name.to_string(), at);
+        let expected = [("a::b", 0), ("a::b", 4), ("a::b", 16), ("exported", 0)];
+        assert_eq!(made.blocks, expected.map(|(name, at)| block(name, at)));
+    }
+
+    #[test]
+    fn without_counters_the_code_is_the_same() {
+        let plain = assembly(LISTING, false).unwrap().text;
+        let code = |line: &&str| !line.contains("coronagamba_blocks");
+        let counted: Vec<&str> = ASSEMBLY.lines().filter(code).collect();
+        let others = |line: &&str| !line.contains("extra_counters") && !line.contains(".zero");
+        assert!(plain.lines().eq(counted.into_iter().filter(others)));
+    }
+
+    /// What is not understood is refused, and no wrong code is made.
+    #[test]
+    fn unknown_listings_are_refused() {
+        let changed = [
+            ("je     10 <a::b+0x10>", "jmp    *%rax"),
+            (
+                "R_X86_64_PLT32\tmemset-0x4",
+                "R_X86_64_GOTPCRELX\tmemset-0x4",
+            ),
+            (".text.a::b-0x4", ".text.a::b+0x4"),
+            (
+                "CONTENTS, ALLOC, LOAD, READONLY, DATA",
+                "CONTENTS, ALLOC, LOAD, RELOC, READONLY, DATA",
+            ),
+            ("0x0(%rip),%xmm0", "0x8(%rip),%xmm0"),
+        ];
+        for (from, to) in changed {
+            assert!(LISTING.contains(from), "{from}");
+            assert!(assembly(&LISTING.replace(from, to), true).is_err(), "{to}");
+        }
+    }
+}
