@@ -47,3 +47,92 @@ pub fn guarded<T>(bytes: &[u8], ask: impl FnOnce(&[u8]) -> T) -> T {
     assert!(lent == before, "the bytes that were read changed");
     answer
 }
+
+#[cfg(test)]
+mod tests {
+    use super::*;
+
+    fn refused(number: u8) -> Refusal {
+        refusal(number)
+    }
+
+    #[test]
+    fn equal_answers_give_their_number() {
+        let question = format_args!("q");
+        assert_eq!(same::<_, u8>(question, Ok(5), Ok(5)), 0);
+        assert_eq!(same::<u8, _>(question, Err(refused(7)), Err(7)), 7);
+    }
+
+    #[test]
+    #[should_panic(expected = "q: the library gives Ok(5), the reference Ok(6)")]
+    fn other_values_differ() {
+        same::<_, u8>(format_args!("q"), Ok(5), Ok(6));
+    }
+
+    #[test]
+    #[should_panic(expected = "the reference Err(Refusal { number: 7, minishard: Some(3) })")]
+    fn other_minishards_differ() {
+        let expected = reference::Refusal::in_minishard(7, 3);
+        same::<u8, _>(format_args!("q"), Err(refused(7)), Err(expected));
+    }
+
+    /// Writes on both sides, into an output of four bytes.
+    fn write(
+        library: impl FnOnce(&mut [u8]) -> Result<usize, Refusal>,
+        expected: impl FnOnce(&mut [u8]) -> Result<usize, u8>,
+    ) -> u8 {
+        let lent = Lent::new(&mut Rng::new(1), 4);
+        same_writing(format_args!("q"), &lent, library, expected)
+    }
+
+    /// Fills the front of an output.
+    fn filled(out: &mut [u8], length: usize) -> usize {
+        out[..length].fill(0);
+        length
+    }
+
+    #[test]
+    fn equal_outputs_pass() {
+        assert_eq!(write(|out| Ok(filled(out, 2)), |out| Ok(filled(out, 2))), 0);
+        assert_eq!(write(|_| Err(refused(13)), |_| Err(13)), 13);
+    }
+
+    #[test]
+    #[should_panic(expected = "q: the output differs")]
+    fn a_byte_more_differs() {
+        write(
+            |out| {
+                filled(out, 3);
+                Ok(2)
+            },
+            |out| Ok(filled(out, 2)),
+        );
+    }
+
+    #[test]
+    #[should_panic(expected = "q: the output differs")]
+    fn an_output_changed_by_a_refusal_differs() {
+        write(
+            |out| {
+                filled(out, 1);
+                Err(refused(13))
+            },
+            |_| Err(13),
+        );
+    }
+
+    #[test]
+    #[should_panic(expected = "q: refused, but the output changed")]
+    fn no_side_may_change_the_output_and_refuse() {
+        write(
+            |out| {
+                filled(out, 1);
+                Err(refused(13))
+            },
+            |out| {
+                filled(out, 1);
+                Err(13)
+            },
+        );
+    }
+}

@@ -10,6 +10,9 @@
 mod agree;
 mod parts;
 mod question;
+mod quiet;
+pub mod run;
+pub mod shrink;
 mod sides;
 
 /// What a comparison of two shards gives where both are sound and do not list
@@ -38,6 +41,7 @@ pub const PARTS: &[Part] = &[
     parts::bytes::BYTES,
     parts::grid::GRID,
     parts::grid::KEY,
+    parts::grid::KEYS,
     parts::grid::CELL,
     parts::grid::BOUNDS,
     parts::names::CHUNK_NAME,
@@ -46,6 +50,7 @@ pub const PARTS: &[Part] = &[
     parts::names::SHARD_NAME,
     parts::shard::LOOKUP,
     parts::shard::CHECK,
+    parts::shard::CHUNKS,
     parts::shard::LISTED_COUNT,
     parts::shard::LISTING,
     parts::settle::SETTLED_LENGTH,
@@ -55,7 +60,9 @@ pub const PARTS: &[Part] = &[
     parts::card::CARD_WRITE,
     parts::manifest::MANIFEST_CHECK,
     parts::manifest::MANIFEST_HEADER,
+    parts::manifest::MANIFEST_LEVELS,
     parts::manifest::MANIFEST_FIELD,
     parts::manifest::MANIFEST_NODE,
     parts::manifest::MANIFEST_CORNERS,
+    parts::manifest::MANIFEST_WALK,
 ];

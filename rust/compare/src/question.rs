@@ -1,9 +1,11 @@
 //! Questions in front of an input: how they are decoded, and written for
 //! samples.
 //!
-//! A number is mostly preceded by a byte that says how it is meant: as it
-//! stands, or as a choice among what the other numbers or the file allow, so
-//! that any bytes ask deep questions as well.
+//! What a question is made of is mostly preceded by a byte that says how it is
+//! meant: as it stands, or as a choice among what the other numbers or the file
+//! allow, so that any bytes ask deep questions as well. With that byte, a
+//! specification takes 5 bytes, a volume 37, a cell 13, a number 9 and the
+//! length of an output 3.
 
 use reference::grid::{grid_size, key_bits, key_of, Cell, Volume};
 use reference::sharding::Sharding;
@@ -72,6 +74,11 @@ impl<'a> Reader<'a> {
             kind: self.byte(),
             cell: self.words(),
         }
+    }
+
+    /// All spots that are left.
+    pub fn spots(mut self) -> impl Iterator<Item = Spot> + use<'a> {
+        std::iter::from_fn(move || (!self.rest.is_empty()).then(|| self.spot()))
     }
 
     pub fn choice(&mut self) -> Choice {
@@ -162,12 +169,21 @@ pub struct Spot {
 }
 
 impl Spot {
-    /// This cell as it stands, or another one of the same volume.
+    /// This cell, brought into the grid on each axis, or the last one there.
+    pub fn inside(rng: &mut Rng, cell: Cell) -> Self {
+        let kind = *rng.pick(&[0b010101, 0b010110, 0b011001, 0b100101]);
+        Spot { kind, cell }
+    }
+
+    /// This cell as it stands, or mostly inside the grid.
     pub fn draw(rng: &mut Rng, cell: Cell) -> Self {
-        Spot {
-            kind: rng.below(256) as u8 & rng.below(2).wrapping_neg() as u8,
-            cell,
+        let mut kind = 0;
+        if rng.once_in(2) {
+            for _ in 0..3 {
+                kind = kind << 2 | rng.pick(&[0, 1, 1, 1, 1, 1, 2, 2, 2, 3]);
+            }
         }
+        Spot { kind, cell }
     }
 
     /// On each axis the number as it stands, one inside the grid, the last
@@ -213,7 +229,7 @@ impl Choice {
             return Choice::plain(number);
         }
         Choice {
-            kind: rng.below(4) as u8,
+            kind: *rng.pick(&[0, 1, 1, 2, 3, 3]),
             number: rng.edge_u64(),
         }
     }
@@ -266,13 +282,13 @@ impl Choice {
         })
     }
 
-    /// An id: as it stands, one that the file lists, or a neighbour of one.
+    /// An id: as it stands, one that the file lists, or the next one to it.
     pub fn id(&self, sharding: &Sharding, file: &[u8]) -> u64 {
         let step = match self.kind % 4 {
             0 => return self.number,
-            1 => 0,
-            2 => 1,
-            _ => u64::MAX,
+            2 if self.number.count_ones() % 2 == 0 => 1,
+            2 => u64::MAX,
+            _ => 0,
         };
         let listed = shards::listed_id(sharding, file, self.number);
         listed.map_or(self.number, |id| id.wrapping_add(step))
@@ -320,6 +336,124 @@ impl Room {
             2 => needed.saturating_sub(1 + number % 8),
             3 => needed + number % 64,
             _ => number,
+        }
+    }
+}
+
+#[cfg(test)]
+mod tests {
+    use super::*;
+    use testkit::places;
+
+    #[test]
+    fn missing_bytes_count_as_0() {
+        let mut reader = Reader::new(&[5, 1]);
+        assert_eq!(reader.number(), 0x0105);
+        assert_eq!((reader.byte(), reader.number()), (0, 0));
+        assert_eq!(reader.rest(), []);
+        assert_eq!(Reader::new(&[]).sharding().allowed(), Ok(()));
+    }
+
+    #[test]
+    fn what_is_written_is_read() {
+        let mut rng = Rng::new(1);
+        for _ in 0..10_000 {
+            let (sharding, volume) = (places::wild_sharding(&mut rng), places::volume(&mut rng));
+            let (cell, number) = (places::cell(&mut rng, &volume), rng.edge_u64());
+            let bytes = Writer::new()
+                .sharding(&sharding)
+                .volume(&volume)
+                .spot(Spot { kind: 0, cell })
+                .choice(Choice::plain(number))
+                .room(Room {
+                    kind: 1,
+                    number: 77,
+                })
+                .rest(b"file")
+                .finish();
+            assert_eq!(bytes.len(), 5 + 37 + 13 + 9 + 3 + 4);
+            let mut reader = Reader::new(&bytes);
+            assert_eq!(reader.sharding(), sharding);
+            assert_eq!(reader.volume(), volume);
+            assert_eq!(reader.spot().cell(&volume), cell);
+            assert_eq!(reader.choice().key(&volume), number);
+            assert_eq!(reader.room().length(9), 9);
+            assert_eq!(reader.rest(), b"file");
+        }
+    }
+
+    #[test]
+    fn specifications_and_volumes_brought_into_limits() {
+        let mut rng = Rng::new(2);
+        for _ in 0..10_000 {
+            let mut bytes = rng.bytes(5);
+            bytes[0] = 1;
+            assert_eq!(Reader::new(&bytes).sharding().allowed(), Ok(()));
+        }
+        assert!(grid_size(&Reader::new(&[1]).volume()).is_ok());
+    }
+
+    /// Grid 5, 3, 1 has five key bits; its keys are those of the scope's cases.
+    const SMALL: Volume = Volume {
+        size: [5, 3, 1],
+        chunk: [1; 3],
+        offset: [0; 3],
+    };
+
+    #[test]
+    fn cells_and_keys_are_chosen() {
+        let spot = |kind| Spot {
+            kind,
+            cell: [14, 14, 14],
+        };
+        assert_eq!(spot(0).cell(&SMALL), [14, 14, 14]);
+        assert_eq!(spot(0b010101).cell(&SMALL), [4, 2, 0]);
+        assert_eq!(spot(0b101010).cell(&SMALL), [4, 2, 0]);
+        assert_eq!(spot(0b111111).cell(&SMALL), [5, 3, 1]);
+        let key = |kind, number| Choice { kind, number }.key(&SMALL);
+        assert_eq!(key(0, 70), 70);
+        assert_eq!(key(1, 70), 6);
+        assert_eq!(key(2, 70), 34);
+        assert_eq!(key(3, 9 | 5 << 21), 24);
+    }
+
+    #[test]
+    fn ids_shards_and_minishards_are_chosen() {
+        let sharding = Sharding {
+            preshift: 0,
+            hash: 0,
+            minishard_bits: 1,
+            shard_bits: 2,
+        };
+        // Minishard 1 lists ids 13 and 21, which belong to shard 2.
+        let rows = [0, 0, 0, 48, 13, 8, 0, 0, 0, 0u64];
+        let file: Vec<u8> = rows.into_iter().flat_map(u64::to_le_bytes).collect();
+        let choice = |kind, number| Choice { kind, number };
+        let ids = [(0, 6), (1, 6), (1, 7), (3, 7), (2, 3), (2, 1)];
+        let ids = ids.map(|(kind, number)| choice(kind, number).id(&sharding, &file));
+        assert_eq!(ids, [6, 13, 21, 21, 22, 20]);
+        let shards = [(0, 9), (1, 9), (2, 9), (3, 9)];
+        let shards = shards.map(|(kind, number)| choice(kind, number).shard(&sharding, &file));
+        assert_eq!(shards, [9, 1, 5, 2]);
+        let minishards = [(0, 9), (1, 9), (2, 9), (3, 9)];
+        let minishards =
+            minishards.map(|(kind, number)| choice(kind, number).minishard(&sharding, &file));
+        assert_eq!(minishards, [9, 1, 3, 1]);
+    }
+
+    #[test]
+    fn rooms_are_around_the_need_and_never_large() {
+        let room = |kind, number| Room { kind, number };
+        assert_eq!(room(0, 500).length(20), 500);
+        assert_eq!(room(1, 500).length(20), 20);
+        assert_eq!(room(2, 0).length(20), 19);
+        assert_eq!(room(2, 500).length(2), 0);
+        assert_eq!(room(3, 65).length(20), 21);
+        for kind in 0..=u8::MAX {
+            for needed in [0, 1, LONGEST_ANSWER, LONGEST_ANSWER + 1, 1 << 30] {
+                let length = room(kind, u16::MAX).length(needed);
+                assert!(length <= LONGEST_ANSWER + 63, "{kind} {needed}");
+            }
         }
     }
 }

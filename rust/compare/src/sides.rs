@@ -1,22 +1,10 @@
 //! The reference's values as the library's.
 
-use coronagamba::{Card, Cell, Extents, Offset, Place, Point, Refusal, Sharding, Volume};
-
-pub fn extents([x, y, z]: [u32; 3]) -> Extents {
-    Extents { x, y, z }
-}
-
-pub fn cell([x, y, z]: [u32; 3]) -> Cell {
-    Cell { x, y, z }
-}
+use coronagamba::manifest::Node;
+use coronagamba::{Card, Place, Point, Refusal, Sharding, Volume};
 
 pub fn volume(volume: &reference::grid::Volume) -> Volume {
-    let [x, y, z] = volume.offset;
-    Volume {
-        size: extents(volume.size),
-        chunk: extents(volume.chunk),
-        offset: Offset { x, y, z },
-    }
+    Volume::new(volume.size, volume.chunk, volume.offset)
 }
 
 pub fn point(point: [i128; 3]) -> Point {
@@ -43,6 +31,14 @@ pub fn card(card: &reference::card::Card) -> Card {
     Card {
         sharding: sharding(&card.sharding),
         volume: volume(&card.volume),
+    }
+}
+
+pub fn node(node: reference::manifest::Node) -> Node {
+    Node {
+        position: node.position,
+        size: node.size,
+        start: node.start,
     }
 }
 

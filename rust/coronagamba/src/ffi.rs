@@ -3,11 +3,26 @@
 //! Each that can refuse answers a word: 0 for success, else the refusal's
 //! number + 2^8 times the minishard + 2^32 times the position. Results go
 //! through pointers; a refusal leaves everything behind them as it was.
+//!
+//! What may be passed: a pointer and a count of one live slice, results that
+//! are live, and nothing that is written overlaps anything else. An empty
+//! slice's pointer is never followed. All that crosses is numbers, in structs
+//! without padding, and any bits make a number.
 
 #[cfg(feature = "grid")]
 use crate::grid::{Cell, Volume};
 #[cfg(feature = "sharding")]
 use crate::sharding::Sharding;
+#[cfg(any(feature = "grid", feature = "sharding"))]
+use std::mem::size_of;
+
+// No padding: a struct is as large as its numbers together.
+#[cfg(feature = "grid")]
+const _: () = assert!(size_of::<Volume>() == 9 * size_of::<u32>());
+#[cfg(feature = "grid")]
+const _: () = assert!(size_of::<Cell>() == 3 * size_of::<u32>());
+#[cfg(feature = "sharding")]
+const _: () = assert!(size_of::<Sharding>() == 4);
 
 extern "C" {
     pub fn coronagamba_read_u16(bytes: *const u8, count: usize) -> u16;
@@ -23,6 +38,13 @@ extern "C" {
 extern "C" {
     pub fn coronagamba_grid_of(volume: Volume, grid: *mut [u32; 3]) -> u64;
     pub fn coronagamba_key_of(volume: Volume, cell: Cell, key: *mut u64) -> u64;
+    pub fn coronagamba_keys_of(
+        volume: Volume,
+        cells: *const u32,
+        count: usize,
+        keys: *mut u64,
+        keys_count: usize,
+    ) -> u64;
     pub fn coronagamba_cell_of(volume: Volume, key: u64, cell: *mut [u32; 3]) -> u64;
     pub fn coronagamba_bounds_of(
         volume: Volume,
@@ -173,6 +195,22 @@ extern "C" {
         near: *mut [f32; 3],
         far: *mut [f32; 3],
     ) -> u64;
+    pub fn coronagamba_manifest_walk_begin(
+        bytes: *const u8,
+        count: usize,
+        at: *mut [u32; 2],
+        places: *mut [u64; 2],
+    ) -> u64;
+    pub fn coronagamba_manifest_walk_step(
+        bytes: *const u8,
+        count: usize,
+        at: *mut [u32; 2],
+        places: *mut [u64; 2],
+        kind: *mut u32,
+        position: *mut [u32; 3],
+        start: *mut u64,
+        size: *mut u32,
+    ) -> u64;
 }
 
 /// A refusal's word is its number alone where the rules give no more, and it
@@ -216,6 +254,35 @@ mod tests {
             assert_eq!(coronagamba_bounds_of(volume, cell, &mut begin, &mut end), 2);
         }
         assert_eq!((numbers, key, begin, end), ([7; 3], KEPT, [7; 3], [7; 3]));
+    }
+
+    #[cfg(feature = "grid")]
+    #[test]
+    fn keys() {
+        let extents = |x| crate::Extents { x, y: 1, z: 1 };
+        let volume = Volume {
+            size: extents(8),
+            chunk: extents(1),
+            ..Volume::default()
+        };
+        let (cells, mut keys) = ([5, 0, 0, 8, 0, 0], [KEPT; 2]);
+        let (from, to) = (cells.as_ptr(), keys.as_mut_ptr());
+        // SAFETY: each pointer and count are those of one array or of its
+        // front.
+        unsafe {
+            assert_eq!(coronagamba_keys_of(volume, from, 6, to, 2), 2);
+            assert_eq!(coronagamba_keys_of(volume, from, 3, to, 0), 13);
+        }
+        assert_eq!(keys, [KEPT; 2]);
+        // The two numbers left over are no cell.
+        // SAFETY: as before.
+        unsafe {
+            assert_eq!(
+                coronagamba_keys_of(volume, from, 5, keys.as_mut_ptr(), 2),
+                0
+            );
+        }
+        assert_eq!(keys, [5, KEPT]);
     }
 
     /// A specification that is refused with 1.
@@ -344,5 +411,36 @@ mod tests {
             );
         }
         assert_eq!((out, length), ([7; 40], KEPT));
+    }
+    #[cfg(feature = "manifest")]
+    #[test]
+    fn walks() {
+        let bytes = [0; 28];
+        let (from, count) = (bytes.as_ptr(), bytes.len());
+        let (mut at, mut places) = ([0, 7], [KEPT; 2]);
+        let (mut kind, mut position, mut start, mut size) = (7, [7; 3], KEPT, 7);
+        // SAFETY: pointer and count are those of one array or of its front,
+        // and the results go to live values.
+        unsafe {
+            assert_eq!(
+                coronagamba_manifest_walk_begin(from, count, &mut at, &mut places),
+                16
+            );
+            assert_eq!(
+                coronagamba_manifest_walk_step(
+                    from,
+                    count - 1,
+                    &mut at,
+                    &mut places,
+                    &mut kind,
+                    &mut position,
+                    &mut start,
+                    &mut size
+                ),
+                18
+            );
+        }
+        assert_eq!((at, places), ([0, 7], [KEPT; 2]));
+        assert_eq!((kind, position, start, size), (7, [7; 3], KEPT, 7));
     }
 }

@@ -2,9 +2,18 @@
 //!
 //! Every call takes any numbers and bytes and ends; a refusal carries its
 //! number from the archive's table and leaves each lent buffer as it was.
+//! The answers are the library's. What this crate adds is types, lifetimes
+//! and memory, and these are tested, not proved.
 //!
 //! Each part of the archive has a feature of its own; the default ones are the
 //! parts that the archive holds.
+//!
+// The tour asks all parts, and each of its examples is a test.
+#![cfg_attr(
+    all(feature = "names", feature = "settle", feature = "card", feature = "manifest"),
+    doc = include_str!("../TOUR.md")
+)]
+#![warn(clippy::undocumented_unsafe_blocks)]
 
 #[cfg(feature = "card")]
 mod card;
@@ -32,6 +41,6 @@ pub use grid::{Bounds, Cell, Extents, Offset, Point, Volume};
 pub use manifest::Manifest;
 pub use refusal::Refusal;
 #[cfg(feature = "shards")]
-pub use shard::{Listed, Shard, Span};
+pub use shard::{Chunk, Chunks, Listed, Shard, Span};
 #[cfg(feature = "sharding")]
 pub use sharding::{Place, Sharding};

@@ -14,11 +14,12 @@ pub struct Lent<T = u8> {
 }
 
 impl Lent<u8> {
-    /// A buffer of this length.
+    /// A buffer of this length, at a place of any alignment.
     pub fn new(rng: &mut Rng, length: usize) -> Self {
+        let start = GUARD + rng.index(8);
         Lent {
-            items: rng.bytes(GUARD + length + GUARD),
-            start: GUARD,
+            items: rng.bytes(start + length + GUARD),
+            start,
         }
     }
 
@@ -68,4 +69,33 @@ pub fn same_writing<T: Clone + PartialEq, A: PartialEq + std::fmt::Debug>(
     assert_eq!(answer, expected, "the answers");
     assert!(first == second, "the bytes left behind");
     answer
+}
+
+#[cfg(test)]
+mod tests {
+    use super::*;
+
+    #[test]
+    fn the_part_has_its_length_and_bytes() {
+        let mut rng = Rng::new(1);
+        for length in 0..50 {
+            let bytes = rng.bytes(length);
+            let mut held = Lent::holding(&mut rng, &bytes);
+            assert_eq!(held.held(), bytes);
+            assert_eq!(held.part(), bytes);
+            assert_eq!(Lent::new(&mut rng, length).part().len(), length);
+            assert_eq!(Lent::numbers(&mut rng, length).part().len(), length);
+        }
+    }
+
+    #[test]
+    fn every_item_counts() {
+        let mut rng = Rng::new(2);
+        let lent = Lent::new(&mut rng, 5);
+        for at in 0..lent.items.len() {
+            let mut other = lent.clone();
+            other.items[at] ^= 1;
+            assert!(other != lent);
+        }
+    }
 }

@@ -526,12 +526,17 @@ pub fn brimming(rng: &mut Rng) -> Sample {
 /// A shard of any kind: sound, damaged, under another specification or number,
 /// or of random bytes.
 pub fn any(rng: &mut Rng) -> Sample {
-    let mut sample = match rng.below(16) {
-        0..6 => sound(rng, 12),
-        15 => random_bytes(rng),
-        _ => damaged(rng, 8),
+    let most = if rng.once_in(200) {
+        300
+    } else {
+        *rng.pick(&[2, 8, 12, 12, 40])
     };
-    if rng.once_in(6) {
+    let mut sample = match rng.below(32) {
+        0 => random_bytes(rng),
+        1..16 => sound(rng, most),
+        _ => damaged(rng, most),
+    };
+    if rng.once_in(8) {
         make_wild(rng, &mut sample);
     }
     sample
@@ -588,8 +593,9 @@ pub fn question(rng: &mut Rng, sample: &Sample) -> u64 {
 mod tests {
     use super::*;
     use crate::Met;
-    use reference::settle::settled_form;
+    use reference::settle::{length_of, settled_form};
     use reference::shard::{check, list, list_minishard, lookup};
+    use std::collections::BTreeSet;
 
     #[test]
     fn layouts_are_sound_and_list_the_content() {
@@ -673,6 +679,48 @@ mod tests {
         }
         checks.assert_exactly(&[0, 6, 7, 8, 9, 10, 11]);
         lookups.assert_exactly(&[0, 5, 6, 7, 8, 9, 10, 11, 12]);
+    }
+
+    #[test]
+    fn damage_reaches_later_minishards() {
+        let mut rng = Rng::new(7);
+        let faults = (0..5_000).filter_map(|_| {
+            let sample = damaged(&mut rng, 8);
+            let checked = check(&sample.sharding, sample.number, &sample.file);
+            checked.err().and_then(|refusal| refusal.minishard)
+        });
+        assert!(faults.filter(|minishard| *minishard > 0).count() > 500);
+    }
+
+    #[test]
+    fn forms_on_each_side_of_a_gibibyte() {
+        let mut rng = Rng::new(8);
+        let mut lengths = BTreeSet::new();
+        for _ in 0..20 {
+            let sample = brimming(&mut rng);
+            assert_eq!(check(&sample.sharding, sample.number, &sample.file), Ok(()));
+            lengths.insert(length_of(&sample.sharding, sample.number, &sample.file));
+        }
+        let gibibyte = 1 << 30;
+        assert!(lengths
+            .into_iter()
+            .eq([Ok(gibibyte - 1), Ok(gibibyte), Err(13)]));
+    }
+
+    #[test]
+    fn listed_ids_go_round() {
+        let mut rng = Rng::new(9);
+        for _ in 0..1_000 {
+            let sample = sound(&mut rng, 8);
+            let entries = list(&sample.sharding, sample.number, &sample.file).expect("sound");
+            let listed = |choice| listed_id(&sample.sharding, &sample.file, choice);
+            if entries.is_empty() {
+                assert_eq!(listed(rng.bits()), None);
+            }
+            for (choice, entry) in (0..).zip(entries.iter().chain(&entries)) {
+                assert_eq!(listed(choice), Some(entry.id));
+            }
+        }
     }
 
     /// The exact sums of a minishard's rows: ids, and ends of chunks counted

@@ -70,6 +70,7 @@ fn compare(bytes: &[u8]) -> u8 {
 fn sample(rng: &mut Rng) -> Vec<u8> {
     let kind = rng.below(8) as u8;
     let length = match kind {
+        3 if rng.once_in(100) => rng.edge(17) as usize,
         3 => rng.edge(11) as usize,
         _ => rng.index(12),
     };

@@ -3,10 +3,14 @@
 
 use crate::agree::{guarded, same};
 use crate::question::{Choice, Reader, Writer};
-use crate::Part;
-use coronagamba::manifest::{Field, Manifest, Node};
+use crate::{sides, Part};
+use coronagamba::manifest::{Field, Level, Manifest, Node, Visit};
+use reference::endian::read_u32;
 use reference::manifest;
 use testkit::{manifests, Rng};
+
+/// The longest manifest that is asked for its levels.
+const LONGEST_FOR_LEVELS: usize = 1 << 16;
 
 /// The check of a manifest.
 pub const MANIFEST_CHECK: Part = Part {
@@ -26,6 +30,15 @@ pub const MANIFEST_HEADER: Part = Part {
     sample: manifests::any,
 };
 
+/// Scales, vertex offsets and node counts.
+pub const MANIFEST_LEVELS: Part = Part {
+    name: "manifest_levels",
+    about: "scale, vertex offset and node count of each level",
+    meets: &[0, 15, 16, 17],
+    compare: compare_levels,
+    sample: manifests::any,
+};
+
 /// A field by its number.
 pub const MANIFEST_FIELD: Part = Part {
     name: "manifest_field",
@@ -42,6 +55,15 @@ pub const MANIFEST_NODE: Part = Part {
     meets: &[0, 15, 16, 17, 18],
     compare: compare_node,
     sample: sample_node,
+};
+
+/// All nodes.
+pub const MANIFEST_WALK: Part = Part {
+    name: "manifest_walk",
+    about: "a walk over all nodes",
+    meets: &[0, 15, 16, 17],
+    compare: compare_walk,
+    sample: manifests::any,
 };
 
 /// The corners of a node.
@@ -104,6 +126,88 @@ fn compare_field(bytes: &[u8]) -> u8 {
     })
 }
 
+/// Item `number` of a manifest, as its 4 bytes say.
+fn item(bytes: &[u8], number: usize) -> u32 {
+    read_u32(bytes, 4 * number)
+}
+
+/// Scale, vertex offset and node count of each level: the items behind the
+/// level count (scope, "Manifest").
+fn levels(bytes: &[u8]) -> Vec<(u32, [u32; 3], u32)> {
+    let count = item(bytes, 6) as usize;
+    (0..count)
+        .map(|level| {
+            let offset = 7 + count + 3 * level;
+            (
+                item(bytes, 7 + level),
+                std::array::from_fn(|axis| item(bytes, offset + axis)),
+                item(bytes, 7 + 4 * count + level),
+            )
+        })
+        .collect()
+}
+
+fn compare_levels(bytes: &[u8]) -> u8 {
+    // The library is asked for each number by itself and checks the whole
+    // manifest each time.
+    let bytes = &bytes[..bytes.len().min(LONGEST_FOR_LEVELS)];
+    guarded(bytes, |bytes| {
+        let library = Manifest::open(bytes).levels();
+        same(
+            format_args!("levels of a manifest of {} bytes, by bits", bytes.len()),
+            library.map(|levels| levels.iter().map(level_bits).collect::<Vec<_>>()),
+            manifest::check(bytes).map(|()| levels(bytes)),
+        )
+    })
+}
+
+/// A level's numbers by bits.
+fn level_bits(level: &Level) -> (u32, [u32; 3], u32) {
+    let offset = level.vertex_offset.map(f32::to_bits);
+    (level.scale.to_bits(), offset, level.nodes)
+}
+
+/// All nodes of a sound manifest, level by level: all x, all y, all z, all
+/// sizes (scope, "Manifest"). A fragment starts where the one before ends.
+fn visits(bytes: &[u8]) -> Vec<Visit> {
+    let levels = levels(bytes);
+    let mut first = 7 + 5 * levels.len();
+    let mut start = 0;
+    let mut visits = Vec::new();
+    for (level, (_, _, count)) in (0..).zip(levels) {
+        let row = |number: usize, index: u32| {
+            item(bytes, first + number * count as usize + index as usize)
+        };
+        for index in 0..count {
+            let node = Node {
+                position: std::array::from_fn(|axis| row(axis, index)),
+                size: row(3, index),
+                start,
+            };
+            start += u64::from(node.size);
+            visits.push(Visit { level, index, node });
+        }
+        first += 4 * count as usize;
+    }
+    visits
+}
+
+fn compare_walk(bytes: &[u8]) -> u8 {
+    guarded(bytes, |bytes| {
+        let expected = manifest::check(bytes).map(|()| visits(bytes));
+        // The reference has no walk; its node is asked for the last of them.
+        if let Some(last) = expected.as_ref().ok().and_then(|visits| visits.last()) {
+            let node = manifest::node(bytes, last.level.into(), last.index.into());
+            assert_eq!(node.map(sides::node), Ok(last.node), "the last node");
+        }
+        same(
+            format_args!("walk over a manifest of {} bytes", bytes.len()),
+            Manifest::open(bytes).nodes().map(Iterator::collect),
+            expected,
+        )
+    })
+}
+
 /// A level and a node to ask for, and the manifest.
 fn node_question(bytes: &[u8]) -> (Choice, Choice, &[u8]) {
     let mut reader = Reader::new(bytes);
@@ -118,11 +222,7 @@ fn compare_node(bytes: &[u8]) -> u8 {
         same(
             format_args!("node {node} of level {level}"),
             Manifest::open(bytes).node(level, node),
-            manifest::node(bytes, level, node).map(|node| Node {
-                position: node.position,
-                size: node.size,
-                start: node.start,
-            }),
+            manifest::node(bytes, level, node).map(sides::node),
         )
     })
 }
@@ -155,7 +255,7 @@ fn sample_node(rng: &mut Rng) -> Vec<u8> {
     let (level, node) = manifests::question(rng, &bytes);
     Writer::new()
         .choice(Choice::draw_near(rng, level))
-        .choice(Choice::draw_near(rng, node))
+        .choice(Choice::draw(rng, node))
         .rest(&bytes)
         .finish()
 }

@@ -1,6 +1,6 @@
 //! Chunk names and shard file names.
 
-use crate::agree::same_writing;
+use crate::agree::{same, same_writing};
 use crate::question::{Choice, Reader, Room, Spot, Writer};
 use crate::{sides, Part};
 use reference::names;
@@ -25,8 +25,8 @@ pub const SHARD_NAME: Part = Part {
 };
 
 /// An output for this name, or for one of usual length where it is refused.
-fn output(name: Result<String, u8>, room: Room) -> Lent {
-    let needed = name.map_or(10, |name| name.len());
+fn output(name: &Result<String, u8>, room: Room) -> Lent {
+    let needed = name.as_ref().map_or(10, String::len);
     let length = room.length(needed);
     Lent::new(&mut Rng::new(length as u64), length)
 }
@@ -35,10 +35,18 @@ fn compare_chunk_name(bytes: &[u8]) -> u8 {
     let mut reader = Reader::new(bytes);
     let volume = reader.volume();
     let cell = reader.spot().cell(&volume);
-    same_writing(
+    let (library, at) = (sides::volume(&volume), cell.into());
+    let name = names::chunk_name(&volume, cell);
+    let output = output(&name, reader.room());
+    same(
         format_args!("chunk name of {cell:?} in {volume:?}"),
-        &output(names::chunk_name(&volume, cell), reader.room()),
-        |out| sides::volume(&volume).write_chunk_name(sides::cell(cell), out),
+        library.chunk_name(at),
+        name,
+    );
+    same_writing(
+        format_args!("writing the chunk name of {cell:?} in {volume:?}"),
+        &output,
+        |out| library.write_chunk_name(at, out),
         |out| names::write_chunk_name(&volume, cell, out),
     )
 }
@@ -47,10 +55,18 @@ fn compare_shard_name(bytes: &[u8]) -> u8 {
     let mut reader = Reader::new(bytes);
     let sharding = reader.sharding();
     let shard = reader.choice().shard(&sharding, &[]);
-    same_writing(
+    let library = sides::sharding(&sharding);
+    let name = names::shard_name(&sharding, shard);
+    let output = output(&name, reader.room());
+    same(
         format_args!("name of shard {shard} under {sharding:?}"),
-        &output(names::shard_name(&sharding, shard), reader.room()),
-        |out| sides::sharding(&sharding).write_shard_name(shard, out),
+        library.shard_name(shard),
+        name,
+    );
+    same_writing(
+        format_args!("writing the name of shard {shard} under {sharding:?}"),
+        &output,
+        |out| library.write_shard_name(shard, out),
         |out| names::write_shard_name(&sharding, shard, out),
     )
 }

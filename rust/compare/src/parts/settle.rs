@@ -2,7 +2,7 @@
 
 use super::shard::front;
 use crate::agree::{guarded, same, same_writing};
-use crate::question::{Choice, Reader, Room, Writer, LONGEST_ANSWER};
+use crate::question::{Reader, Room, LONGEST_ANSWER};
 use crate::{sides, Part, LISTS_DIFFER};
 use coronagamba::Shard;
 use reference::settle;
@@ -34,7 +34,7 @@ pub const SETTLE: Part = Part {
 pub const SAME: Part = Part {
     name: "same",
     about: "two shards, whose settled forms are equal exactly where they list the same",
-    meets: &[0, 1, 5, 6, 7, 8, 9, 10, 11, LISTS_DIFFER],
+    meets: &[0, 1, 5, 6, 7, 8, 9, 10, 11, 13, LISTS_DIFFER],
     compare: compare_same,
     sample: sample_same,
 };
@@ -99,14 +99,15 @@ fn assert_settled(sharding: &Sharding, number: u64, file: &[u8], form: &[u8]) {
 }
 
 /// The library's settled form of a file, which must be the reference's, and
-/// what the file lists; or the refusal. Very long forms are not made.
+/// what the file lists; or the refusal. 13 also stands for forms that are too
+/// long to be made here.
 fn settled<'a>(
     sharding: &Sharding,
     number: u64,
     file: &'a [u8],
 ) -> Result<(Vec<u8>, Content<'a>), u8> {
-    let content = content(sharding, number, file);
-    let listed = content.map(|content| content.into_iter().collect::<Vec<_>>())?;
+    let content = content(sharding, number, file)?;
+    let listed: Vec<_> = content.iter().map(|(id, bytes)| (*id, *bytes)).collect();
     if settle::settled_length(sharding, &listed) > LONGEST_ANSWER as u128 {
         return Err(13);
     }
@@ -116,7 +117,7 @@ fn settled<'a>(
         form.as_ref() == Ok(&expected),
         "the settled form of shard {number} under {sharding:?} differs"
     );
-    Ok((expected, listed.into_iter().collect()))
+    Ok((expected, content))
 }
 
 fn compare_same(bytes: &[u8]) -> u8 {
@@ -146,29 +147,37 @@ fn compare_same(bytes: &[u8]) -> u8 {
     })
 }
 
-fn sample_settled_length(rng: &mut Rng) -> Vec<u8> {
+/// A shard of any kind, now and then one whose settled form has about a
+/// gibibyte.
+fn shard(rng: &mut Rng) -> Sample {
     if rng.once_in(300) {
-        let Sample {
-            sharding,
-            number,
-            file,
-        } = shards::brimming(rng);
-        return Writer::new()
-            .sharding(&sharding)
-            .choice(Choice::plain(number))
-            .rest(&file)
-            .finish();
+        shards::brimming(rng)
+    } else {
+        shards::any(rng)
     }
-    let (sample, writer) = front(rng);
-    writer.rest(&sample.file).finish()
+}
+
+fn sample_settled_length(rng: &mut Rng) -> Vec<u8> {
+    let sample = shard(rng);
+    front(rng, &sample).rest(&sample.file).finish()
 }
 
 fn sample_settle(rng: &mut Rng) -> Vec<u8> {
-    let (sample, writer) = front(rng);
-    writer.room(Room::draw(rng)).rest(&sample.file).finish()
+    let sample = shard(rng);
+    front(rng, &sample)
+        .room(Room::draw(rng))
+        .rest(&sample.file)
+        .finish()
 }
 
-fn sample_same(rng: &mut Rng) -> Vec<u8> {
+/// Two files for one specification and number, which mostly list the same or
+/// differ in one respect: the first one with its length.
+fn pair(rng: &mut Rng) -> (Sample, usize) {
+    if rng.once_in(300) {
+        let sample = shards::brimming(rng);
+        let length = sample.file.len();
+        return (sample, length);
+    }
     let sharding = shards::sharding(rng);
     let number = shards::number(rng, &sharding);
     let content = shards::content(rng, &sharding, number, 12);
@@ -181,18 +190,21 @@ fn sample_same(rng: &mut Rng) -> Vec<u8> {
         let damaged = rng.index(2);
         shards::damage(rng, &sharding, &mut files[damaged]);
     }
-    let mut sample = Sample {
+    let sample = Sample {
         sharding,
         number,
         file: files.concat(),
     };
+    (sample, files[0].len())
+}
+
+fn sample_same(rng: &mut Rng) -> Vec<u8> {
+    let (mut sample, first) = pair(rng);
     if rng.once_in(20) {
         shards::make_wild(rng, &mut sample);
     }
-    Writer::new()
-        .sharding(&sample.sharding)
-        .choice(Choice::plain(sample.number))
-        .number(files[0].len() as u64)
+    front(rng, &sample)
+        .number(first as u64)
         .rest(&sample.file)
         .finish()
 }

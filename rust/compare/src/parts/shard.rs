@@ -3,7 +3,7 @@
 use crate::agree::{guarded, same, same_writing};
 use crate::question::{Choice, Reader, Room, Writer};
 use crate::{sides, Part};
-use coronagamba::{Listed, Shard, Span};
+use coronagamba::{Chunk, Listed, Shard, Span};
 use reference::shard;
 use reference::sharding::Sharding;
 use testkit::shards::{self, Sample};
@@ -24,6 +24,15 @@ pub const CHECK: Part = Part {
     about: "the whole-shard check and the minishard that it names",
     meets: &[0, 1, 5, 6, 7, 8, 9, 10, 11],
     compare: compare_check,
+    sample: sample_check,
+};
+
+/// All chunks of a shard.
+pub const CHUNKS: Part = Part {
+    name: "chunks",
+    about: "all chunks of a sound shard",
+    meets: &[0, 1, 5, 6, 7, 8, 9, 10, 11],
+    compare: compare_chunks,
     sample: sample_check,
 };
 
@@ -94,6 +103,27 @@ fn compare_check(bytes: &[u8]) -> u8 {
     })
 }
 
+fn compare_chunks(bytes: &[u8]) -> u8 {
+    let mut reader = Reader::new(bytes);
+    let (sharding, number) = (reader.sharding(), reader.choice());
+    guarded(reader.rest(), |file| {
+        let number = number.shard(&sharding, file);
+        let chunk = |entry: &shard::Entry| Chunk {
+            minishard: sharding.place(entry.id).minishard,
+            id: entry.id,
+            span: span(entry),
+            bytes: entry.bytes(file),
+        };
+        let opened = Shard::open(sides::sharding(&sharding), number, file);
+        let entries = shard::list(&sharding, number, file);
+        same(
+            format_args!("chunks of shard {number} under {sharding:?}"),
+            opened.chunks().map(Iterator::collect::<Vec<Chunk>>),
+            entries.map(|entries| entries.iter().map(chunk).collect()),
+        )
+    })
+}
+
 fn compare_listed_count(bytes: &[u8]) -> u8 {
     let mut reader = Reader::new(bytes);
     let (sharding, number, minishard) = (reader.sharding(), reader.choice(), reader.choice());
@@ -133,46 +163,48 @@ fn compare_listing(bytes: &[u8]) -> u8 {
     })
 }
 
-/// A shard of any kind, and a question's front: specification and number.
-pub fn front(rng: &mut Rng) -> (Sample, Writer) {
-    let sample = shards::any(rng);
-    let writer = Writer::new()
+/// A question's front: the sample's specification and mostly its number.
+pub fn front(rng: &mut Rng, sample: &Sample) -> Writer {
+    Writer::new()
         .sharding(&sample.sharding)
-        .choice(Choice::draw_near(rng, sample.number));
-    (sample, writer)
+        .choice(Choice::draw_near(rng, sample.number))
 }
 
 fn sample_lookup(rng: &mut Rng) -> Vec<u8> {
-    let (sample, writer) = front(rng);
+    let sample = shards::any(rng);
     let id = shards::question(rng, &sample);
-    writer
+    front(rng, &sample)
         .choice(Choice::draw(rng, id))
         .rest(&sample.file)
         .finish()
 }
 
 fn sample_check(rng: &mut Rng) -> Vec<u8> {
-    let (sample, writer) = front(rng);
-    writer.rest(&sample.file).finish()
+    let sample = shards::any(rng);
+    front(rng, &sample).rest(&sample.file).finish()
 }
 
-/// A minishard number to ask for.
+/// A minishard number to ask for: mostly one that the specification has.
 fn minishard(rng: &mut Rng, sharding: &Sharding) -> Choice {
-    let number = places::minishard_number(rng, sharding);
+    let number = if rng.once_in(4) {
+        places::minishard_number(rng, sharding)
+    } else {
+        rng.below(1 << sharding.minishard_bits.min(12))
+    };
     Choice::draw(rng, number)
 }
 
 fn sample_listed_count(rng: &mut Rng) -> Vec<u8> {
-    let (sample, writer) = front(rng);
-    writer
+    let sample = shards::any(rng);
+    front(rng, &sample)
         .choice(minishard(rng, &sample.sharding))
         .rest(&sample.file)
         .finish()
 }
 
 fn sample_listing(rng: &mut Rng) -> Vec<u8> {
-    let (sample, writer) = front(rng);
-    writer
+    let sample = shards::any(rng);
+    front(rng, &sample)
         .choice(minishard(rng, &sample.sharding))
         .room(Room::draw(rng))
         .rest(&sample.file)

@@ -4,7 +4,7 @@ use crate::agree::same;
 use crate::question::{Reader, Room, Writer};
 use crate::{sides, Part};
 use reference::endian::read_u64;
-use reference::sharding::{place_of, Sharding};
+use reference::sharding::{place_of, Sharding, MOST_MINISHARD_BITS, MOST_SHARD_BITS, MURMUR};
 use testkit::{places, Lent, Rng};
 
 /// Shard and minishard of an id.
@@ -28,9 +28,15 @@ pub const PLACES: Part = Part {
 fn compare_place(bytes: &[u8]) -> u8 {
     let mut reader = Reader::new(bytes);
     let (sharding, id) = (reader.sharding(), reader.number());
+    let library = sides::sharding(&sharding);
+    same(
+        format_args!("whether {sharding:?} is allowed"),
+        library.allowed(),
+        sharding.allowed(),
+    );
     same(
         format_args!("place of {id} under {sharding:?}"),
-        sides::sharding(&sharding).place(id),
+        library.place(id),
         place_of(&sharding, id).map(sides::place),
     )
 }
@@ -76,15 +82,29 @@ fn compare_places(bytes: &[u8]) -> u8 {
     met
 }
 
+/// A specification of any numbers, often the one that shows most of the hash.
+fn specification(rng: &mut Rng) -> Sharding {
+    if rng.once_in(4) {
+        Sharding {
+            preshift: 0,
+            hash: MURMUR,
+            minishard_bits: MOST_MINISHARD_BITS,
+            shard_bits: MOST_SHARD_BITS,
+        }
+    } else {
+        places::wild_sharding(rng)
+    }
+}
+
 fn sample_place(rng: &mut Rng) -> Vec<u8> {
     Writer::new()
-        .sharding(&places::wild_sharding(rng))
+        .sharding(&specification(rng))
         .number(rng.edge_u64())
         .finish()
 }
 
 fn sample_places(rng: &mut Rng) -> Vec<u8> {
-    let sharding = places::wild_sharding(rng);
+    let sharding = specification(rng);
     let ids = (0..rng.index(20)).flat_map(|_| rng.edge_u64().to_le_bytes());
     let ids: Vec<u8> = ids.collect();
     Writer::new()
