@@ -3,7 +3,8 @@
 //! A [`Part`] takes any bytes: it decodes the question from the front of them
 //! and takes the rest as the file, card or manifest; bytes that are not there
 //! count as 0. It asks library and reference the same and panics at the first
-//! difference. No input takes long or needs much memory beyond its own length.
+//! difference. No input takes long, or needs more than a few times its own
+//! length and a few MiB.
 
 #![forbid(unsafe_code)]
 

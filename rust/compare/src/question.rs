@@ -286,7 +286,7 @@ impl Choice {
     pub fn id(&self, sharding: &Sharding, file: &[u8]) -> u64 {
         let step = match self.kind % 4 {
             0 => return self.number,
-            2 if self.number.count_ones() % 2 == 0 => 1,
+            2 if self.number.count_ones().is_multiple_of(2) => 1,
             2 => u64::MAX,
             _ => 0,
         };

@@ -7,9 +7,17 @@
 //! - `CORONAGAMBA_SEED=N`: the seed from which it starts or goes on, else 0;
 //! - `CORONAGAMBA_PART=NAME`: one part, or some with commas between, else all.
 //!
-//! Without the first one, one round of seeds is run.
+//! Without the first one, one round of seeds is run. So
+//!
+//! ```text
+//! CORONAGAMBA_LONG=7200 cargo test --release --offline -p compare --test differential long_run
+//! ```
+//!
+//! runs for two hours and says now and then how far it is; with the seed after
+//! the last one told it goes on from there. A part and the seed of a difference
+//! alone show the difference again.
 
-use compare::run::rounds;
+use compare::run::{rounds, Difference};
 use compare::{Part, PARTS};
 use std::io::Write;
 use std::path::Path;
@@ -30,8 +38,15 @@ fn quick(name: &str, cases: u64) {
             println!("{name}: {tally}");
             assert_eq!(tally.numbers(), part.meets, "refusals met");
         }
-        Err(difference) => panic!("{}", difference.report(Path::new(FOLDER))),
+        Err(difference) => fail(&difference),
     }
+}
+
+/// Tells a difference, and how to see it again.
+fn fail(difference: &Difference) -> ! {
+    let report = difference.report(Path::new(FOLDER));
+    let Difference { part, seed, .. } = difference;
+    panic!("{report}again: CORONAGAMBA_PART={part} CORONAGAMBA_SEED={seed}\n")
 }
 
 /// The part of this name.
@@ -79,7 +94,7 @@ quick! {
     listing: 150_000,
     settled_length: 100_000,
     settle: 150_000,
-    same: 120_000,
+    same: 160_000,
     card_read: 400_000,
     card_write: 300_000,
     manifest_check: 80_000,
@@ -135,6 +150,6 @@ fn long_run() {
         !finished
     });
     if let Err(difference) = outcome {
-        panic!("{}", difference.report(Path::new(FOLDER)));
+        fail(&difference);
     }
 }

@@ -1,11 +1,8 @@
 //! The levels of mesh manifests, against the parts that they are made of.
 
-mod common;
-
-use common::answer;
 use coronagamba::manifest::{Level, Manifest};
-use testkit::manifests::{self, Parts};
-use testkit::{Met, Rng};
+use testkit::manifests::Parts;
+use testkit::Rng;
 
 /// A finite real: the bit that all infinities and NaNs have is 0.
 fn finite(rng: &mut Rng) -> f32 {
@@ -52,18 +49,4 @@ fn every_level_count() {
             assert!(found.eq(expected), "{parts:?}");
         }
     }
-}
-
-#[test]
-fn damaged_manifests() {
-    let mut rng = Rng::new(32);
-    let mut met = Met::new();
-    for _ in 0..10_000 {
-        let bytes = manifests::damaged(&mut rng, 4);
-        let expected = reference::manifest::check(&bytes);
-        let found = Manifest::open(&bytes).levels().map(|_| ());
-        assert_eq!(found, answer(expected), "{bytes:?}");
-        met.note(&expected);
-    }
-    met.assert_exactly(&[0, 15, 16, 17]);
 }

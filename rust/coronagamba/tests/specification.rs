@@ -1,24 +1,6 @@
-//! Which sharding specifications are allowed, against the reference.
+//! Which sharding specifications are allowed.
 
-mod common;
-
-use common::answer;
 use coronagamba::Sharding;
-use testkit::{places, Met, Rng};
-
-#[test]
-fn random_specifications() {
-    let mut rng = Rng::new(41);
-    let mut met = Met::new();
-    for _ in 0..100_000 {
-        let sample = places::wild_sharding(&mut rng);
-        let expected = sample.allowed();
-        let found = common::sharding::sharding(&sample).allowed();
-        assert_eq!(found, answer(expected), "{sample:?}");
-        met.note(&expected);
-    }
-    met.assert_exactly(&[0, 1]);
-}
 
 /// The limits of the scope's table, each field by itself.
 #[test]

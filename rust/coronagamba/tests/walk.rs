@@ -1,15 +1,9 @@
-//! The walk over all nodes of mesh manifests, against the reference and the
-//! calls for single nodes.
+//! The walk over all nodes of mesh manifests, against the parts that they are
+//! made of.
 
-mod common;
-
-use common::answer;
 use coronagamba::manifest::{Manifest, Node, Visit};
-use reference::manifest;
 use testkit::manifests::{self, Parts};
-use testkit::{Met, Rng};
-
-const SAMPLES: usize = 10_000;
+use testkit::Rng;
 
 /// All nodes, level by level, by the parts that a manifest is made of.
 fn visits(parts: &Parts) -> Vec<Visit> {
@@ -27,58 +21,6 @@ fn visits(parts: &Parts) -> Vec<Visit> {
         }
     }
     visits
-}
-
-/// All nodes, level by level, as the reference gives each of them.
-fn expected(bytes: &[u8]) -> Result<Vec<Visit>, u8> {
-    let mut visits = Vec::new();
-    for level in 0..manifest::level_count(bytes)? {
-        for index in 0..manifest::node_count(bytes, level.into())? {
-            let node = manifest::node(bytes, level.into(), index.into())?;
-            let node = Node {
-                position: node.position,
-                size: node.size,
-                start: node.start,
-            };
-            visits.push(Visit { level, index, node });
-        }
-    }
-    Ok(visits)
-}
-
-/// Walks on both sides, and asks the library for each node by itself.
-fn same_walk(bytes: &[u8]) -> Result<usize, u8> {
-    let expected = expected(bytes);
-    let manifest = Manifest::open(bytes);
-    let found = manifest.nodes().map(Iterator::collect);
-    assert_eq!(found, answer(expected.clone()), "{bytes:?}");
-    let visits = expected?;
-    for Visit { level, index, node } in &visits {
-        let single = manifest.node(u64::from(*level), u64::from(*index));
-        assert_eq!(single, Ok(*node), "{bytes:?}");
-    }
-    Ok(visits.len())
-}
-
-#[test]
-fn sound_manifests() {
-    let mut rng = Rng::new(61);
-    let mut nodes = 0;
-    for _ in 0..SAMPLES / 10 {
-        let bytes = manifests::sound(&mut rng, 8);
-        nodes += same_walk(&bytes).expect("the manifest is sound");
-    }
-    assert!(nodes > SAMPLES);
-}
-
-#[test]
-fn damaged_manifests() {
-    let mut rng = Rng::new(62);
-    let mut met = Met::new();
-    for _ in 0..SAMPLES {
-        met.note(&same_walk(&manifests::damaged(&mut rng, 2)));
-    }
-    met.assert_exactly(&[0, 15, 16, 17]);
 }
 
 /// Every level count, with runs of empty levels.

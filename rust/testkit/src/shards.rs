@@ -80,9 +80,13 @@ fn ids(rng: &mut Rng, sharding: &Sharding, number: u64, most: usize) -> Vec<u64>
     ids
 }
 
-/// A few bytes; empty ones, runs of one byte and repetitions are common.
+/// Mostly a few bytes; empty ones, runs of one byte and repetitions are common.
 fn chunk(rng: &mut Rng) -> Vec<u8> {
-    let length = rng.index(9);
+    let length = if rng.once_in(20) {
+        rng.index(300)
+    } else {
+        rng.index(9)
+    };
     match rng.below(4) {
         0 => Vec::new(),
         1 => vec![0; length],

@@ -172,7 +172,8 @@ fn sample_keys(rng: &mut Rng) -> Vec<u8> {
     let volume = places::volume(rng);
     let mut writer = Writer::new().volume(&volume).room(Room::draw(rng));
     let inside = !rng.once_in(4);
-    for _ in 0..rng.index(12) {
+    let most = if rng.once_in(100) { 300 } else { 12 };
+    for _ in 0..rng.index(most) {
         let cell = places::cell(rng, &volume);
         writer = writer.spot(if inside {
             Spot::inside(rng, cell)

@@ -192,6 +192,11 @@ fn visits(bytes: &[u8]) -> Vec<Visit> {
     visits
 }
 
+/// Up to four of these, the first among them.
+fn some_of(visits: &[Visit]) -> impl Iterator<Item = &Visit> {
+    visits.iter().step_by(visits.len().div_ceil(4).max(1))
+}
+
 fn compare_walk(bytes: &[u8]) -> u8 {
     guarded(bytes, |bytes| {
         let expected = manifest::check(bytes).map(|()| visits(bytes));
@@ -200,9 +205,14 @@ fn compare_walk(bytes: &[u8]) -> u8 {
             let node = manifest::node(bytes, last.level.into(), last.index.into());
             assert_eq!(node.map(sides::node), Ok(last.node), "the last node");
         }
+        let library = Manifest::open(bytes);
+        for visit in some_of(expected.as_deref().unwrap_or_default()) {
+            let single = library.node(visit.level.into(), visit.index.into());
+            assert_eq!(single, Ok(visit.node), "a single node");
+        }
         same(
             format_args!("walk over a manifest of {} bytes", bytes.len()),
-            Manifest::open(bytes).nodes().map(Iterator::collect),
+            library.nodes().map(Iterator::collect),
             expected,
         )
     })

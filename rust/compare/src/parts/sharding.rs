@@ -105,7 +105,8 @@ fn sample_place(rng: &mut Rng) -> Vec<u8> {
 
 fn sample_places(rng: &mut Rng) -> Vec<u8> {
     let sharding = specification(rng);
-    let ids = (0..rng.index(20)).flat_map(|_| rng.edge_u64().to_le_bytes());
+    let most = if rng.once_in(100) { 500 } else { 20 };
+    let ids = (0..rng.index(most)).flat_map(|_| rng.edge_u64().to_le_bytes());
     let ids: Vec<u8> = ids.collect();
     Writer::new()
         .sharding(&sharding)

@@ -9,7 +9,7 @@ pub mod manifest;
 
 #[cfg(feature = "grid")]
 pub mod grid {
-    use coronagamba::{Cell, Extents, Offset, Point, Volume};
+    use coronagamba::{Cell, Extents, Offset, Volume};
 
     pub fn extents([x, y, z]: [u32; 3]) -> Extents {
         Extents { x, y, z }
@@ -26,10 +26,6 @@ pub mod grid {
             chunk: extents(volume.chunk),
             offset: Offset { x, y, z },
         }
-    }
-
-    pub fn point(point: [i128; 3]) -> Point {
-        Point::from(point.map(|number| i64::try_from(number).expect("bounds fit i64")))
     }
 }
 
