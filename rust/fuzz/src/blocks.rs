@@ -116,7 +116,7 @@ impl Assembly {
         self.text.push('\n');
     }
 
-    /// The start of a section, with its name and whether others see that.
+    /// The start of a section.
     fn begin(&mut self, section: &Section, flags: &str) {
         let Section {
             name, alignment, ..
