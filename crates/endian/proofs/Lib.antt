@@ -1,3 +1,4 @@
+pub mod Tests
 pub mod Ranges
 pub mod Little
 pub mod Holds

@@ -11,6 +11,7 @@ use lib.Dec.{T}
 use lib.Ieee.Fits.{and-l, and-r}
 use borrow.Author.Tests.{not-true, not-false}
 use Rattle.endian.specs.Range.{sumTo, every, anyBelow, first}
+use Rattle.endian.proofs.Tests.{neither}
 
 -- ---- sums
 
@@ -94,13 +95,9 @@ any-miss f n i p l = go (f i) refl
     go true e = absurd (true≢false (sym (any-hit f n i l e) ∙ p))
     go false e = e
 
-or-left : (a b : Bool) → a || b ≡ false → a ≡ false
-or-left true b e = e
-or-left false b e = refl
-
 any-init : (f : ℕ → Bool) (n : ℕ) → anyBelow (suc n) f ≡ false → anyBelow n f ≡ false
 unfolding anyBelow
-any-init f n p = or-left _ _ p
+any-init f n p = neither _ _ p .0
 
 -- none of n where each of them passes
 pub any-no : (f : ℕ → Bool) (n : ℕ) → ((i : ℕ) → i < n → f i ≡ false) → anyBelow n f ≡ false

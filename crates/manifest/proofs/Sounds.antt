@@ -8,6 +8,7 @@ use lib.Dec.{T, eqb, leb, ltb, leb→le, ltb→lt, eqb→eq}
 use borrow.Author.Needs.{needs}
 use borrow.Author.Tests.{lt-ltb, ltb-true, le-leb, eq-eqb}
 use lib.ListN.{length}
+use lib.Ieee.Bits.{is-true}
 use lib.Ieee.Fits.{and-l, and-r}
 use Rattle.endian.specs.Choice.{pick}
 use Rattle.endian.specs.Range.{every, sumTo}
@@ -98,10 +99,6 @@ picked false b c e = let z : ⊥ = omega arith in absurd z
 implied : (a b : Bool) → T (not a || b) → T a → T b
 implied true b t u = t
 implied false b t u = absurd u
-
-is-true : (b : Bool) → T b → b ≡ true
-is-true true t = refl
-is-true false t = absurd t
 
 -- not refused, then sound
 pub sound-if : (s : List ℕ) → verdict s ≡ 0 → Sound s

@@ -1,7 +1,7 @@
 -- What holds at the head of each loop over the entries of a minishard, and what each way out of a turn shows.
 use Prim.Native.Nat.{ℕ, zero, suc, _+_, _-_, _<_, _≤_, _^_}
 use mathlib.Core.Path.{_≡_, sym, _∙_, ap}
-use mathlib.Core.Bool.{Bool, true, false, not, _||_, or-true, true≢false}
+use mathlib.Core.Bool.{Bool, true, false, not, _||_, or-true}
 use native.Mathlib.Nat.{not-suc-le-zero}
 use native.Mathlib.Omega.{arith}
 use lib.Dec.{leb, eqb}
@@ -10,6 +10,7 @@ use mir.Syntax.{w64}
 use borrow.Author.Tests.{lt-ltb, le-ltb, le-leb, lt-leb, leb-false, ltb-false}
 use Rattle.endian.specs.Range.{sumTo, anyBelow, first}
 use Rattle.endian.proofs.Ranges.{sum-none, sum-step, any-none, any-more, any-miss, first-none, first-hit}
+use Rattle.endian.proofs.Tests.{neither}
 use Rattle.sharding.specs.declared.Sharding.{Sharding}
 use Rattle.sharding.specs.declared.Place.{Place}
 use Rattle.sharding.specs.Place.{placeOf}
@@ -37,14 +38,10 @@ good-id f (suc i) p h =
     let ne = p (omega arith) in
     rw (lt-leb (sumTo f i + f i + f (suc i)) (sumTo f i + f i) (omega arith), lt-leb _ _ h)
 
-or-right : (a b : Bool) → a || b ≡ false → b ≡ false
-or-right true b e = absurd (true≢false e)
-or-right false b e = e
-
 pub id-fits : (f : ℕ → ℕ) (i : ℕ) → badId f i ≡ false → sumTo f i + f i < 2 ^ 64
 unfolding badId idAt sumTo
 id-fits f zero h = leb-false _ _ h
-id-fits f (suc i) h = leb-false _ _ (or-right (leb (sumTo f i + f i + f (suc i)) (sumTo f i + f i)) _ h)
+id-fits f (suc i) h = leb-false _ _ (neither (leb (sumTo f i + f i + f (suc i)) (sumTo f i + f i)) _ h .1)
 
 -- ---- tests 9 and 10: the sum of the steps passed, none of which fails
 

@@ -10,6 +10,7 @@ use borrow.Author.Tests.{ltb-true, ltb-false, lt-ltb, le-ltb, leb-false, lt-leb,
 use Rattle.endian.specs.Choice.{pick}
 use Rattle.endian.specs.Range.{anyBelow, first}
 use Rattle.endian.proofs.Ranges.{any-miss, any-no, first-none, first-lt, first-holds, first-before}
+use Rattle.endian.proofs.Tests.{neither}
 use Rattle.sharding.specs.declared.Sharding.{Sharding}
 use Rattle.sharding.specs.Specification.{allowed, minishardCount, shardCount, noSuchShard}
 use Rattle.shard.specs.declared.inner.Fault.{Fault}
@@ -18,7 +19,7 @@ use Rattle.shard.specs.declared.CheckAnswer.the-variants.{Sound, Refused
 use Rattle.shard.specs.Faults.{faultOf, faulty, firstFault, shardFault}
 use Rattle.shard.specs.File.{mostShardBytes, indexLength, indexPart, dataPart, badFileLength, verdict, checkAnswer}
 use Rattle.shard.specs.Sound.{SoundMinishard, SoundShard}
-use Rattle.shard.proofs.Judged.{either-false, passes-minishard, minishard-passes}
+use Rattle.shard.proofs.Judged.{passes-minishard, minishard-passes}
 
 -- ---- the first fault of n minishards
 
@@ -30,7 +31,7 @@ pub not-faulty : (f : ℕ → Fault) (m : ℕ) → f m .number ≡ 0 → faulty 
 unfolding faulty
 not-faulty f m p = rw (eq-eqb (f m .number) 0 p)
 
-is-faulty : (f : ℕ → Fault) (m : ℕ) → faulty f m ≡ true → f m .number ≡ 0 → ⊥
+pub is-faulty : (f : ℕ → Fault) (m : ℕ) → faulty f m ≡ true → f m .number ≡ 0 → ⊥
 unfolding faulty
 is-faulty f m p = eqb-false _ _ (not-true _ p)
 
@@ -70,7 +71,7 @@ module _ (spec : Sharding) (shard : ℕ) (file : List ℕ) where
       let q1 = accepted (not (allowed spec)) 1 _ p in
       let q5 = accepted (noSuchShard spec shard) 5 _ (q1 .1) in
       let q6 = accepted (badFileLength spec (length file)) 6 _ (q5 .1) in
-      let o = either-false (ltb (length file) (indexLength spec)) _ (q6 .0) in
+      let o = neither (ltb (length file) (indexLength spec)) _ (q6 .0) in
       let z = verdict-sound _ _ (q6 .1) in
       record {
         permitted = not-false _ (q1 .0);
