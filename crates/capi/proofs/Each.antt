@@ -17,7 +17,7 @@ use Rattle.grid.specs.declared.KeyAnswer.the-variants.{Key}
 use Rattle.grid.specs.Grid.{gridOf, zeroExtent, inGrid}
 use Rattle.grid.specs.Key.{tooManyBits, keyOf}
 use Rattle.grid.specs.Answers.{noCell, keyAnswer}
-use Rattle.grid.proofs.Ways.{both, neither}
+use Rattle.endian.proofs.Tests.{both, neither}
 use Rattle.capi.specs.Batch.{batchWord, eachInGrid, keysWord}
 
 passed : (b : Bool) (k : ℕ) {n : ℕ} → pick b (suc k) n ≡ 0 → (b ≡ false) × (n ≡ 0)
