@@ -9,19 +9,13 @@
 //! slice's pointer is never followed. All that crosses is numbers, in structs
 //! without padding, and any bits make a number.
 
-#[cfg(feature = "grid")]
 use crate::grid::{Cell, Volume};
-#[cfg(feature = "sharding")]
 use crate::sharding::Sharding;
-#[cfg(any(feature = "grid", feature = "sharding"))]
 use std::mem::size_of;
 
 // No padding: a struct is as large as its numbers together.
-#[cfg(feature = "grid")]
 const _: () = assert!(size_of::<Volume>() == 9 * size_of::<u32>());
-#[cfg(feature = "grid")]
 const _: () = assert!(size_of::<Cell>() == 3 * size_of::<u32>());
-#[cfg(feature = "sharding")]
 const _: () = assert!(size_of::<Sharding>() == 4);
 
 extern "C" {
@@ -34,7 +28,6 @@ extern "C" {
     pub fn coronagamba_copy(bytes: *const u8, count: usize, out: *mut u8, out_count: usize) -> u64;
 }
 
-#[cfg(feature = "grid")]
 extern "C" {
     pub fn coronagamba_grid_of(volume: Volume, grid: *mut [u32; 3]) -> u64;
     pub fn coronagamba_key_of(volume: Volume, cell: Cell, key: *mut u64) -> u64;
@@ -55,7 +48,6 @@ extern "C" {
     ) -> u64;
 }
 
-#[cfg(feature = "sharding")]
 extern "C" {
     pub fn coronagamba_place_of(
         sharding: Sharding,
@@ -75,7 +67,6 @@ extern "C" {
     ) -> u64;
 }
 
-#[cfg(feature = "names")]
 extern "C" {
     pub fn coronagamba_chunk_name(
         volume: Volume,
@@ -93,7 +84,6 @@ extern "C" {
     ) -> u64;
 }
 
-#[cfg(feature = "shards")]
 extern "C" {
     pub fn coronagamba_lookup(
         sharding: Sharding,
@@ -125,7 +115,6 @@ extern "C" {
     ) -> u64;
 }
 
-#[cfg(feature = "settle")]
 extern "C" {
     pub fn coronagamba_settled_length(
         sharding: Sharding,
@@ -145,7 +134,6 @@ extern "C" {
     ) -> u64;
 }
 
-#[cfg(feature = "card")]
 extern "C" {
     pub fn coronagamba_card_read(
         bytes: *const u8,
@@ -164,7 +152,6 @@ extern "C" {
     ) -> u64;
 }
 
-#[cfg(feature = "manifest")]
 extern "C" {
     pub fn coronagamba_manifest_check(bytes: *const u8, count: usize) -> u64;
     pub fn coronagamba_manifest_header(
@@ -242,7 +229,6 @@ mod tests {
         assert_eq!(out, [7; 8]);
     }
 
-    #[cfg(feature = "grid")]
     #[test]
     fn grid() {
         let (volume, cell) = (Volume::default(), Cell::default());
@@ -258,7 +244,6 @@ mod tests {
         assert_eq!((numbers, key, begin, end), ([7; 3], KEPT, [7; 3], [7; 3]));
     }
 
-    #[cfg(feature = "grid")]
     #[test]
     fn keys() {
         let extents = |x| crate::Extents { x, y: 1, z: 1 };
@@ -286,7 +271,6 @@ mod tests {
     }
 
     /// The specification of one shard with one minishard.
-    #[cfg(any(feature = "names", feature = "shards"))]
     const NO_BITS: Sharding = Sharding {
         preshift: 0,
         hash: 0,
@@ -295,7 +279,6 @@ mod tests {
     };
 
     /// A specification that is refused with 1.
-    #[cfg(feature = "sharding")]
     const REFUSED: Sharding = Sharding {
         preshift: 64,
         hash: 0,
@@ -303,7 +286,6 @@ mod tests {
         shard_bits: 0,
     };
 
-    #[cfg(feature = "sharding")]
     #[test]
     fn sharding() {
         let (mut shard, mut minishard) = (KEPT, KEPT);
@@ -317,7 +299,6 @@ mod tests {
         assert_eq!((shard, minishard), (KEPT, KEPT));
     }
 
-    #[cfg(feature = "names")]
     #[test]
     fn names() {
         let (volume, cell) = (Volume::default(), Cell::default());
@@ -348,7 +329,6 @@ mod tests {
     }
 
     /// A shard of two minishards: the first is empty, the second reversed.
-    #[cfg(feature = "shards")]
     const REVERSED: (Sharding, [u8; 32]) = (
         Sharding {
             preshift: 0,
@@ -363,7 +343,6 @@ mod tests {
         },
     );
 
-    #[cfg(feature = "shards")]
     #[test]
     fn shards() {
         let (sharding, file) = REVERSED;
@@ -395,7 +374,6 @@ mod tests {
         assert_eq!((start, length, out), (KEPT, KEPT, [KEPT; 3]));
     }
 
-    #[cfg(feature = "settle")]
     #[test]
     fn settle() {
         let (sharding, file) = REVERSED;
@@ -421,7 +399,6 @@ mod tests {
         }
         assert_eq!((out, length), ([7; 40], KEPT));
     }
-    #[cfg(feature = "manifest")]
     #[test]
     fn walks() {
         let bytes = [0; 28];

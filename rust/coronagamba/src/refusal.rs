@@ -102,7 +102,6 @@ pub(crate) fn answer(word: u64) -> Result<(), Refusal> {
 
 /// The meaning of the whole-shard check's answer word, in which 7 to 11 always
 /// name a minishard.
-#[cfg(any(feature = "shards", test))]
 pub(crate) fn checked(word: u64) -> Result<(), Refusal> {
     answer(word).map_err(|refusal| match refusal.number {
         7..=11 => Refusal {
@@ -114,7 +113,6 @@ pub(crate) fn checked(word: u64) -> Result<(), Refusal> {
 }
 
 /// What a call leaves behind its result pointers, or its refusal.
-#[cfg(any(feature = "grid", feature = "sharding", feature = "manifest"))]
 pub(crate) fn given<T: Default>(call: impl FnOnce(&mut T) -> u64) -> Result<T, Refusal> {
     let mut results = T::default();
     answer(call(&mut results))?;
@@ -123,7 +121,6 @@ pub(crate) fn given<T: Default>(call: impl FnOnce(&mut T) -> u64) -> Result<T, R
 
 /// The length that a writing call reports, or its refusal. What was written
 /// fits a slice, so its length fits.
-#[cfg(any(feature = "grid", feature = "sharding"))]
 pub(crate) fn written(call: impl FnOnce(&mut u64) -> u64) -> Result<usize, Refusal> {
     given(call).map(|length| length as usize)
 }

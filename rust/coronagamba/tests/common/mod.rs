@@ -4,10 +4,8 @@
 
 use coronagamba::Refusal;
 
-#[cfg(feature = "manifest")]
 pub mod manifest;
 
-#[cfg(feature = "grid")]
 pub mod grid {
     use coronagamba::{Cell, Extents, Offset, Volume};
 
@@ -29,7 +27,6 @@ pub mod grid {
     }
 }
 
-#[cfg(feature = "sharding")]
 pub mod sharding {
     use coronagamba::{Place, Sharding};
 
