@@ -4,6 +4,14 @@ use compare::Part;
 use coronagamba::{Shard, Sharding};
 use testkit::Rng;
 
+/// One shard with one minishard.
+const NO_BITS: Sharding = Sharding {
+    preshift: 0,
+    hash: Sharding::IDENTITY,
+    minishard_bits: 0,
+    shard_bits: 0,
+};
+
 /// The whole-shard check of one minishard, beside a judge that lets sums of
 /// starts wrap at 2^64 where scope, 'From id to shard', refuses them with 11.
 /// Its samples are sound: the fuzzer has to make the step that wraps.
@@ -18,7 +26,7 @@ pub const PLANTED: Part = Part {
 const INDEX_END: usize = 16;
 
 fn compare(file: &[u8]) -> u8 {
-    let shard = Shard::open(Sharding::default(), 0, file);
+    let shard = Shard::open(NO_BITS, 0, file);
     let answer = shard.check().map_or_else(|refusal| refusal.number, |()| 0);
     assert_eq!(answer, wrapping_check(file), "the check of {file:02x?}");
     answer
