@@ -70,7 +70,8 @@ pub const TABLE: [Explained; 18] = [
         "The wrong shard file for this id, a file from a deposit with other shard bits, a \
          --minishard beyond the last one, or wrong settings.",
         "Give the deposit's folder in place of the file: 'get' then finds the shard of the id by \
-         itself. If the place still surprises you, compare the settings with the deposit's papers.",
+         itself. 'card show' tells how many shards and minishards there are. If the place still \
+         surprises you, compare the settings with the deposit's papers.",
     ),
     row(
         6,
@@ -166,12 +167,12 @@ pub const TABLE: [Explained; 18] = [
         "no such level, node or field; or, where corners are asked for, that node has a position \
          of 2^24 or more or either corner is not finite",
         "A level or node number beyond the last one; they count from 0. Where only the corners \
-         are missing: a position that is too large to be computed with exactly, or a chunk shape or \
-         grid origin so large that a corner passes the greatest real; both come from damaged bytes \
-         or from the writer.",
-        "'manifest show' tells how many levels and nodes there are. A node without a corner is \
-         sound and its fragment can be fetched; compare its position, the chunk shape and the grid \
-         origin with the source.",
+         are missing: a position that a 32-bit real may not hold exactly, or a chunk shape or grid \
+         origin so large that a corner passes the greatest real, from a writer or from damaged \
+         bytes.",
+        "'manifest show' tells how many levels and nodes there are. A node without corners has its \
+         position and its fragment all the same; compare its position, the chunk shape and the \
+         grid origin with the source.",
     ),
 ];
 

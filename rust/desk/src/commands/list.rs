@@ -58,8 +58,9 @@ fn list(
 ) -> Result<(), Fault> {
     if path.is_dir() {
         return Err(Fault::wrong_use(format!(
-            "{0}: is a folder; give its shard files: {0}/*.shard",
-            shown(path)
+            "{}: is a folder; give its shard files: {}",
+            shown(path),
+            shown(&path.join("*.shard"))
         )));
     }
     let number = number_of_file(args, sharding, path)?;

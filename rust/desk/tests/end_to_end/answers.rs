@@ -307,10 +307,12 @@ fn the_published_name_of_the_hash() {
 #[test]
 fn a_folder_is_not_listed() {
     let folder = Folder::with_sample();
-    let run = folder.run_line(&format!("list demo/copy-a {CARD}"));
-    run.expect_status(2);
-    assert!(run.text().is_empty(), "{run}");
-    assert!(run.stderr.contains("demo/copy-a/*.shard"), "{run}");
+    for path in ["demo/copy-a", "demo/copy-a/"] {
+        let run = folder.run_line(&format!("list {path} {CARD}"));
+        run.expect_status(2);
+        assert!(run.text().is_empty(), "{run}");
+        assert!(run.stderr.contains("demo/copy-a/*.shard"), "{run}");
+    }
     let help = folder.run_line("list --help");
     assert!(help.text().contains("header line"), "{help}");
 }
