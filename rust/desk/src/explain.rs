@@ -65,11 +65,13 @@ pub const TABLE: [Explained; 18] = [
     ),
     row(
         5,
-        "a shard number is not below 2^shard_bits, or the id asked for belongs to another shard",
-        "The wrong shard file for this id, a file from a deposit with other shard bits, or wrong \
-         settings.",
+        "a shard number is not below 2^shard_bits, or the id asked for belongs to another shard; \
+         in a listing, also where a minishard number is not below 2^minishard_bits",
+        "The wrong shard file for this id, a file from a deposit with other shard bits, a \
+         --minishard beyond the last one, or wrong settings.",
         "Give the deposit's folder in place of the file: 'get' then finds the shard of the id by \
-         itself. If the place still surprises you, compare the settings with the deposit's papers.",
+         itself. 'card show' tells how many shards and minishards there are. If the place still \
+         surprises you, compare the settings with the deposit's papers.",
     ),
     row(
         6,
@@ -99,8 +101,9 @@ pub const TABLE: [Explained; 18] = [
         "an id does not exceed the one before, or passes 2^64-1",
         "Bytes damaged in a minishard index, a writer that listed an id twice or did not sort the \
          ids, or minishard indexes that are compressed.",
-        "Compare with another copy by 'same'. If the fault is in the source, its writer must \
-         repair it: which of two chunks is meant cannot be told from the file.",
+        "Look for a sound copy with 'check' and copy the shard from there. If the fault is in the \
+         source, its writer must repair it: which of two chunks is meant cannot be told from the \
+         file.",
     ),
     row(
         10,
@@ -149,20 +152,27 @@ pub const TABLE: [Explained; 18] = [
         16,
         "a manifest real is not finite, or a chunk shape is not above zero",
         "Damaged bytes, or a writer that divided by zero.",
-        "Compare with another copy. If the fault is in the source, its writer must repair it.",
+        "Look for a sound copy with 'manifest check'. If the fault is in the source, its writer \
+         must repair it.",
     ),
     row(
         17,
         "a level's nodes are not in strictly rising Z-curve order",
         "A writer that sorted by x, y, z, or listed a node twice; or damaged bytes.",
-        "Compare with another copy. If the fault is in the source, its writer must repair it.",
+        "Look for a sound copy with 'manifest check'. If the fault is in the source, its writer \
+         must repair it.",
     ),
     row(
         18,
         "no such level, node or field; or, where corners are asked for, that node has a position \
          of 2^24 or more or either corner is not finite",
-        "A level or node number beyond the last one; they count from 0.",
-        "'manifest show' tells how many levels and nodes there are.",
+        "A level or node number beyond the last one; they count from 0. Where only the corners \
+         are missing: a position that a 32-bit real may not hold exactly, or a chunk shape or grid \
+         origin so large that a corner passes the greatest real, from a writer or from damaged \
+         bytes.",
+        "'manifest show' tells how many levels and nodes there are. A node without corners has its \
+         position and its fragment all the same; compare its position, the chunk shape and the \
+         grid origin with the source.",
     ),
 ];
 

@@ -96,6 +96,9 @@ pub enum Fault {
         /// What was wrong, one sentence without an end.
         message: String,
     },
+    /// The card that gives the settings was refused or could not be read. It is
+    /// told apart from the inputs.
+    Card(Box<Fault>),
     /// The operating system's error.
     System {
         /// The file or folder.
@@ -136,6 +139,7 @@ impl Fault {
         match self {
             Fault::Refused(_) => Status::No,
             Fault::Use { .. } => Status::Use,
+            Fault::Card(fault) => fault.status(),
             Fault::System { .. } | Fault::ClosedPipe | Fault::Unwritten { .. } => Status::System,
         }
     }
@@ -157,6 +161,7 @@ impl fmt::Display for Fault {
         match self {
             Fault::Refused(refused) => refused.fmt(f),
             Fault::Use { message } => f.write_str(message),
+            Fault::Card(fault) => fault.fmt(f),
             Fault::System { path, done, error } => {
                 write!(f, "{}: cannot be {done}: {error}", shown(path))
             }
@@ -171,11 +176,7 @@ mod tests {
     use super::*;
 
     fn refused(minishard: Option<u64>) -> Refused {
-        let diagnosis = Diagnosis {
-            found: "one".into(),
-            expected: "two".into(),
-            look_at: "three".into(),
-        };
+        let diagnosis = Diagnosis::new("one", "two", "three");
         let refusal = Refusal {
             number: 11,
             minishard,

@@ -8,7 +8,7 @@ macro_rules! sharding {
 settings, which are never assumed:
   --card FILE         sharding and volume from a deposit card; or all of:
   --preshift N        low bits of an id that do not count, 0 to 63
-  --hash NAME         identity or murmur
+  --hash NAME         identity or murmur (also: murmurhash3_x86_128)
   --minishard-bits N  0 to 12
   --shard-bits N      0 to 32
 "
@@ -193,7 +193,8 @@ usage: coronagamba get PATH ID [OPTIONS]
        coronagamba get PATH --cell X,Y,Z [OPTIONS]
 
 PATH is a shard file, or the folder of a deposit: then the id's shard file is
-found by its name. The id of a cell's chunk is the cell's key; --cell needs
+found by its name, and a deposit that has no such file has no such chunk,
+which is said. The id of a cell's chunk is the cell's key; --cell needs
 the volume beside the sharding. Only the id's own minishard is judged. An id
 that is not listed is refused with 12: the chunk is absent.
 
@@ -209,8 +210,9 @@ options:
 ",
     shard!(),
     "
-exit status: 0 the chunk is written; 1 refused or absent; 2 wrong use, or the
-output exists; 3 a file cannot be read or written.
+exit status: 0 the chunk is written; 1 refused or absent, or the deposit lacks
+the id's shard file; 2 wrong use, or the output exists; 3 a file cannot be
+read or written.
 
 example:
   coronagamba get demo/copy-a --cell 1,2,1 --card demo/deposit.card
@@ -225,9 +227,11 @@ Lists all chunks of a shard with their places in the file.
 
 usage: coronagamba list FILE... [OPTIONS]
 
-A line for each chunk: id, minishard, start and length in bytes, counted from
-the file's first byte. Minishards stand in number order, chunks as they are
-stored. A minishard with a fault ends the list of that file with a refusal.
+A header line, then a line for each chunk: id, minishard, start and length in
+bytes, counted from the file's first byte. With several files, a line with the
+file's path stands before each header line. Minishards stand in number order,
+chunks as they are stored. A minishard with a fault ends the list of that file
+with a refusal. For a whole folder, give its files: DIR/*.shard
 
 ",
     sharding!(),
@@ -254,9 +258,10 @@ usage: coronagamba locate X,Y,Z... [OPTIONS]
        coronagamba locate - [OPTIONS]
 
 Cells count chunks from 0 on each axis. '-' reads cells from standard input,
-one a line. Each cell has a line of its own; that of a refused one is
-'refused N', and standard error says why. Whether the chunk is there, 'get'
-tells.
+one a line; an empty last line does not count. Each cell has a line of its
+own: that of a refused one is 'refused N', that of a word or line that is no
+cell is 'wrong', and standard error says why. Whether the chunk is there,
+'get' tells.
 
 ",
     sharding!(),
@@ -266,8 +271,8 @@ options:
 ",
     json!(),
     "
-exit status: 0 all located; 1 one is refused; 2 wrong use; 3 the card or
-standard input cannot be read.
+exit status: 0 all located; 1 one is refused; 2 wrong use, or one is no cell;
+3 the card or standard input cannot be read.
 
 example:
   coronagamba locate 1,2,1 0,0,0 --card demo/deposit.card
@@ -282,8 +287,8 @@ Tells which cell a key belongs to, and which voxels that cell has.
 usage: coronagamba cell KEY... [OPTIONS]
 
 A line for each key: the cell, then its voxels along x, y and z from begin to
-end, end excluded. That of a refused key is 'refused N', and standard error
-says why.
+end, end excluded. That of a refused key is 'refused N', that of a word that
+is no number is 'wrong', and standard error says why.
 
 settings, which are never assumed:
   --card FILE         the volume from a deposit card; or:
@@ -294,8 +299,8 @@ options:
 ",
     json!(),
     "
-exit status: 0 all are cells; 1 one is refused; 2 wrong use; 3 the card cannot
-be read.
+exit status: 0 all are cells; 1 one is refused; 2 wrong use, or one is no
+number; 3 the card cannot be read.
 
 example:
   coronagamba cell 21 0x15 --card demo/deposit.card
@@ -311,8 +316,9 @@ a shard.
 usage: coronagamba name X,Y,Z... [OPTIONS]
        coronagamba name --shard N [OPTIONS]
 
-A line for each cell; that of a refused one is 'refused N', and standard
-error says why. Cells need the volume, --shard needs the sharding.
+A line for each cell; that of a refused one is 'refused N', that of a word
+that is no cell is 'wrong', and standard error says why. Cells need the
+volume, --shard needs the sharding.
 
 ",
     sharding!(),
@@ -323,8 +329,8 @@ options:
 ",
     json!(),
     "
-exit status: 0 all are named; 1 one is refused; 2 wrong use; 3 the card cannot
-be read.
+exit status: 0 all are named; 1 one is refused; 2 wrong use, or one is no
+cell; 3 the card cannot be read.
 
 example:
   coronagamba name 1,2,1 --card demo/deposit.card
@@ -356,7 +362,7 @@ usage: coronagamba card make --out FILE [OPTIONS]
 
 what the card says, all needed but the offset:
   --preshift N        low bits of an id that do not count, 0 to 63
-  --hash NAME         identity or murmur
+  --hash NAME         identity or murmur (also: murmurhash3_x86_128)
   --minishard-bits N  0 to 12
   --shard-bits N      0 to 32
 ",
@@ -436,10 +442,12 @@ scale, vertex offset, node count and the bytes of all its fragments.
 
 usage: coronagamba manifest show FILE [OPTIONS]
 
+Reals have as many digits as give them back exactly when read as 64-bit reals.
+
 options:
-  --nodes             list all nodes: level, node, position, and where the
-                      fragment starts and how many bytes it has, counted from
-                      the first fragment
+  --nodes             list all nodes behind a header line: level, node,
+                      position, and where the fragment starts and how many
+                      bytes it has, counted from the first fragment
 ",
     json!(),
     "

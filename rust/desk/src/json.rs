@@ -10,6 +10,7 @@ pub trait Whole: Display {}
 impl Whole for u8 {}
 impl Whole for u32 {}
 impl Whole for u64 {}
+impl Whole for u128 {}
 impl Whole for i32 {}
 impl Whole for i64 {}
 
@@ -54,18 +55,18 @@ impl Object {
         self
     }
 
-    /// A member that is a finite real, with as many digits as give back the
-    /// very same f32.
+    /// A member that is a finite real. Readers of JSON make an f64 of it, so it
+    /// has as many digits as give back the very same f64.
     pub fn real(mut self, name: &str, value: f32) -> Self {
         self.name(name);
-        let _ = write!(self.text, "{value}");
+        let _ = write!(self.text, "{}", f64::from(value));
         self
     }
 
     /// A member that is an array of finite reals.
     pub fn reals(mut self, name: &str, values: impl IntoIterator<Item = f32>) -> Self {
         self.name(name);
-        array(values, &mut self.text);
+        array(values.into_iter().map(f64::from), &mut self.text);
         self
     }
 
@@ -187,8 +188,11 @@ mod tests {
     fn reals_come_back() {
         let object = Object::new()
             .real("s", -0.0)
-            .reals("r", [1.0, -0.5, 0.1, 16777216.0]);
-        assert_eq!(object.finish(), "{\"s\":-0,\"r\":[1,-0.5,0.1,16777216]}");
+            .reals("r", [1.0, -0.5, 0.1, 134217728.0]);
+        assert_eq!(
+            object.finish(),
+            "{\"s\":-0,\"r\":[1,-0.5,0.10000000149011612,134217728]}"
+        );
     }
 
     #[test]

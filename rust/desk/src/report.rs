@@ -5,6 +5,7 @@ use std::fmt;
 use std::io::{self, BufWriter, Stdout, Write};
 use std::path::Path;
 
+use crate::diagnosis::Diagnosis;
 use crate::fault::{Fault, Refused, Status, Subject};
 use crate::json::Object;
 
@@ -87,14 +88,8 @@ impl Report {
     pub fn complain(&mut self, fault: &Fault) -> Result<(), Fault> {
         self.note(fault.status());
         self.misused |= matches!(fault, Fault::Use { .. });
-        match fault {
-            Fault::Refused(refused) if self.json => self.object(refusal_object(refused)),
-            Fault::System { path, .. } if self.json => self.object(
-                Object::new()
-                    .path(path)
-                    .text("result", "error")
-                    .text("error", &fault.to_string()),
-            ),
+        match fault_object(fault) {
+            Some(object) if self.json => self.object(object),
             _ => {
                 self.flush()?;
                 complaint(fault);
@@ -118,6 +113,22 @@ pub fn complaint(text: impl fmt::Display) {
     let _ = writeln!(io::stderr().lock(), "{text}");
 }
 
+/// A refusal or a system error as a JSON object. That of the card which gives
+/// the settings says so.
+fn fault_object(fault: &Fault) -> Option<Object> {
+    match fault {
+        Fault::Refused(refused) => Some(refusal_object(refused)),
+        Fault::Card(fault) => Some(fault_object(fault)?.text("subject", "card")),
+        Fault::System { path, .. } => Some(
+            Object::new()
+                .path(path)
+                .text("result", "error")
+                .text("error", &fault.to_string()),
+        ),
+        _ => None,
+    }
+}
+
 /// A refusal as a JSON object.
 pub fn refusal_object(refused: &Refused) -> Object {
     let object = match &refused.subject {
@@ -135,11 +146,24 @@ pub fn refusal_members(object: Object, refused: &Refused) -> Object {
     if let Some(minishard) = refused.refusal.minishard {
         object = object.number("minishard", minishard);
     }
+    let object = object.text("sentence", refused.refusal.sentence());
+    diagnosis_members(object, &refused.diagnosis)
+}
+
+/// An object with a diagnosis behind its own members: the sentences, and the
+/// numbers in them that a script may want.
+pub fn diagnosis_members(object: Object, diagnosis: &Diagnosis) -> Object {
+    let mut object = object
+        .text("found", &diagnosis.found)
+        .text("expected", &diagnosis.expected)
+        .text("look_at", &diagnosis.look_at);
+    if let Some(byte) = diagnosis.byte {
+        object = object.number("byte", byte);
+    }
+    if let Some((entry, id)) = diagnosis.entry {
+        object = object.number("entry", entry).number("id", id);
+    }
     object
-        .text("sentence", refused.refusal.sentence())
-        .text("found", &refused.diagnosis.found)
-        .text("expected", &refused.diagnosis.expected)
-        .text("look_at", &refused.diagnosis.look_at)
 }
 
 /// A path in plain output: replacement characters where it is not UTF-8, and
@@ -174,7 +198,6 @@ fn unwritten(error: io::Error) -> Fault {
 #[cfg(test)]
 mod tests {
     use super::*;
-    use crate::diagnosis::Diagnosis;
     use coronagamba::Refusal;
     use std::ffi::OsStr;
     use std::os::unix::ffi::OsStrExt;
@@ -188,9 +211,9 @@ mod tests {
     #[test]
     fn a_refusal_as_an_object() {
         let diagnosis = Diagnosis {
-            found: "f".into(),
-            expected: "e".into(),
-            look_at: "l".into(),
+            byte: Some(460),
+            entry: Some((3, 1 << 64)),
+            ..Diagnosis::new("f", "e", "l")
         };
         let refusal = Refusal {
             number: 11,
@@ -201,7 +224,7 @@ mod tests {
             refusal_object(&refused).finish(),
             "{\"path\":\"0.shard\",\"result\":\"refused\",\"refusal\":11,\"minishard\":2,\
              \"sentence\":\"A chunk ends past the file.\",\"found\":\"f\",\"expected\":\"e\",\
-             \"look_at\":\"l\"}"
+             \"look_at\":\"l\",\"byte\":460,\"entry\":3,\"id\":18446744073709551616}"
         );
     }
 }

@@ -80,7 +80,7 @@ pub fn volume(args: &Args) -> Result<Volume, Fault> {
 
 /// What plain options say a card should hold. Writing the card judges it.
 pub fn for_card(args: &Args) -> Result<Card, Fault> {
-    let given = read(args, &[SHARDING.as_slice(), &EXTENTS].concat())?;
+    let given = plain(args, &[SHARDING.as_slice(), &EXTENTS].concat(), "")?;
     Ok(Card {
         sharding: there(given.sharding),
         volume: there(given.volume),
@@ -110,41 +110,45 @@ fn refused_volume(volume: Volume, refusal: coronagamba::Refusal) -> Fault {
     Refused::asked("settings", refusal, diagnosis).into()
 }
 
-/// Reads the card, or the options of each kind that is needed or begun.
+/// Reads the card, or the options that stand in its place.
 fn read(args: &Args, needed: &[&'static str]) -> Result<Given, Fault> {
-    if let Some(path) = args.value(CARD) {
-        let card = read_card(args, Path::new(path))?;
-        return Ok(Given {
-            sharding: Some(card.sharding),
-            volume: Some(card.volume),
-        });
-    }
+    let Some(path) = args.value(CARD) else {
+        let hint = " (a deposit card gives them all: --card FILE)";
+        return plain(args, needed, hint);
+    };
+    let card = read_card(args, Path::new(path))?;
+    Ok(Given {
+        sharding: Some(card.sharding),
+        volume: Some(card.volume),
+    })
+}
+
+/// Reads the options of each kind that is needed or begun. The hint stands
+/// behind the names of missing ones.
+fn plain(args: &Args, needed: &[&'static str], hint: &str) -> Result<Given, Fault> {
     let begun = |name: &&str| args.flag(name) || needed.contains(name);
     let with_sharding = SHARDING.iter().any(begun);
     let with_volume = EXTENTS.iter().any(begun) || args.flag(OFFSET);
-    all_there(args, with_sharding, with_volume)?;
+    let missing = missing(args, with_sharding, with_volume);
+    if !missing.is_empty() {
+        return Err(Fault::wrong_use(format!(
+            "settings are never assumed; missing: {}{hint}",
+            missing.join(", ")
+        )));
+    }
     Ok(Given {
         sharding: with_sharding.then(|| sharding(args)).transpose()?,
         volume: with_volume.then(|| extents(args)).transpose()?,
     })
 }
 
-/// Complains of all missing options at once.
-fn all_there(args: &Args, with_sharding: bool, with_volume: bool) -> Result<(), Fault> {
+/// All options of these kinds that are missing, so that one complaint names
+/// them.
+fn missing(args: &Args, with_sharding: bool, with_volume: bool) -> Vec<&'static str> {
     let sharding = SHARDING.iter().filter(|_| with_sharding);
     let volume = EXTENTS.iter().filter(|_| with_volume);
-    let missing: Vec<&str> = sharding
-        .chain(volume)
-        .copied()
-        .filter(|name| !args.flag(name))
-        .collect();
-    if missing.is_empty() {
-        return Ok(());
-    }
-    Err(Fault::wrong_use(format!(
-        "settings are never assumed; missing: {} (a deposit card gives them all: --card FILE)",
-        missing.join(", ")
-    )))
+    let needed = sharding.chain(volume).copied();
+    needed.filter(|name| !args.flag(name)).collect()
 }
 
 /// Reads the card of a deposit.
@@ -155,7 +159,9 @@ fn read_card(args: &Args, path: &Path) -> Result<Card, Fault> {
             option.name
         )));
     }
-    card_in(path, &read_whole(path)?)
+    read_whole(path)
+        .and_then(|bytes| card_in(path, &bytes))
+        .map_err(|fault| Fault::Card(Box::new(fault)))
 }
 
 /// The card in a file's bytes.
@@ -177,13 +183,13 @@ fn sharding(args: &Args) -> Result<Sharding, Fault> {
     })
 }
 
-/// The number of a hash, by its name.
+/// The number of a hash, by its name: the archive's or the published format's.
 fn hash(word: &OsStr) -> Result<u8, Fault> {
     match word.to_str() {
         Some("identity") => Ok(0),
-        Some("murmur") => Ok(1),
+        Some("murmur" | "murmurhash3_x86_128") => Ok(1),
         _ => Err(Fault::wrong_use(format!(
-            "--hash: '{}' is neither identity nor murmur",
+            "--hash: '{}' is neither identity nor murmur (murmurhash3_x86_128)",
             shown(Path::new(word))
         ))),
     }
@@ -240,6 +246,8 @@ mod tests {
         assert_eq!(found, Volume::new([100, 90, 80], [64, 32, 16], [-64, 0, 7]));
         assert_eq!(of_shards(&all).unwrap().volume, Some(found));
         assert_eq!(volume(&all).unwrap(), found);
+        let published = args(&SHARDING.replace("murmur", "murmurhash3_x86_128"));
+        assert_eq!(of_shards(&published).unwrap().sharding, ALLOWED);
         let without_offset = volume(&args(VOLUME)).unwrap();
         assert_eq!(without_offset.offset, Offset::default());
     }
@@ -274,8 +282,8 @@ mod tests {
             "--preshift: '256' is not a number from 0 to 255"
         );
         assert_eq!(
-            told("murmur", "murmurhash3_x86_128"),
-            "--hash: 'murmurhash3_x86_128' is neither identity nor murmur"
+            told("murmur", "md5"),
+            "--hash: 'md5' is neither identity nor murmur (murmurhash3_x86_128)"
         );
         let volume = |from, to| complaint(volume(&args(&VOLUME.replace(from, to))), 2);
         assert!(volume("100,", "4294967296,").starts_with("--size: '4294967296' is not"));

@@ -2,7 +2,7 @@
 
 use coronagamba::{Bounds, Cell, Refusal, Volume};
 
-use super::{cell_text, tell_refused, Command};
+use super::{answer, cell_text, tell_refused, Command};
 use crate::args::{flag, number, Args};
 use crate::diagnosis;
 use crate::fault::{Fault, Refused};
@@ -23,7 +23,9 @@ fn run(args: &Args, report: &mut Report) -> Result<(), Fault> {
     let words = args.at_least_one("KEY")?;
     let volume = settings::with_keys(settings::volume(args)?)?;
     for word in words {
-        tell(report, &volume, number(word, "KEY")?)?;
+        answer(report, word, number(word, "KEY"), |report, key| {
+            tell(report, &volume, key)
+        })?;
     }
     Ok(())
 }

@@ -1,5 +1,7 @@
 //! `get`: the bytes of one chunk.
 
+use std::fs;
+use std::io::ErrorKind;
 use std::path::{Path, PathBuf};
 
 use coronagamba::{Shard, Sharding};
@@ -7,12 +9,12 @@ use coronagamba::{Shard, Sharding};
 use super::{cell_of, Command};
 use crate::args::{flag, number, value, Args};
 use crate::diagnosis;
-use crate::fault::{Fault, Refused};
+use crate::fault::{Fault, Refused, Status};
 use crate::files::{one_place, read_whole};
 use crate::help;
 use crate::naming::number_of_file;
 use crate::output::write_new;
-use crate::report::{shown, Report};
+use crate::report::{complaint, shown, Report};
 use crate::settings;
 
 /// The command.
@@ -32,8 +34,12 @@ pub const COMMAND: Command = Command {
 };
 
 fn run(args: &Args, report: &mut Report) -> Result<(), Fault> {
-    let (path, sharding, id) = asked(args)?;
-    let (path, number) = shard_file(args, &sharding, path, id)?;
+    let (asked, sharding, id) = asked(args)?;
+    let (path, number) = shard_file(args, &sharding, asked, id)?;
+    if asked.is_dir() && is_missing(&path) {
+        tell_missing(report, asked, &path, id);
+        return Ok(());
+    }
     let out = args.value("--out").map(Path::new);
     if let Some(out) = out {
         not_an_input(out, &[Some(&path), args.value("--card").map(Path::new)])?;
@@ -94,6 +100,24 @@ fn shard_file(
     let number = sharding.place(id).map_err(refused)?.shard;
     let name = sharding.shard_name(number).map_err(refused)?;
     Ok((path.join(name), number))
+}
+
+/// Whether there is nothing under this name, not even a link that leads
+/// nowhere.
+fn is_missing(path: &Path) -> bool {
+    matches!(fs::symlink_metadata(path), Err(error) if error.kind() == ErrorKind::NotFound)
+}
+
+/// Tells that a deposit lacks an id's shard: to whoever asks for a chunk this
+/// is a plain no, and no error of the system.
+fn tell_missing(report: &mut Report, folder: &Path, file: &Path, id: u64) {
+    report.note(Status::No);
+    let name = file.file_name().unwrap_or_default();
+    complaint(format_args!(
+        "{}: the deposit has no {}, in which id {id} would stand",
+        shown(folder),
+        shown(Path::new(name))
+    ));
 }
 
 /// Keeps an output from taking an input's place, by whatever path.

@@ -14,6 +14,7 @@ use crate::help;
 use crate::json::Object;
 use crate::naming::number_of_file;
 use crate::report::{shown, Report};
+use crate::round::tell_fault;
 use crate::settings;
 
 /// The command.
@@ -39,8 +40,10 @@ fn run(args: &Args, report: &mut Report) -> Result<(), Fault> {
         if files.len() > 1 && !report.json() {
             report.line(format_args!("{}:", shown(path)))?;
         }
-        let listed = list(args, report, &sharding, path, only);
-        report.go_on(listed)?;
+        match list(args, report, &sharding, path, only) {
+            Err(fault) if !fault.ends_the_run() => tell_fault(path, &fault, report)?,
+            listed => listed?,
+        }
     }
     Ok(())
 }
@@ -54,8 +57,11 @@ fn list(
     only: Option<u64>,
 ) -> Result<(), Fault> {
     if path.is_dir() {
-        let error = io::ErrorKind::IsADirectory.into();
-        return Err(Fault::system(path, "listed", error));
+        return Err(Fault::wrong_use(format!(
+            "{}: is a folder; give its shard files: {}",
+            shown(path),
+            shown(&path.join("*.shard"))
+        )));
     }
     let number = number_of_file(args, sharding, path)?;
     let file = read_whole(path)?;
@@ -67,7 +73,7 @@ fn list(
     if !report.json() {
         report.line("ID MINISHARD START LENGTH")?;
     }
-    let about_file = Object::new().path(path);
+    let about_file = Object::new().path(path).text("result", "chunk");
     let mut numbers = Vec::new();
     for minishard in minishards {
         let listed = fill(&shard, minishard, &mut numbers, path)?;

@@ -7,7 +7,7 @@ use std::path::Path;
 
 use coronagamba::{Cell, Place, Refusal, Sharding, Volume};
 
-use super::{cell_object, cell_of, cell_text, tell_refused, Command};
+use super::{answer, cell_object, cell_of, cell_text, tell_refused, Command};
 use crate::args::{flag, Args};
 use crate::diagnosis;
 use crate::fault::{Fault, Refused};
@@ -27,8 +27,9 @@ fn run(args: &Args, report: &mut Report) -> Result<(), Fault> {
     let words = args.at_least_one("X,Y,Z")?;
     let (sharding, volume) = settings::of_cells(args)?;
     let mut each = |word: &OsStr, what: &str| {
-        let cell = cell_of(word, what)?;
-        tell(report, &sharding, &volume, cell)
+        answer(report, word, cell_of(word, what), |report, cell| {
+            tell(report, &sharding, &volume, cell)
+        })
     };
     words.iter().try_for_each(|word| match word.to_str() {
         Some("-") => each_line(&mut each),
@@ -38,18 +39,19 @@ fn run(args: &Args, report: &mut Report) -> Result<(), Fault> {
 
 /// Takes cells from standard input, one a line.
 fn each_line(each: &mut impl FnMut(&OsStr, &str) -> Result<(), Fault>) -> Result<(), Fault> {
+    let unread = |error| Fault::system(Path::new("standard input"), "read", error);
     let mut input = io::stdin().lock();
     let mut line = Vec::new();
     for number in 1.. {
         line.clear();
-        let read = input.read_until(b'\n', &mut line);
-        let count =
-            read.map_err(|error| Fault::system(Path::new("standard input"), "read", error))?;
-        if count == 0 {
+        input.read_until(b'\n', &mut line).map_err(unread)?;
+        let word = line.trim_ascii();
+        // An empty last line is no question: editors and scripts leave one.
+        if word.is_empty() && input.fill_buf().map_err(unread)?.is_empty() {
             break;
         }
-        let word = OsStr::from_bytes(line.trim_ascii());
-        each(word, &format!("line {number} of standard input"))?;
+        let what = format!("line {number} of standard input");
+        each(OsStr::from_bytes(word), &what)?;
     }
     Ok(())
 }

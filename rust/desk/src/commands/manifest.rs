@@ -12,7 +12,7 @@ use crate::fault::{Fault, Refused, Status};
 use crate::files::read_whole;
 use crate::help;
 use crate::json::Object;
-use crate::report::{counted, shown, Report};
+use crate::report::{counted, diagnosis_members, shown, Report};
 
 /// `manifest show`.
 pub const SHOW: Command = Command {
@@ -91,14 +91,14 @@ fn show(args: &Args, report: &mut Report) -> Result<(), Fault> {
     }
     show_head(report, path, &manifest, &levels)?;
     for (number, (level, size)) in levels.iter().zip(sizes).enumerate() {
-        show_level(report, number, level, size)?;
+        show_level(report, path, number, level, size)?;
     }
     if args.flag("--nodes") {
         if !report.json() {
             report.line("LEVEL NODE X,Y,Z START SIZE")?;
         }
         for visit in manifest.nodes().map_err(refused)? {
-            show_node(report, visit)?;
+            show_node(report, path, visit)?;
         }
     }
     Ok(())
@@ -136,10 +136,18 @@ fn show_head(
 }
 
 /// The line of a level; `size` is that of all its fragments.
-fn show_level(report: &mut Report, number: usize, level: &Level, size: u64) -> Result<(), Fault> {
+fn show_level(
+    report: &mut Report,
+    path: &Path,
+    number: usize,
+    level: &Level,
+    size: u64,
+) -> Result<(), Fault> {
     if report.json() {
         return report.object(
             Object::new()
+                .path(path)
+                .text("result", "level")
                 .number("level", number as u64)
                 .real("scale", level.scale)
                 .reals("vertex_offset", level.vertex_offset)
@@ -149,23 +157,19 @@ fn show_level(report: &mut Report, number: usize, level: &Level, size: u64) -> R
     }
     report.line(format_args!(
         "  level {number}: scale {}, vertex offset {}, {}, {size} fragment bytes",
-        level.scale,
+        f64::from(level.scale),
         reals(level.vertex_offset),
         counted(u64::from(level.nodes), "node")
     ))
 }
 
 /// The line of a node among all.
-fn show_node(report: &mut Report, visit: Visit) -> Result<(), Fault> {
+fn show_node(report: &mut Report, path: &Path, visit: Visit) -> Result<(), Fault> {
     let Visit { level, index, node } = visit;
     let [x, y, z] = node.position;
     if report.json() {
-        return report.object(node_object(
-            Object::new(),
-            u64::from(level),
-            u64::from(index),
-            &node,
-        ));
+        let (level, index) = (u64::from(level), u64::from(index));
+        return report.object(node_object(path, level, index, &node));
     }
     report.line(format_args!(
         "{level} {index} {x},{y},{z} {} {}",
@@ -173,9 +177,11 @@ fn show_node(report: &mut Report, visit: Visit) -> Result<(), Fault> {
     ))
 }
 
-/// An object with the members of a node.
-fn node_object(object: Object, level: u64, index: u64, node: &Node) -> Object {
-    object
+/// A node as a JSON object.
+fn node_object(path: &Path, level: u64, index: u64, node: &Node) -> Object {
+    Object::new()
+        .path(path)
+        .text("result", "node")
         .number("level", level)
         .number("node", index)
         .numbers("position", node.position)
@@ -199,8 +205,7 @@ fn node(args: &Args, report: &mut Report) -> Result<(), Fault> {
         report.note(Status::No);
     }
     if report.json() {
-        let object = Object::new().path(path).text("result", "node");
-        let object = node_object(object, level, index, &node);
+        let object = node_object(path, level, index, &node);
         return report.object(corners_members(object, &corners));
     }
     let [x, y, z] = node.position;
@@ -218,11 +223,10 @@ fn node(args: &Args, report: &mut Report) -> Result<(), Fault> {
 fn corners_members(object: Object, corners: &Result<Corners, Refused>) -> Object {
     match corners {
         Ok(Corners { near, far }) => object.reals("near", *near).reals("far", *far),
-        Err(refused) => object
-            .number("corners_refusal", refused.refusal.number)
-            .text("found", &refused.diagnosis.found)
-            .text("expected", &refused.diagnosis.expected)
-            .text("look_at", &refused.diagnosis.look_at),
+        Err(refused) => {
+            let object = object.number("corners_refusal", refused.refusal.number);
+            diagnosis_members(object, &refused.diagnosis)
+        }
     }
 }
 
@@ -240,7 +244,9 @@ fn corners_text(corners: &Result<Corners, Refused>) -> String {
     }
 }
 
-/// Three reals with commas, each with as many digits as give it back.
-fn reals([x, y, z]: [f32; 3]) -> String {
+/// Three reals with commas, as in JSON: as f64, since the fewest digits that
+/// give back an f32 may be another number.
+fn reals(values: [f32; 3]) -> String {
+    let [x, y, z] = values.map(f64::from);
     format!("{x},{y},{z}")
 }

@@ -1,6 +1,7 @@
 //! The commands.
 
 use std::ffi::OsStr;
+use std::path::Path;
 
 use coronagamba::Cell;
 
@@ -102,6 +103,31 @@ fn cell_object(Cell { x, y, z }: Cell) -> Object {
 /// A cell as it is written on the command line.
 fn cell_text(Cell { x, y, z }: Cell) -> String {
     format!("{x},{y},{z}")
+}
+
+/// Answers one of many questions; `asked` is what was read from its word. A
+/// word that is no question is complained of, and `wrong` stands in the place
+/// of its answer, so that answers can be put beside questions.
+fn answer<T>(
+    report: &mut Report,
+    word: &OsStr,
+    asked: Result<T, Fault>,
+    tell: impl FnOnce(&mut Report, T) -> Result<(), Fault>,
+) -> Result<(), Fault> {
+    let fault = match asked {
+        Ok(asked) => return tell(report, asked),
+        Err(fault) => fault,
+    };
+    report.complain(&fault)?;
+    if !report.json() {
+        return report.line("wrong");
+    }
+    report.object(
+        Object::new()
+            .named_path("question", Path::new(word))
+            .text("result", "wrong")
+            .text("error", &fault.to_string()),
+    )
 }
 
 /// Tells a refusal where each question has a line of its own: plain, `refused

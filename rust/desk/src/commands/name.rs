@@ -2,7 +2,7 @@
 
 use coronagamba::{Cell, Volume};
 
-use super::{cell_object, cell_of, cell_text, tell_refused, Command};
+use super::{answer, cell_object, cell_of, cell_text, tell_refused, Command};
 use crate::args::{flag, value, Args};
 use crate::diagnosis;
 use crate::fault::{Fault, Refused};
@@ -27,7 +27,9 @@ fn run(args: &Args, report: &mut Report) -> Result<(), Fault> {
     let words = args.at_least_one("X,Y,Z (or --shard N)")?;
     let volume = settings::volume(args)?;
     for word in words {
-        name_chunk(report, &volume, cell_of(word, "X,Y,Z")?)?;
+        answer(report, word, cell_of(word, "X,Y,Z"), |report, cell| {
+            name_chunk(report, &volume, cell)
+        })?;
     }
     Ok(())
 }

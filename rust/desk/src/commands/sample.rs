@@ -25,6 +25,9 @@ pub const COMMAND: Command = Command {
 
 fn run(args: &Args, report: &mut Report) -> Result<(), Fault> {
     let [folder] = args.exactly(["DIR"])?;
+    if folder.is_empty() {
+        return Err(Fault::wrong_use("DIR is an empty word; '.' is this folder"));
+    }
     let folder = Path::new(folder);
     let parts = parts().map_err(not_made)?;
     claim(folder)?;
@@ -61,14 +64,26 @@ fn make(folder: &Path) -> Result<(), Fault> {
 fn write(folder: &Path, part: &Part) -> Result<(), Fault> {
     let path = folder.join(part.name);
     match &part.files {
-        Files::One(bytes) => write_new(&path, false, bytes),
+        Files::One(bytes) => write_file(&path, bytes),
         Files::Folder(files) => {
             make(&path)?;
             files
                 .iter()
-                .try_for_each(|(name, bytes)| write_new(&path.join(name), false, bytes))
+                .try_for_each(|(name, bytes)| write_file(&path.join(name), bytes))
         }
     }
+}
+
+/// Writes a file of the sample. One that appeared meanwhile is left, and no
+/// --force is offered: a sample never overwrites.
+fn write_file(path: &Path, bytes: &[u8]) -> Result<(), Fault> {
+    write_new(path, false, bytes).map_err(|fault| match fault {
+        Fault::Use { .. } => Fault::wrong_use(format!(
+            "{}: exists; a sample goes into a new or empty folder",
+            shown(path)
+        )),
+        fault => fault,
+    })
 }
 
 /// What to try on the sample.
@@ -86,10 +101,26 @@ fn next(folder: &str) -> String {
 /// The sample's numbers are fixed and allowed, so this tells of a broken
 /// library.
 fn not_made(refusal: Refusal) -> Fault {
-    let diagnosis = Diagnosis {
-        found: "the library refuses the sample's own numbers".into(),
-        expected: "a sample of allowed numbers".into(),
-        look_at: "how this program was built".into(),
-    };
+    let diagnosis = Diagnosis::new(
+        "the library refuses the sample's own numbers",
+        "a sample of allowed numbers",
+        "how this program was built",
+    );
     Refused::asked("the sample deposit", refusal, diagnosis).into()
+}
+
+#[cfg(test)]
+mod tests {
+    use super::*;
+    use crate::trial::Folder;
+
+    #[test]
+    fn a_file_that_appeared_meanwhile_is_left() {
+        let folder = Folder::new("sample-meanwhile");
+        let path = folder.write("deposit.card", b"other");
+        let told = write_file(&path, b"card").unwrap_err();
+        assert_eq!(told.status() as u8, 2);
+        assert!(!told.to_string().contains("--force"), "{told}");
+        assert_eq!(fs::read(&path).unwrap(), b"other");
+    }
 }

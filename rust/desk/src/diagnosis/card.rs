@@ -3,7 +3,7 @@
 use coronagamba::{Extents, Offset, Refusal, Sharding, Volume};
 
 use super::places::{bad_fields, told_bits, told_fields, told_zeros, zero_extents};
-use super::{u32_at, Diagnosis};
+use super::{u32_at, Diagnosis, Place};
 use crate::report::counted;
 
 /// A field of a card.
@@ -30,9 +30,9 @@ const HEAD: usize = 3;
 /// Bytes of a card without voxel offset.
 const SHORT: usize = 46;
 /// Where the bodies of volume size, chunk size and voxel offset begin.
-const SIZE: u64 = 19;
-const CHUNK: u64 = 34;
-const OFFSET: u64 = 49;
+const SIZE: usize = 19;
+const CHUNK: usize = 34;
+const OFFSET: usize = 49;
 
 const fn field(tag: u8, name: &'static str, length: u16) -> Field {
     Field { tag, name, length }
@@ -49,8 +49,8 @@ pub fn of_card(bytes: &[u8], refusal: Refusal) -> Diagnosis {
 }
 
 /// A byte of the card and what stands there.
-fn byte(place: impl std::fmt::Display, what: &str) -> String {
-    format!("byte {place} of the card ({what})")
+fn byte(place: usize, what: &str) -> Place {
+    Place::byte(place as u64, "the card", what)
 }
 
 /// The first place at which a card is malformed.
@@ -134,12 +134,9 @@ fn zero_offset(bytes: &[u8]) -> Option<Diagnosis> {
 }
 
 /// The three numbers at a place.
-fn numbers(bytes: &[u8], place: u64) -> Option<[u32; 3]> {
-    Some([
-        u32_at(bytes, place)?,
-        u32_at(bytes, place + 4)?,
-        u32_at(bytes, place + 8)?,
-    ])
+fn numbers(bytes: &[u8], place: usize) -> Option<[u32; 3]> {
+    let number = |axis: u64| u32_at(bytes, place as u64 + 4 * axis);
+    Some([number(0)?, number(1)?, number(2)?])
 }
 
 /// Refusal 1, 2 or 3 of what a card of the right form says.
@@ -148,32 +145,32 @@ fn of_meaning(bytes: &[u8], number: u8) -> Option<Diagnosis> {
     Some(match number {
         1 => {
             let bad = bad_fields(&sharding(bytes)?);
-            let places: Vec<String> = bad
+            let places = bad
                 .iter()
                 .map(|bad| byte(4 * bad.place + HEAD, FIELDS[bad.place].name))
                 .collect();
-            told_fields(&bad, places.join(", "))
+            told_fields(&bad, Place::all(places))
         }
         2 => {
             let zeros = zero_extents(&volume);
-            let places: Vec<String> = zeros.iter().map(|zero| extent_place(*zero)).collect();
-            told_zeros(&zeros, places.join(", "))
+            let places = zeros.iter().map(|zero| extent_place(*zero)).collect();
+            told_zeros(&zeros, Place::all(places))
         }
         _ => told_bits(
             &volume,
-            format!("bytes {SIZE} and {CHUNK} of the card (volume size and chunk size)"),
+            Place::all(vec![byte(SIZE, "volume size"), byte(CHUNK, "chunk size")]),
         ),
     })
 }
 
 /// Where an extent stands, of the six.
-fn extent_place(place: usize) -> String {
+fn extent_place(place: usize) -> Place {
     let (begin, name) = if place < 3 {
         (SIZE, "volume size")
     } else {
         (CHUNK, "chunk size")
     };
-    byte(begin + 4 * (place as u64 % 3), name)
+    byte(begin + 4 * (place % 3), name)
 }
 
 /// The sharding of a card of the right form.
@@ -320,7 +317,7 @@ mod tests {
         );
         assert_eq!(
             bits.look_at,
-            "bytes 19 and 34 of the card (volume size and chunk size)"
+            "byte 19 of the card (volume size), byte 34 of the card (chunk size)"
         );
     }
 }

@@ -4,7 +4,7 @@ use std::cmp::Ordering;
 
 use coronagamba::Refusal;
 
-use super::{commas, u32_at, Diagnosis};
+use super::{commas, u32_at, Diagnosis, Place};
 use crate::report::counted;
 
 /// The most bytes of a manifest.
@@ -44,8 +44,8 @@ pub fn of_node(bytes: &[u8], level: u64, node: u64, refusal: Refusal) -> Diagnos
 }
 
 /// A byte of the manifest and what stands there.
-fn byte(place: u64, what: &str) -> String {
-    format!("byte {place} of the manifest ({what})")
+fn byte(place: u64, what: &str) -> Place {
+    Place::byte(place, "the manifest", what)
 }
 
 /// A manifest as this reading sees it.
@@ -91,7 +91,9 @@ impl Seen<'_> {
         if length > MOST_BYTES {
             let found = format!("a manifest of more than {MOST_BYTES} bytes");
             let expected = format!("at most {MOST_BYTES} bytes");
-            return Some(Diagnosis::new(found, expected, at_length));
+            let look_at = "the manifest's length: does it hold the fragments too, or is it \
+                           another kind of file?";
+            return Some(Diagnosis::new(found, expected, look_at));
         }
         if length < REALS {
             let expected = "at least 28 bytes: chunk shape, grid origin and level count";
@@ -108,17 +110,22 @@ impl Seen<'_> {
         let head = REALS + 20 * levels;
         if length < head {
             let expected = format!("at least 28 + 20 x {levels} = {head} bytes, for its levels");
-            let look_at = format!("{} and the manifest's length", byte(LEVELS, "level count"));
+            let look_at = byte(LEVELS, "level count").and(" and the manifest's length");
             return Some(Diagnosis::new(found, expected, look_at));
         }
         let nodes: Option<u64> = (0..levels).map(|level| self.nodes(level)).sum();
         let (nodes, counts) = (nodes?, self.counts()?);
         let whole = head + 16 * nodes;
+        let look_at = match levels {
+            // Without levels there are no node counts either.
+            0 => byte(whole, "the first byte too many").and(" and the level count at byte 24"),
+            _ => byte(counts, "node counts").and(" and the manifest's length"),
+        };
         (length != whole).then(|| {
             Diagnosis::new(
                 found,
                 format!("28 + 20 x {levels} levels + 16 x {nodes} nodes = {whole} bytes"),
-                format!("{} and the manifest's length", byte(counts, "node counts")),
+                look_at,
             )
         })
     }
@@ -135,7 +142,7 @@ impl Seen<'_> {
                 continue;
             }
             return Some(Diagnosis::new(
-                format!("{real} as {}", real_name(place, levels)),
+                format!("{} as {}", f64::from(real), real_name(place, levels)),
                 if shape {
                     "a finite number above 0"
                 } else {
@@ -236,13 +243,17 @@ impl Seen<'_> {
             let far = near + shape * scale;
             if !(near.is_finite() && far.is_finite()) {
                 return Some(Diagnosis::new(
-                    format!("corners {near} and {far} along {}", AXES[axis]),
-                    "corners that are finite numbers",
                     format!(
-                        "{}; and chunk shape and grid origin along {}",
-                        position_of(axis),
+                        "corners {} and {} along {}",
+                        f64::from(near),
+                        f64::from(far),
                         AXES[axis]
                     ),
+                    "corners that are finite numbers",
+                    position_of(axis).and(format_args!(
+                        "; and chunk shape and grid origin along {}",
+                        AXES[axis]
+                    )),
                 ));
             }
         }
@@ -369,6 +380,21 @@ mod tests {
         );
         let long = told(&vec![0; (1 << 24) + 1], 15);
         assert_eq!(long.expected, "at most 16777216 bytes");
+        assert!(!long.look_at.contains("cut short"), "{}", long.look_at);
+        // Shape 8,8,8, no levels, and a byte behind them.
+        let mut empty = sound()[..28].to_vec();
+        empty[24] = 0;
+        assert_eq!(Manifest::open(&empty).check(), Ok(()));
+        empty.push(0);
+        let surplus = told(&empty, 15);
+        assert_eq!(
+            surplus.expected,
+            "28 + 20 x 0 levels + 16 x 0 nodes = 28 bytes"
+        );
+        assert_eq!(
+            surplus.look_at,
+            "byte 28 of the manifest (the first byte too many) and the level count at byte 24"
+        );
     }
 
     #[test]
@@ -447,7 +473,7 @@ mod tests {
         let wide = told_node(&changed(0, 254 << 23), 0, 1);
         assert_eq!(
             wide.found,
-            "corners 170141180000000000000000000000000000000 and inf along x"
+            "corners 170141183460469230000000000000000000000 and inf along x"
         );
         assert!(wide
             .look_at

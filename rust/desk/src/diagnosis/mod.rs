@@ -25,19 +25,35 @@ pub struct Diagnosis {
     pub expected: String,
     /// Where to look.
     pub look_at: String,
+    /// The byte to look at, where there is one; the first of them.
+    pub byte: Option<u64>,
+    /// The entry of the minishard index that is at fault, and its id, which may
+    /// need more than 64 bits.
+    pub entry: Option<(u64, u128)>,
 }
 
 impl Diagnosis {
     /// A diagnosis in its three parts.
-    fn new(
+    pub fn new(
         found: impl Into<String>,
         expected: impl Into<String>,
-        look_at: impl Into<String>,
+        look_at: impl Into<Place>,
     ) -> Self {
+        let Place { words, byte } = look_at.into();
         Diagnosis {
             found: found.into(),
             expected: expected.into(),
-            look_at: look_at.into(),
+            look_at: words,
+            byte,
+            entry: None,
+        }
+    }
+
+    /// The same, about this entry of a minishard index and its id.
+    fn of_entry(self, entry: u64, id: u128) -> Self {
+        Diagnosis {
+            entry: Some((entry, id)),
+            ..self
         }
     }
 
@@ -49,6 +65,48 @@ impl Diagnosis {
             "that both readings agree",
             "the whole input; keep it and report it to the keepers of the library",
         )
+    }
+}
+
+/// Where to look: in words, and the byte that they name.
+pub struct Place {
+    words: String,
+    byte: Option<u64>,
+}
+
+impl Place {
+    /// A byte of something, and what stands there.
+    fn byte(place: u64, of: &str, what: &str) -> Self {
+        Place {
+            words: format!("byte {place} of {of} ({what})"),
+            byte: Some(place),
+        }
+    }
+
+    /// Several places with commas; the byte is that of the first.
+    fn all(places: Vec<Place>) -> Self {
+        let words: Vec<&str> = places.iter().map(|place| place.words.as_str()).collect();
+        Place {
+            words: words.join(", "),
+            byte: places.first().and_then(|place| place.byte),
+        }
+    }
+
+    /// This place, with more words behind it.
+    fn and(self, more: impl std::fmt::Display) -> Self {
+        Place {
+            words: format!("{}{more}", self.words),
+            ..self
+        }
+    }
+}
+
+impl<T: Into<String>> From<T> for Place {
+    fn from(words: T) -> Self {
+        Place {
+            words: words.into(),
+            byte: None,
+        }
     }
 }
 

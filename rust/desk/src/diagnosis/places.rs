@@ -2,7 +2,7 @@
 
 use coronagamba::{Cell, Extents, Refusal, Sharding, Volume};
 
-use super::{commas, Diagnosis};
+use super::{commas, Diagnosis, Place};
 
 /// The most key bits of a grid.
 const MOST_KEY_BITS: u32 = 64;
@@ -59,7 +59,7 @@ pub fn of_sharding(sharding: &Sharding) -> Diagnosis {
 }
 
 /// Refusal 1 with its place.
-pub(super) fn told_fields(bad: &[BadField], look_at: String) -> Diagnosis {
+pub(super) fn told_fields(bad: &[BadField], look_at: impl Into<Place>) -> Diagnosis {
     if bad.is_empty() {
         return Diagnosis::not_found_again();
     }
@@ -86,7 +86,7 @@ pub(super) fn zero_extents(volume: &Volume) -> Vec<usize> {
 }
 
 /// Refusal 2 for extents, with its place.
-pub(super) fn told_zeros(zeros: &[usize], look_at: String) -> Diagnosis {
+pub(super) fn told_zeros(zeros: &[usize], look_at: impl Into<Place>) -> Diagnosis {
     let names: Vec<&str> = zeros.iter().map(|place| EXTENT_NAMES[*place]).collect();
     Diagnosis::new(
         format!("0 as {}", names.join(" and ")),
@@ -105,13 +105,13 @@ pub fn of_volume(volume: &Volume, refusal: Refusal) -> Diagnosis {
             let options: Vec<&str> = size.into_iter().chain(chunk).collect();
             told_zeros(&zeros, format!("the settings, {}", options.join(", ")))
         }
-        3 => told_bits(volume, "the settings, --size and --chunk".into()),
+        3 => told_bits(volume, "the settings, --size and --chunk"),
         _ => Diagnosis::not_found_again(),
     }
 }
 
 /// Refusal 3 with its place.
-pub(super) fn told_bits(volume: &Volume, look_at: String) -> Diagnosis {
+pub(super) fn told_bits(volume: &Volume, look_at: impl Into<Place>) -> Diagnosis {
     let Some(grid) = grid(volume) else {
         return Diagnosis::not_found_again();
     };

@@ -2,7 +2,7 @@
 
 use coronagamba::{Refusal, Sharding};
 
-use super::{of_shard_number, of_sharding, u64_at, Diagnosis};
+use super::{of_shard_number, of_sharding, u64_at, Diagnosis, Place};
 use crate::report::counted;
 
 /// The most bytes of a shard and of a settled form.
@@ -88,8 +88,8 @@ fn told(found: Option<Diagnosis>) -> Diagnosis {
 }
 
 /// A byte of the file and what stands there.
-fn byte(place: u64, what: &str) -> String {
-    format!("byte {place} of the file ({what})")
+fn byte(place: u64, what: &str) -> Place {
+    Place::byte(place, "the file", what)
 }
 
 impl Seen<'_> {
@@ -267,14 +267,15 @@ impl Seen<'_> {
                     continue;
                 }
             };
-            return Some(Diagnosis::new(
+            let told = Diagnosis::new(
                 found,
                 format!(
                     "each id greater than the one before it, at most {}",
                     u64::MAX
                 ),
                 byte(entry.id_step, &format!("id steps of minishard {minishard}")),
-            ));
+            );
+            return Some(told.of_entry(entry.place, entry.id));
         }
         None
     }
@@ -285,7 +286,7 @@ impl Seen<'_> {
             let id = u64::try_from(entry.id).ok()?;
             let place = self.sharding.place(id).ok()?;
             if place.shard != self.number || place.minishard != minishard {
-                return Some(Diagnosis::new(
+                let told = Diagnosis::new(
                     format!(
                         "entry {} has id {id}, which belongs to minishard {} of shard {} ({})",
                         entry.place,
@@ -294,11 +295,10 @@ impl Seen<'_> {
                         self.sharding.shard_name(place.shard).unwrap_or_default()
                     ),
                     format!("ids of minishard {minishard} of shard {}", self.number),
-                    format!(
-                        "{}; and the settings, if many ids are elsewhere",
-                        byte(entry.id_step, &format!("id steps of minishard {minishard}"))
-                    ),
-                ));
+                    byte(entry.id_step, &format!("id steps of minishard {minishard}"))
+                        .and("; and the settings, if many ids are elsewhere"),
+                );
+                return Some(told.of_entry(entry.place, entry.id));
             }
         }
         None
@@ -317,7 +317,7 @@ impl Seen<'_> {
         } else {
             byte(entry.size, &format!("sizes of minishard {minishard}"))
         };
-        Some(Diagnosis::new(
+        let told = Diagnosis::new(
             format!(
                 "entry {}, id {}: its chunk starts at byte {} and ends at byte {}, the file ends \
                  at byte {length}",
@@ -325,7 +325,8 @@ impl Seen<'_> {
             ),
             format!("an end of at most {length}"),
             look_at,
-        ))
+        );
+        Some(told.of_entry(entry.place, entry.id))
     }
 
     /// Refusal 12.

@@ -73,7 +73,8 @@ fn statuses() -> Vec<(String, i32)> {
         ("get demo/copy-a 21 --cell 1,2,1", 2),
         ("get demo/copy-a twenty", 2),
         ("get demo/copy-a --cell 1,2", 2),
-        ("get demo/damaged --cell 2,2,1", 3),
+        ("get demo/damaged --cell 2,2,1", 1),
+        ("get demo/damaged/7.shard --cell 2,2,1", 3),
         ("list demo/copy-a/0.shard", 0),
         (
             "list demo/copy-a/0.shard demo/copy-a/1.shard --minishard 1",
@@ -84,6 +85,7 @@ fn statuses() -> Vec<(String, i32)> {
         ("list", 2),
         ("list demo/copy-a/0.shard --minishard x", 2),
         ("list demo/copy-a/8.shard", 2),
+        ("list demo/copy-a", 2),
         ("list nothing/0.shard", 3),
         ("locate 0,0,0 4,3,2", 0),
         ("locate 0,0,0 5,0,0", 1),

@@ -100,12 +100,12 @@ fn single_files_that_can_not_be_read() {
     }
     folder
         .run_line("list 4.shard --card demo/deposit.card")
-        .expect_status(3);
+        .expect_status(2);
     folder.run_line("card show 4.shard").expect_status(3);
     assert!(!folder.at("out").exists());
     // A folder without the id's shard file.
     let lost = folder.run_line("get demo/damaged 31 --card demo/deposit.card");
-    lost.expect_status(3);
+    lost.expect_status(1);
     assert!(lost.stderr.contains("7.shard"), "{lost}");
 }
 

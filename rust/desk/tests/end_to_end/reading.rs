@@ -172,9 +172,15 @@ fn numbers(object: &Json, name: &str) -> Vec<String> {
     items.iter().map(number).collect()
 }
 
-/// The bits of reals that are written in decimal.
+/// The bits of reals that are written in decimal. A reader that makes 64-bit
+/// reals of them must get the very same numbers.
 fn real_bits(object: &Json, name: &str) -> Vec<u32> {
-    let real = |text: &String| text.parse::<f32>().expect("a real").to_bits();
+    let real = |text: &String| {
+        let wide: f64 = text.parse().expect("a real");
+        let real = wide as f32;
+        assert_eq!(f64::from(real), wide, "{text}");
+        real.to_bits()
+    };
     numbers(object, name).iter().map(real).collect()
 }
 
