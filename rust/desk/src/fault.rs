@@ -82,7 +82,7 @@ impl Refused {
 fn length_not_read(path: &Path, refusal: Refusal) -> Option<u64> {
     let about = fs::metadata(path).ok()?;
     let too_long = refusal.number == 6 && about.is_file() && about.len() >= MOST_BYTES;
-    too_long.then(|| about.len())
+    too_long.then_some(about.len())
 }
 
 /// The four lines of a refusal, without the end of the last line.

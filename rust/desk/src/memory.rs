@@ -347,7 +347,7 @@ mod tests {
                 room.wait_for([10, 0, 0]);
                 room.alone && gate.lock().held == u64::MAX
             };
-            job % 4 > 0 || room.attempt(alone, |alone| !alone)
+            !job.is_multiple_of(4) || room.attempt(alone, |alone| !alone)
         };
         let told = Crowd::default().run((0..400).collect(), &gate, work);
         assert_eq!(told, vec![true; 400]);
