@@ -1,12 +1,14 @@
 //! What stops a command, and the exit status that goes with it.
 
 use std::fmt;
+use std::fs;
 use std::io;
 use std::path::{Path, PathBuf};
 
 use coronagamba::Refusal;
 
 use crate::diagnosis::Diagnosis;
+use crate::files::MOST_BYTES;
 use crate::report::shown;
 
 /// The exit status of the program. Over many files the greatest one counts.
@@ -54,7 +56,10 @@ pub struct Refused {
 
 impl Refused {
     /// A refusal about a file.
-    pub fn file(path: &Path, refusal: Refusal, diagnosis: Diagnosis) -> Self {
+    pub fn file(path: &Path, refusal: Refusal, mut diagnosis: Diagnosis) -> Self {
+        if let Some(length) = length_not_read(path, refusal) {
+            diagnosis.found = format!("a file of {length} bytes");
+        }
         Refused {
             subject: Subject::Path(path.to_path_buf()),
             refusal,
@@ -70,6 +75,14 @@ impl Refused {
             diagnosis,
         }
     }
+}
+
+/// The length of a shard file that is too long. It is read only as far as that
+/// shows; the system knows the rest.
+fn length_not_read(path: &Path, refusal: Refusal) -> Option<u64> {
+    let about = fs::metadata(path).ok()?;
+    let too_long = refusal.number == 6 && about.is_file() && about.len() >= MOST_BYTES;
+    too_long.then_some(about.len())
 }
 
 /// The four lines of a refusal, without the end of the last line.
@@ -142,6 +155,11 @@ impl Fault {
             Fault::Card(fault) => fault.status(),
             Fault::System { .. } | Fault::ClosedPipe | Fault::Unwritten { .. } => Status::System,
         }
+    }
+
+    /// Whether the system had no memory to give.
+    pub fn lacks_memory(&self) -> bool {
+        matches!(self, Fault::System { error, .. } if error.kind() == io::ErrorKind::OutOfMemory)
     }
 
     /// Whether no further answer can be given.

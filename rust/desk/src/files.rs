@@ -1,11 +1,14 @@
 //! Reading whole files.
 
+use std::collections::BTreeMap;
 use std::fs::{self, File};
 use std::io::{self, Read};
 use std::os::unix::fs::MetadataExt;
-use std::path::Path;
+use std::path::{Path, PathBuf};
 
 use crate::fault::Fault;
+use crate::memory::reserve;
+use crate::report::shown;
 
 /// The most bytes that are read of a file: one more than a shard may have, so
 /// that the library sees that it is too long and gives 6 (scope, refusals).
@@ -34,7 +37,7 @@ fn fill(path: &Path, bytes: &mut Vec<u8>) -> io::Result<()> {
     if about.is_dir() {
         return Err(io::ErrorKind::IsADirectory.into());
     }
-    bytes.try_reserve_exact(about.len().min(MOST_BYTES) as usize)?;
+    reserve(bytes, about.len().min(MOST_BYTES) as usize)?;
     file.take(MOST_BYTES).read_to_end(bytes)?;
     Ok(())
 }
@@ -48,10 +51,58 @@ pub fn length_to_read(path: &Path) -> u64 {
 /// Whether two paths lead to one file or folder, through whatever links. A
 /// path that leads nowhere is one with no other.
 pub fn one_place(first: &Path, second: &Path) -> bool {
-    let place = |path| fs::metadata(path).map(|about| (about.dev(), about.ino()));
-    match (place(first), place(second)) {
-        (Ok(first), Ok(second)) => first == second,
+    match (identity(first), identity(second)) {
+        (Some(first), Some(second)) => first == second,
         _ => false,
+    }
+}
+
+/// What a file or folder keeps under all its names: device and inode.
+type Identity = (u64, u64);
+
+/// What a path leads to, through whatever links.
+fn identity(path: &Path) -> Option<Identity> {
+    let about = fs::metadata(path).ok()?;
+    Some((about.dev(), about.ino()))
+}
+
+/// The files that a run reads, whatever other names they have. It never writes
+/// over them and never removes them.
+#[derive(Debug, Default)]
+pub struct Inputs {
+    paths: BTreeMap<Identity, PathBuf>,
+}
+
+impl Inputs {
+    /// What these paths lead to now.
+    pub fn of<'a>(paths: impl IntoIterator<Item = &'a Path>) -> Self {
+        let known = |path: &Path| Some((identity(path)?, path.to_path_buf()));
+        Inputs {
+            paths: paths.into_iter().filter_map(known).collect(),
+        }
+    }
+
+    /// Whether a path leads to one of them.
+    pub fn have(&self, path: &Path) -> bool {
+        self.named(path).is_some()
+    }
+
+    /// Refuses an output that is one of them.
+    pub fn spare(&self, output: &Path) -> Result<(), Fault> {
+        match self.named(output) {
+            None => Ok(()),
+            Some(input) => Err(Fault::wrong_use(format!(
+                "{}: is the input {}; inputs are never written over",
+                shown(output),
+                shown(input)
+            ))),
+        }
+    }
+
+    /// The input that a path leads to, by the name that was given.
+    fn named(&self, path: &Path) -> Option<&Path> {
+        let input = self.paths.get(&identity(path)?)?;
+        Some(input)
     }
 }
 
@@ -135,5 +186,25 @@ mod tests {
         assert!(one_place(folder.path(), &folder.at(".")));
         assert!(!one_place(&a, &b));
         assert!(!one_place(&folder.at("none"), &folder.at("none")));
+    }
+
+    #[test]
+    fn inputs_are_known_by_any_path() {
+        let folder = Folder::new("files-inputs");
+        let (a, b) = (folder.write("a", b"x"), folder.write("b", b"x"));
+        let (soft, hard) = (folder.at("soft"), folder.at("hard"));
+        symlink(&a, &soft).unwrap();
+        fs::hard_link(&a, &hard).unwrap();
+        let none = folder.at("none");
+        for input in [&a, &soft, &hard] {
+            let inputs = Inputs::of([input.as_path(), &none]);
+            for path in [&a, &soft, &hard] {
+                assert!(inputs.have(path));
+                assert_eq!(inputs.spare(path).unwrap_err().status() as u8, 2);
+            }
+            for path in [&b, &none] {
+                assert!(!inputs.have(path) && inputs.spare(path).is_ok());
+            }
+        }
     }
 }

@@ -1,5 +1,6 @@
 //! The shards of a folder.
 
+use std::collections::BTreeSet;
 use std::ffi::OsString;
 use std::fs::{self, DirEntry};
 use std::io;
@@ -9,7 +10,7 @@ use coronagamba::Sharding;
 
 use crate::args::Args;
 use crate::fault::Fault;
-use crate::naming::{ends_as_shard, number_of_file, shard_number};
+use crate::naming::{ends_as_shard, shard_number};
 
 /// A file that is to be read as a shard.
 #[derive(Debug)]
@@ -24,7 +25,11 @@ pub struct Input {
 #[derive(Debug)]
 pub enum Trouble {
     /// Its name is that of no shard under the sharding.
-    Misnamed,
+    Misnamed {
+        /// Whether it was named by itself, so that `--shard` could have given
+        /// its number.
+        alone: bool,
+    },
     /// It cannot be.
     Fault(Fault),
 }
@@ -41,6 +46,13 @@ pub struct Listing {
 }
 
 impl Listing {
+    /// The numbers of those files that have the name of a shard, whether they
+    /// can be read or not.
+    pub fn numbers(&self, sharding: &Sharding) -> BTreeSet<u64> {
+        let number = |input: &Input| shard_number(sharding, input.path.file_name()?);
+        self.shards.iter().filter_map(number).collect()
+    }
+
     /// All shards, and behind them the fault of the listing.
     pub fn inputs(self, folder: &Path) -> Vec<Input> {
         let mut inputs = self.shards;
@@ -60,13 +72,16 @@ pub fn is_folder(path: &Path) -> bool {
 /// A file that was named by itself: what `--shard` says, else what its name
 /// says. It may be a pipe.
 pub fn single(args: &Args, sharding: &Sharding, path: &Path) -> Input {
-    let number = match fs::metadata(path) {
-        Ok(_) => number_of_file(args, sharding, path),
-        Err(error) => Err(Fault::system(path, "read", error)),
+    let number = match (fs::metadata(path), args.number("--shard")) {
+        (Err(error), _) => Err(Trouble::Fault(Fault::system(path, "read", error))),
+        (_, Err(fault)) => Err(Trouble::Fault(fault)),
+        (_, Ok(Some(number))) => Ok(number),
+        (_, Ok(None)) => shard_number(sharding, path.file_name().unwrap_or_default())
+            .ok_or(Trouble::Misnamed { alone: true }),
     };
     Input {
         path: path.to_path_buf(),
-        number: number.map_err(Trouble::Fault),
+        number,
     }
 }
 
@@ -105,7 +120,7 @@ fn entry(sharding: &Sharding, folder: &Path, name: OsString) -> Input {
     let number = match fs::metadata(&path) {
         Err(error) => Err(Trouble::Fault(Fault::system(&path, "read", error))),
         Ok(about) if !about.is_file() => Err(Trouble::Fault(no_file(&path))),
-        Ok(_) => shard_number(sharding, &name).ok_or(Trouble::Misnamed),
+        Ok(_) => shard_number(sharding, &name).ok_or(Trouble::Misnamed { alone: false }),
     };
     Input { path, number }
 }
@@ -137,7 +152,7 @@ mod tests {
         let told = |input: &Input| {
             let number = match &input.number {
                 Ok(number) => number.to_string(),
-                Err(Trouble::Misnamed) => "misnamed".into(),
+                Err(Trouble::Misnamed { .. }) => "misnamed".into(),
                 Err(Trouble::Fault(_)) => "fault".into(),
             };
             (input.path.file_name().unwrap().to_os_string(), number)

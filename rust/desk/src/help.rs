@@ -94,7 +94,9 @@ usage: coronagamba check PATH... [OPTIONS]
 PATH is a shard file, or a folder: then all of its files that end in .shard
 are checked, in name order, and the run goes on after a refused one. Other
 files are passed over and counted. Symbolic links to shard files are followed;
-subfolders are not gone through.
+subfolders are not gone through. Of a folder with at most 65536 possible
+shards a line names those that are not there; that is no fault, since no chunk
+may belong to them. Who closes the output, as 'head' does, ends the run.
 
 ",
     sharding!(),
@@ -127,8 +129,10 @@ usage: coronagamba settle FILE --out FILE2 [OPTIONS]
 A folder's shards are settled into files of the same names; the run goes on
 after a refused one. An output is written beside its place and gets its name
 only when it is whole. Inputs are never changed. A run that was stopped can
-be started again: what is already there with the same bytes is left. An input
-cannot be the output too, by whatever path, also with --force.
+be started again: what is already there with the same bytes is left. None of
+the inputs, the card among them, is ever an output too, by whatever path, also
+with --force. Who closes the output, as 'head' does, ends the run: shards that
+were not begun are not settled then.
 
 ",
     sharding!(),
@@ -162,10 +166,13 @@ Both are files or both are folders, of one sharding. Their settled forms are
 compared byte for byte: for sound shards of one sharding and number these are
 equal exactly when the same ids list the same bytes, which is proved for this
 library. For each shard of either side a line says same, different (with the
-first id that differs, in rising order, and how), refused, or missing; then
-one sentence answers for the whole. Bytes of a chunk are counted from 0. A
-shard file that only one side has counts as different, even where it lists no
-chunk.
+first id that differs, in rising order, and how), refused, or on one side
+only; then one sentence answers for the whole. Bytes of a chunk are counted
+from 0. A sound shard that only one side has is a difference where it lists
+chunks, and none where it lists no chunk. Something that is refused, cannot be
+read or has no shard's name leaves the answer open, unless another shard
+differs: a misnamed file may be the shard that its side lacks. Who closes the
+output, as 'head' does, ends the run.
 
 ",
     sharding!(),
@@ -176,8 +183,8 @@ options:
     "  --jobs N            how many shards are compared at once; all cores otherwise\n",
     json!(),
     "
-exit status: 0 the same; 1 different, missing or refused; 2 wrong use; 3 a
-file cannot be read.
+exit status: 0 the same; 1 different or not known; 2 wrong use; 3 a file
+cannot be read.
 
 example:
   coronagamba same demo/copy-a demo/copy-b --card demo/deposit.card

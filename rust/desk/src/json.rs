@@ -41,6 +41,18 @@ impl Object {
         self
     }
 
+    /// A member that is an array of texts.
+    pub fn texts<'a>(mut self, name: &str, values: impl IntoIterator<Item = &'a str>) -> Self {
+        self.name(name);
+        let quoted = |value: &str| {
+            let mut text = String::new();
+            quote(value, &mut text);
+            text
+        };
+        array(values.into_iter().map(quoted), &mut self.text);
+        self
+    }
+
     /// A member that is a whole number, in full.
     pub fn number(mut self, name: &str, value: impl Whole) -> Self {
         self.name(name);

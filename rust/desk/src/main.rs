@@ -17,6 +17,7 @@ mod memory;
 mod naming;
 mod output;
 mod pool;
+mod presence;
 mod progress;
 mod report;
 mod round;

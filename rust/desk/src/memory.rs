@@ -19,6 +19,9 @@ struct State {
     held: u64,
     next_ticket: u64,
     serving: u64,
+    /// How many wait until no other holds anything. Nobody takes more work
+    /// into memory that is kept before they had their turn.
+    hermits: u64,
 }
 
 impl Gate {
@@ -67,7 +70,8 @@ impl Share<'_> {
         let mut state = self.gate.lock();
         let others = state.held - self.bytes;
         let queue = state.next_ticket != state.serving;
-        let granted = bytes <= self.bytes || !queue && self.gate.fits(others, bytes);
+        let fits = bytes <= self.bytes || !queue && self.gate.fits(others, bytes);
+        let granted = fits && state.hermits == 0;
         if granted {
             self.set(&mut state, bytes);
         }
@@ -92,6 +96,21 @@ impl Share<'_> {
         self.set(&mut state, bytes);
     }
 
+    /// Gives back what is held, waits until no other holds anything, and keeps
+    /// all others out.
+    pub fn wait_alone(&mut self) {
+        self.gate.lock().hermits += 1;
+        self.wait_for(u64::MAX);
+        self.gate.lock().hermits -= 1;
+    }
+
+    /// Holds no more than so many bytes from now on.
+    pub fn shrink(&mut self, bytes: u64) {
+        let mut state = self.gate.lock();
+        let bytes = bytes.min(self.bytes);
+        self.set(&mut state, bytes);
+    }
+
     fn set(&mut self, state: &mut State, bytes: u64) {
         state.held = state.held - self.bytes + bytes;
         self.bytes = bytes;
@@ -109,13 +128,16 @@ impl Drop for Share<'_> {
 /// The buffers of one worker. They are used again for the next shard: new
 /// memory costs more than reading the file into it.
 pub struct Room<'a> {
-    share: Share<'a>,
     /// The shard file.
     pub file: Vec<u8>,
     /// Its settled form.
     pub form: Vec<u8>,
     /// The settled form that it is compared with.
     pub other: Vec<u8>,
+    /// Whether no other room has memory.
+    alone: bool,
+    /// Dropped behind the buffers: who waits for the memory must find it free.
+    share: Share<'a>,
 }
 
 /// Lengths of the file, the form and the other form.
@@ -126,6 +148,7 @@ impl<'a> Room<'a> {
     pub fn new(gate: &'a Gate) -> Self {
         Room {
             share: gate.share(),
+            alone: false,
             file: Vec::new(),
             form: Vec::new(),
             other: Vec::new(),
@@ -136,27 +159,64 @@ impl<'a> Room<'a> {
     /// given back first where it must wait, since others may wait for that.
     pub fn wait_for(&mut self, lengths: Lengths) {
         if !self.may_have(lengths) {
-            self.file = Vec::new();
-            self.form = Vec::new();
-            self.other = Vec::new();
+            self.empty();
             self.share.wait_for(lengths.iter().sum());
         }
     }
 
     /// Whether the buffers may have these lengths at once.
-    pub fn may_have(&mut self, [file, form, other]: Lengths) -> bool {
-        let longer = |buffer: &Vec<u8>, length: u64| length.max(buffer.capacity() as u64);
-        let bytes =
-            longer(&self.file, file) + longer(&self.form, form) + longer(&self.other, other);
-        self.share.try_hold(bytes)
+    pub fn may_have(&mut self, lengths: Lengths) -> bool {
+        let bytes = self.with(lengths);
+        self.alone || self.share.try_hold(bytes)
     }
+
+    /// Does what takes memory. Others may hold the memory that the answer
+    /// `lacks`: then the room gives back its own, waits until no other has any,
+    /// and it is done once more.
+    pub fn attempt<T>(
+        &mut self,
+        mut work: impl FnMut(&mut Self) -> T,
+        lacks: impl Fn(&T) -> bool,
+    ) -> T {
+        let answer = work(self);
+        if !lacks(&answer) {
+            return answer;
+        }
+        self.empty();
+        self.share.wait_alone();
+        self.alone = true;
+        let answer = work(self);
+        self.alone = false;
+        self.share.shrink(self.with([0, 0, 0]));
+        answer
+    }
+
+    fn empty(&mut self) {
+        self.file = Vec::new();
+        self.form = Vec::new();
+        self.other = Vec::new();
+    }
+
+    /// What the buffers take once they have at least these lengths.
+    fn with(&self, [file, form, other]: Lengths) -> u64 {
+        let longer = |buffer: &Vec<u8>, length: u64| length.max(buffer.capacity() as u64);
+        longer(&self.file, file) + longer(&self.form, form) + longer(&self.other, other)
+    }
+}
+
+/// Asks for memory for so many more bytes. An error says how many they are.
+pub fn reserve(buffer: &mut Vec<u8>, bytes: usize) -> io::Result<()> {
+    buffer.try_reserve_exact(bytes).map_err(|_| {
+        let text = format!("out of memory, {bytes} bytes are needed");
+        io::Error::new(io::ErrorKind::OutOfMemory, text)
+    })
 }
 
 /// The front of a buffer, at least that long afterwards. Only what is added
 /// is cleared.
 pub fn front(buffer: &mut Vec<u8>, length: usize) -> io::Result<&mut [u8]> {
     if buffer.len() < length {
-        buffer.try_reserve_exact(length - buffer.len())?;
+        reserve(buffer, length - buffer.len())?;
         buffer.resize(length, 0);
     }
     Ok(&mut buffer[..length])
@@ -178,6 +238,7 @@ fn available_in(meminfo: &str) -> Option<u64> {
 #[cfg(test)]
 mod tests {
     use super::*;
+    use crate::trial::Crowd;
     use std::sync::mpsc;
     use std::thread;
     use std::time::Duration;
@@ -245,6 +306,53 @@ mod tests {
         assert_eq!((room.file.capacity(), gate.lock().held), (0, 66));
         drop(room);
         assert_eq!(gate.lock().held, 20);
+    }
+
+    #[test]
+    fn who_gets_no_memory_tries_again_alone() {
+        // By the gate's limit all fit, but the memory has room for one.
+        let gate = Gate::new(1 << 40);
+        let taken = Mutex::new(0);
+        let work = |room: &mut Room, _| {
+            let take = |room: &mut Room| {
+                room.wait_for([10, 0, 0]);
+                // What a room keeps is taken until it is given back.
+                if room.file.capacity() == 0 {
+                    let mut taken = taken.lock().unwrap();
+                    if *taken > 0 && !room.alone {
+                        return false;
+                    }
+                    *taken += 1;
+                    room.file = Vec::with_capacity(10);
+                }
+                thread::yield_now();
+                room.file = Vec::new();
+                *taken.lock().unwrap() -= 1;
+                true
+            };
+            room.attempt(take, |done| !done)
+        };
+        let told = Crowd::default().run((0..200).collect(), &gate, work);
+        assert_eq!(told, vec![true; 200]);
+        let state = gate.lock();
+        assert_eq!((state.held, state.hermits), (0, 0));
+    }
+
+    #[test]
+    fn alone_means_that_no_other_holds_memory() {
+        let gate = Gate::new(1 << 40);
+        let work = |room: &mut Room, job: u64| {
+            room.wait_for([job % 3, 0, 0]);
+            let alone = |room: &mut Room| {
+                room.wait_for([10, 0, 0]);
+                room.alone && gate.lock().held == u64::MAX
+            };
+            !job.is_multiple_of(4) || room.attempt(alone, |alone| !alone)
+        };
+        let told = Crowd::default().run((0..400).collect(), &gate, work);
+        assert_eq!(told, vec![true; 400]);
+        let state = gate.lock();
+        assert_eq!((state.held, state.hermits), (0, 0));
     }
 
     #[test]

@@ -52,13 +52,16 @@ pub fn number_of_file(args: &Args, sharding: &Sharding, path: &Path) -> Result<u
         return Ok(number);
     }
     let name = path.file_name().unwrap_or_default();
-    shard_number(sharding, name).ok_or_else(|| {
-        Fault::wrong_use(format!(
-            "{}: {}; give the shard's number with --shard N",
-            shown(path),
-            misnamed(sharding)
-        ))
-    })
+    shard_number(sharding, name).ok_or_else(|| unnumbered(sharding, path))
+}
+
+/// Neither the name nor an option says which shard this is.
+pub fn unnumbered(sharding: &Sharding, path: &Path) -> Fault {
+    Fault::wrong_use(format!(
+        "{}: {}; give the shard's number with --shard N",
+        shown(path),
+        misnamed(sharding)
+    ))
 }
 
 #[cfg(test)]

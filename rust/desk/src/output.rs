@@ -14,6 +14,7 @@ use std::path::{Path, PathBuf};
 use std::process;
 
 use crate::fault::Fault;
+use crate::files::Inputs;
 use crate::report::shown;
 
 /// What became of an output.
@@ -40,8 +41,8 @@ pub fn write_new(path: &Path, force: bool, bytes: &[u8]) -> Result<(), Fault> {
 }
 
 /// Sees to it that a file with these bytes is there. One with other bytes is
-/// replaced with `force` only.
-pub fn place(path: &Path, force: bool, bytes: &[u8]) -> Result<Placed, Fault> {
+/// replaced with `force` only, and never where it is one of the inputs.
+pub fn place(path: &Path, force: bool, bytes: &[u8], inputs: &Inputs) -> Result<Placed, Fault> {
     if !is_taken(path)? && put(path, false, bytes)? {
         return Ok(Placed::Written);
     }
@@ -51,27 +52,33 @@ pub fn place(path: &Path, force: bool, bytes: &[u8]) -> Result<Placed, Fault> {
         (Ok(true), _) => sync_folder_of(path).map(|()| Placed::AlreadyThere),
         (Ok(false), false) => Ok(Placed::OtherBytes),
         (Err(fault), false) => Err(fault),
-        (_, true) => put(path, true, bytes).map(|_| Placed::Written),
+        (_, true) => {
+            inputs.spare(path)?;
+            put(path, true, bytes).map(|_| Placed::Written)
+        }
     }
 }
 
 /// Removes the part files that killed runs have left in a folder, of outputs
-/// whose names are `wanted`. What cannot be removed stays: it harms nobody.
-pub fn remove_stale_parts(folder: &Path, wanted: impl Fn(&OsStr) -> bool) {
+/// whose names are `wanted`. One that is read as an input stays, and so does
+/// what cannot be removed: it harms nobody.
+pub fn remove_stale_parts(folder: &Path, inputs: &Inputs, wanted: impl Fn(&OsStr) -> bool) {
     let Ok(entries) = fs::read_dir(folder) else {
         return;
     };
     for entry in entries.flatten() {
-        if part_of(&entry.file_name()).is_some_and(|name| wanted(&name)) {
-            remove_unheld(&entry.path());
+        let path = entry.path();
+        if part_of(&entry.file_name()).is_some_and(|name| wanted(&name)) && !inputs.have(&path) {
+            remove_unheld(&path);
         }
     }
 }
 
 /// The same for one output.
-pub fn remove_stale_parts_of(output: &Path) {
+pub fn remove_stale_parts_of(output: &Path, inputs: &Inputs) {
     let name = output.file_name().unwrap_or_default();
-    remove_stale_parts(folder_of(output), |part| part.as_bytes() == repeated(name));
+    let wanted = |part: &OsStr| part.as_bytes() == repeated(name);
+    remove_stale_parts(folder_of(output), inputs, wanted);
 }
 
 /// Makes a name in a folder last.
@@ -304,7 +311,36 @@ mod tests {
     use super::*;
     use crate::trial::Folder;
     use std::os::unix::fs::symlink;
+    use std::sync::LazyLock;
     use std::thread;
+
+    /// No inputs.
+    fn none() -> &'static Inputs {
+        static NONE: LazyLock<Inputs> = LazyLock::new(Inputs::default);
+        &NONE
+    }
+
+    #[test]
+    fn an_input_is_not_replaced_and_not_cleared_away() {
+        let folder = Folder::new("output-inputs");
+        let (a, part) = (
+            folder.write("a", b"old"),
+            folder.write(".b.77.part", b"half"),
+        );
+        let inputs = Inputs::of([a.as_path(), &part]);
+        for force in [false, true] {
+            let placed = place(&a, force, b"new", &inputs);
+            assert!(matches!(
+                placed,
+                Ok(Placed::OtherBytes) | Err(Fault::Use { .. })
+            ));
+            assert_eq!(fs::read(&a).unwrap(), b"old");
+        }
+        remove_stale_parts_of(&folder.at("b"), &inputs);
+        assert_eq!(folder.names(), [".b.77.part", "a"]);
+        remove_stale_parts_of(&folder.at("b"), none());
+        assert_eq!(folder.names(), ["a"]);
+    }
 
     #[test]
     fn a_new_file_is_whole_and_alone() {
@@ -335,14 +371,23 @@ mod tests {
         let long = vec![5; 200_000];
         let mut other = long.clone();
         other[199_999] = 6;
-        assert_eq!(place(&path, false, &long).unwrap(), Placed::Written);
-        assert_eq!(place(&path, false, &long).unwrap(), Placed::AlreadyThere);
-        assert_eq!(place(&path, true, &long).unwrap(), Placed::AlreadyThere);
+        assert_eq!(place(&path, false, &long, none()).unwrap(), Placed::Written);
+        assert_eq!(
+            place(&path, false, &long, none()).unwrap(),
+            Placed::AlreadyThere
+        );
+        assert_eq!(
+            place(&path, true, &long, none()).unwrap(),
+            Placed::AlreadyThere
+        );
         for changed in [&other[..], &long[1..], b""] {
-            assert_eq!(place(&path, false, changed).unwrap(), Placed::OtherBytes);
+            assert_eq!(
+                place(&path, false, changed, none()).unwrap(),
+                Placed::OtherBytes
+            );
         }
         assert_eq!(fs::read(&path).unwrap(), long);
-        assert_eq!(place(&path, true, &other).unwrap(), Placed::Written);
+        assert_eq!(place(&path, true, &other, none()).unwrap(), Placed::Written);
         assert_eq!(fs::read(&path).unwrap(), other);
         assert_eq!(folder.names(), ["a"]);
     }
@@ -358,7 +403,10 @@ mod tests {
         fs::create_dir(&inner).unwrap();
         for path in [&link, &dangling, &inner, Path::new("/dev/null")] {
             assert_eq!(write_new(path, true, b"new").unwrap_err().status() as u8, 2);
-            assert_eq!(place(path, true, b"new").unwrap_err().status() as u8, 2);
+            assert_eq!(
+                place(path, true, b"new", none()).unwrap_err().status() as u8,
+                2
+            );
         }
         assert_eq!(fs::read(&target).unwrap(), b"kept");
         assert_eq!(folder.names(), ["dangling", "inner", "link", "target"]);
@@ -408,7 +456,9 @@ mod tests {
         folder.write("1.shard", b"whole");
         fs::hard_link(folder.at("1.shard"), folder.at(".1.shard.78.part")).unwrap();
         symlink(folder.at("1.shard"), folder.at(".2.shard.1.part")).unwrap();
-        remove_stale_parts(folder.path(), |name| name.as_bytes().ends_with(b".shard"));
+        remove_stale_parts(folder.path(), none(), |name| {
+            name.as_bytes().ends_with(b".shard")
+        });
         let held_name = part_name(OsStr::new("0.shard"), process::id());
         let mut kept = vec![
             held_name,
@@ -463,12 +513,15 @@ mod tests {
     #[test]
     fn clearing_away_beside_writers_spoils_nothing() {
         let folder = Folder::new("output-race");
-        let clears = || remove_stale_parts(folder.path(), |_| true);
+        let clears = || remove_stale_parts(folder.path(), none(), |_| true);
         thread::scope(|scope| {
             let writer = scope.spawn(|| {
                 for number in 0..300 {
                     let path = folder.at(format!("{number}"));
-                    assert_eq!(place(&path, false, b"abc").unwrap(), Placed::Written);
+                    assert_eq!(
+                        place(&path, false, b"abc", none()).unwrap(),
+                        Placed::Written
+                    );
                 }
             });
             while !writer.is_finished() {

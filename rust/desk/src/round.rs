@@ -8,6 +8,7 @@ use coronagamba::{Refusal, Shard, Sharding};
 use crate::args::{value, Args, Opt};
 use crate::diagnosis;
 use crate::fault::{Fault, Refused, Status};
+use crate::files::{length_to_read, read_into};
 use crate::folder::Trouble;
 use crate::json::Object;
 use crate::memory::{Gate, Room};
@@ -97,7 +98,10 @@ pub enum Verdict<T> {
     /// The library's refusal.
     Refused(Box<Refused>),
     /// The file has the name of no shard.
-    Misnamed,
+    Misnamed {
+        /// Whether it was named by itself.
+        alone: bool,
+    },
     /// It could not be read or written.
     Fault(Fault),
 }
@@ -115,7 +119,7 @@ impl<T> From<Result<T, Fault>> for Verdict<T> {
 impl<T> From<Trouble> for Verdict<T> {
     fn from(trouble: Trouble) -> Self {
         match trouble {
-            Trouble::Misnamed => Verdict::Misnamed,
+            Trouble::Misnamed { alone } => Verdict::Misnamed { alone },
             Trouble::Fault(fault) => Verdict::Fault(fault),
         }
     }
@@ -153,19 +157,25 @@ impl Aside {
         outcome: Outcome<Verdict<T>>,
         report: &mut Report,
     ) -> Result<Option<T>, Fault> {
+        let path = &outcome.path;
+        let object = Object::new().path(path);
         match outcome.verdict {
             Verdict::Answer(answer) => return Ok(Some(answer)),
             Verdict::Refused(refused) => {
                 self.refused += 1;
                 report.refusal(&refused)?;
             }
-            Verdict::Misnamed => {
+            Verdict::Misnamed { alone } => {
                 self.misnamed += 1;
-                tell_misnamed(sharding, &outcome.path, report)?;
+                tell_misnamed(sharding, path, alone, object, report)?;
             }
             Verdict::Fault(fault) => {
                 self.failed += 1;
-                tell_fault(&outcome.path, &fault, report)?;
+                let object = match &fault {
+                    Fault::System { path: out, .. } if out != path => object.named_path("out", out),
+                    _ => object,
+                };
+                tell_fault(object, &fault, report)?;
             }
         }
         Ok(None)
@@ -178,25 +188,40 @@ impl Aside {
 }
 
 /// Tells what kept a shard from its answer. With --json each shard has an
-/// object, also one that was asked for wrongly.
-pub fn tell_fault(path: &Path, fault: &Fault, report: &mut Report) -> Result<(), Fault> {
-    report.complain(fault)?;
-    match fault {
-        Fault::Use { message } if report.json() => {
-            let object = Object::new().path(path).text("result", "error");
-            report.object(object.text("error", message))
-        }
-        _ => Ok(()),
+/// object, which `object` begins, also one that was asked for wrongly.
+pub fn tell_fault(object: Object, fault: &Fault, report: &mut Report) -> Result<(), Fault> {
+    if !report.json() {
+        return report.complain(fault);
     }
+    match fault {
+        Fault::Use { .. } => report.complain(fault)?,
+        _ => report.note(fault.status()),
+    }
+    let object = object.text("result", "error");
+    report.object(object.text("error", &fault.to_string()))
 }
 
-/// Tells of a file that has the name of no shard.
-pub fn tell_misnamed(sharding: &Sharding, path: &Path, report: &mut Report) -> Result<(), Fault> {
-    report.note(Status::No);
+/// Tells of a file that has the name of no shard. In a folder that is an
+/// answer; where the file was named by itself, its number should have been
+/// given. With --json `object` begins its object.
+pub fn tell_misnamed(
+    sharding: &Sharding,
+    path: &Path,
+    alone: bool,
+    object: Object,
+    report: &mut Report,
+) -> Result<(), Fault> {
     let text = naming::misnamed(sharding);
+    if alone {
+        report.complain(&naming::unnumbered(sharding, path))?;
+    } else {
+        report.note(Status::No);
+    }
     if report.json() {
-        let object = Object::new().path(path).text("result", "misnamed");
+        let object = object.text("result", "misnamed");
         report.object(object.text("error", &text))
+    } else if alone {
+        Ok(())
     } else {
         report.line(format_args!("{}: {text}", shown(path)))
     }
@@ -243,6 +268,23 @@ pub fn refused(
 ) -> Fault {
     let diagnosis = diagnosis::of_shard(sharding, number, file, refusal);
     Refused::file(path, refusal, diagnosis).into()
+}
+
+/// Reads a shard and checks it; gives how many chunks a sound one lists.
+pub fn check(sharding: &Sharding, number: u64, path: &Path, room: &mut Room) -> Result<u64, Fault> {
+    let check = |room: &mut Room| {
+        room.wait_for([length_to_read(path), 0, 0]);
+        read_into(path, &mut room.file)?;
+        let shard = Shard::open(*sharding, number, &room.file);
+        let counted = shard.check().and_then(|()| chunk_count(sharding, &shard));
+        counted.map_err(|refusal| refused(path, sharding, number, &room.file, refusal))
+    };
+    room.attempt(check, lacks_memory)
+}
+
+/// Whether there was no memory for an answer.
+pub fn lacks_memory<T>(answer: &Result<T, Fault>) -> bool {
+    matches!(answer, Err(fault) if fault.lacks_memory())
 }
 
 /// How many chunks a shard lists, in all its minishards.

@@ -8,10 +8,10 @@ use super::Command;
 use crate::args::{flag, value, Args};
 use crate::diagnosis;
 use crate::fault::{Fault, Refused};
-use crate::files::read_whole;
+use crate::files::{read_whole, Inputs};
 use crate::help;
 use crate::json::Object;
-use crate::output::write_new;
+use crate::output::{remove_stale_parts_of, write_new};
 use crate::report::{shown, Report};
 use crate::settings;
 
@@ -44,6 +44,7 @@ fn make(args: &Args, report: &mut Report) -> Result<(), Fault> {
     let out = Path::new(args.needed("--out")?);
     let card = settings::for_card(args)?;
     let bytes = card.to_bytes().map_err(|refusal| refused(&card, refusal))?;
+    remove_stale_parts_of(out, &Inputs::default());
     write_new(out, args.flag("--force"), &bytes)?;
     report.line(format_args!(
         "{}: card written, {} bytes",

@@ -3,18 +3,18 @@
 use std::ffi::OsString;
 use std::path::Path;
 
-use coronagamba::{Shard, Sharding};
+use coronagamba::Sharding;
 
 use super::Command;
 use crate::args::{flag, Args};
 use crate::fault::Fault;
-use crate::files::{length_to_read, read_into};
 use crate::folder::{is_folder, list, single, Input};
 use crate::help;
 use crate::json::Object;
 use crate::memory::Room;
+use crate::presence::Presence;
 use crate::report::{counted, shown, Report};
-use crate::round::{self, and, chunk_count, passed_over, Aside, Outcome, Verdict};
+use crate::round::{self, and, passed_over, Aside, Outcome, Verdict};
 use crate::settings;
 
 /// The command.
@@ -29,15 +29,20 @@ fn run(args: &Args, report: &mut Report) -> Result<(), Fault> {
     let sharding = settings::of_shards(args)?.sharding;
     let workers = round::workers(args)?;
     let paths = args.at_least_one("PATH")?;
+    if paths.len() > 1 && args.flag("--shard") {
+        return Err(Fault::wrong_use("--shard is for one file"));
+    }
     let found = gather(args, &sharding, paths, report)?;
     let mut summary = Summary {
         others: found.others,
         ..Summary::default()
     };
-    let with_summary = found.folders || found.inputs.len() > 1;
+    let with_summary = !found.folders.is_empty() || found.inputs.len() > 1;
     let work = |room: &mut Room, input| check(&sharding, room, input);
     let tell = |outcome, report: &mut Report| summary.tell(&sharding, outcome, report);
     round::go(workers, "checked", found.inputs, work, tell, report)?;
+    let mut known = found.folders.iter().flatten();
+    known.try_for_each(|presence| presence.tell(report))?;
     match summary.total() {
         0 => Ok(()),
         _ if with_summary => summary.print(report),
@@ -50,7 +55,8 @@ fn run(args: &Args, report: &mut Report) -> Result<(), Fault> {
 struct Found {
     inputs: Vec<Input>,
     others: u64,
-    folders: bool,
+    /// Which shards each folder has, where that can be told.
+    folders: Vec<Option<Presence>>,
 }
 
 /// All shards that the paths lead to, in their order.
@@ -69,13 +75,14 @@ fn gather(
         round::no_shard_option(args, path)?;
         let listing = list(sharding, path);
         let others = listing.others;
+        let presence = Presence::of(sharding, path, &listing);
         let inputs = listing.inputs(path);
         if inputs.is_empty() {
             round::tell_no_shards(path, others, report)?;
         } else {
             found.inputs.extend(inputs);
             found.others += others;
-            found.folders = true;
+            found.folders.push(presence);
         }
     }
     Ok(found)
@@ -94,16 +101,10 @@ fn check(sharding: &Sharding, room: &mut Room, input: Input) -> Outcome<Verdict<
         Ok(number) => number,
         Err(trouble) => return Verdict::from(trouble).of(path, 0),
     };
-    room.wait_for([length_to_read(&path), 0, 0]);
-    if let Err(fault) = read_into(&path, &mut room.file) {
-        return Verdict::Fault(fault).of(path, 0);
-    }
-    let shard = Shard::open(*sharding, number, &room.file);
-    let verdict = shard.check().and_then(|()| chunk_count(sharding, &shard));
+    let checked = round::check(sharding, number, &path, room);
     let bytes = room.file.len();
-    let answer = verdict.map(|chunks| Sound { chunks, bytes });
-    let explain = |refusal| round::refused(&path, sharding, number, &room.file, refusal);
-    Verdict::from(answer.map_err(explain)).of(path, bytes)
+    let answer = checked.map(|chunks| Sound { chunks, bytes });
+    Verdict::from(answer).of(path, bytes)
 }
 
 /// Counts over all shards.

@@ -43,6 +43,12 @@ fn run(args: &Args, report: &mut Report) -> Result<(), Fault> {
     let out = args.value("--out").map(Path::new);
     if let Some(out) = out {
         not_an_input(out, &[Some(&path), args.value("--card").map(Path::new)])?;
+        let inputs = crate::files::Inputs::of(
+            [Some(path.as_path()), args.value("--card").map(Path::new)]
+                .into_iter()
+                .flatten(),
+        );
+        crate::output::remove_stale_parts_of(out, &inputs);
     }
     let file = read_whole(&path)?;
     let chunk = Shard::open(sharding, number, &file).chunk(id);

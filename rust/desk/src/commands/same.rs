@@ -32,10 +32,11 @@ fn run(args: &Args, report: &mut Report) -> Result<(), Fault> {
     let sharding = settings::of_shards(args)?.sharding;
     let workers = round::workers(args)?;
     let paths = args.exactly(["PATH1", "PATH2"])?.map(Path::new);
+    let mut summary = Summary::default();
     let pairs = match paths.map(is_folder) {
         [true, true] => {
             round::no_shard_option(args, paths[0])?;
-            folders(&sharding, paths, report)?
+            folders(&sharding, paths, &mut summary, report)?
         }
         [false, false] => vec![files(args, &sharding, paths)?],
         _ => return Err(unlike(paths)),
@@ -43,10 +44,6 @@ fn run(args: &Args, report: &mut Report) -> Result<(), Fault> {
     if one_place(paths[0], paths[1]) {
         complaint("note: the first and the second are one and the same on the disk");
     }
-    if pairs.is_empty() {
-        return Ok(());
-    }
-    let mut summary = Summary::default();
     let work = |room: &mut Room, pair: Pair| pair.compare(&sharding, room);
     let tell = |outcome, report: &mut Report| summary.tell(&sharding, outcome, report);
     round::go(workers, "compared", pairs, work, tell, report)?;
@@ -75,10 +72,12 @@ enum Sides {
     Only(Side, Input),
 }
 
-/// All shards of either folder.
+/// All shards of either folder. The summary learns what else bears on the
+/// answer.
 fn folders(
     sharding: &Sharding,
     paths: [&Path; 2],
+    summary: &mut Summary,
     report: &mut Report,
 ) -> Result<Vec<Pair>, Fault> {
     let mut union: BTreeMap<OsString, Sides> = BTreeMap::new();
@@ -90,8 +89,10 @@ fn folders(
             return Err(fault);
         }
         if listing.shards.is_empty() {
+            summary.bare += 1;
             round::tell_no_shards(path, listing.others, report)?;
         }
+        summary.strays[side as usize] = listing.numbers(sharding).len() < listing.shards.len();
         for input in listing.shards {
             let name = input.path.file_name().unwrap_or_default().to_os_string();
             let sides = match union.remove(&name) {
@@ -129,7 +130,8 @@ enum Comparison {
     Same,
     /// The first difference, where there was memory to look for it.
     Different(Option<Difference>),
-    Missing(Side),
+    /// Only this side has the shard; it is sound and lists so many chunks.
+    Only(Side, u64),
     /// Refused, not read, misnamed.
     Unknown(Vec<Unread>),
 }
@@ -139,6 +141,8 @@ struct Unread {
     side: Side,
     path: PathBuf,
     trouble: Trouble,
+    /// Whether the other side has no file of the name.
+    only: bool,
 }
 
 impl Pair {
@@ -156,12 +160,15 @@ impl Pair {
                     }
                     .compare(room)
                 }
-                _ => Comparison::Unknown(unread(Side::BOTH.into_iter().zip(inputs))),
+                _ => Comparison::Unknown(unread(Side::BOTH.into_iter().zip(inputs), false)),
             },
-            Sides::Only(side, input) => match input.number {
-                Ok(_) => Comparison::Missing(side.other()),
-                Err(_) => Comparison::Unknown(unread([(side, input)])),
-            },
+            Sides::Only(side, mut input) => {
+                read = length_to_read(&input.path);
+                match judged(sharding, &mut input, room) {
+                    Some(chunks) => Comparison::Only(side, chunks),
+                    None => Comparison::Unknown(unread([(side, input)], true)),
+                }
+            }
         };
         Outcome {
             path: self.name.into(),
@@ -172,8 +179,21 @@ impl Pair {
     }
 }
 
+/// How many chunks a shard lists that has no other to be compared with. Where
+/// it is refused or not read, its trouble is noted.
+fn judged(sharding: &Sharding, input: &mut Input, room: &mut Room) -> Option<u64> {
+    let number = *input.number.as_ref().ok()?;
+    match round::check(sharding, number, &input.path, room) {
+        Ok(chunks) => Some(chunks),
+        Err(fault) => {
+            input.number = Err(Trouble::Fault(fault));
+            None
+        }
+    }
+}
+
 /// Those inputs that are in trouble.
-fn unread(inputs: impl IntoIterator<Item = (Side, Input)>) -> Vec<Unread> {
+fn unread(inputs: impl IntoIterator<Item = (Side, Input)>, only: bool) -> Vec<Unread> {
     let mut unread = Vec::new();
     for (side, input) in inputs {
         let path = input.path;
@@ -182,6 +202,7 @@ fn unread(inputs: impl IntoIterator<Item = (Side, Input)>) -> Vec<Unread> {
                 side,
                 path,
                 trouble,
+                only,
             });
         }
     }
@@ -192,11 +213,32 @@ impl Comparison {
     fn is_refused(&self) -> bool {
         matches!(self, Comparison::Unknown(unread) if unread.iter().any(Unread::is_refused))
     }
+
+    fn lacks_memory(&self) -> bool {
+        matches!(self, Comparison::Unknown(unread) if unread.iter().any(Unread::lacks_memory))
+    }
 }
 
 impl Unread {
     fn is_refused(&self) -> bool {
         matches!(self.trouble, Trouble::Fault(Fault::Refused(_)))
+    }
+
+    fn is_misnamed(&self) -> bool {
+        matches!(self.trouble, Trouble::Misnamed { .. })
+    }
+
+    fn lacks_memory(&self) -> bool {
+        matches!(&self.trouble, Trouble::Fault(fault) if fault.lacks_memory())
+    }
+
+    /// The beginning of its object in JSON.
+    fn object(&self, name: &Path) -> Object {
+        let object = Object::new().path(name).text("side", self.side.name());
+        match self.only && !self.is_misnamed() {
+            true => object.text("missing_in", self.side.other().name()),
+            false => object,
+        }
     }
 }
 
@@ -208,9 +250,13 @@ struct Task {
 }
 
 impl Task {
+    fn compare(&self, room: &mut Room) -> Comparison {
+        room.attempt(|room| self.try_compare(room), Comparison::lacks_memory)
+    }
+
     /// Compares the settled forms. The second file takes the first one's
     /// place in memory.
-    fn compare(&self, room: &mut Room) -> Comparison {
+    fn try_compare(&self, room: &mut Room) -> Comparison {
         let [first, second] = [0, 1].map(|side| length_to_read(&self.paths[side]));
         let mut lengths = [first.max(second), first, second];
         loop {
@@ -291,6 +337,7 @@ impl Task {
                 side,
                 path: self.paths[side as usize].clone(),
                 trouble: Trouble::Fault(fault),
+                only: false,
             }));
         }
         Comparison::Unknown(unread)
@@ -303,9 +350,17 @@ struct Summary {
     same: u64,
     different: u64,
     refused: u64,
+    /// Shards that list chunks on the other side.
     missing: [u64; 2],
+    /// Shards that only one side has and that list no chunk.
+    empty: u64,
     not_read: u64,
     misnamed: u64,
+    /// Which folders have a file that has the name of no shard. It may be any
+    /// shard that is missing there.
+    strays: [bool; 2],
+    /// Folders without shards. They may be no deposits.
+    bare: u64,
 }
 
 impl Summary {
@@ -331,10 +386,14 @@ impl Summary {
                 report.note(Status::No);
                 tell_different(&name, difference, report)
             }
-            Comparison::Missing(side) => {
-                self.missing[side as usize] += 1;
+            Comparison::Only(side, 0) => {
+                self.empty += 1;
+                tell_only(&name, side, 0, report)
+            }
+            Comparison::Only(side, chunks) => {
+                self.missing[side.other() as usize] += 1;
                 report.note(Status::No);
-                tell_missing(&name, side, report)
+                tell_only(&name, side, chunks, report)
             }
             Comparison::Unknown(unread) => {
                 self.count_unread(&unread);
@@ -347,8 +406,7 @@ impl Summary {
 
     /// A pair counts once, by the worst that came of its files.
     fn count_unread(&mut self, unread: &[Unread]) {
-        let misnamed = |unread: &Unread| matches!(unread.trouble, Trouble::Misnamed);
-        if unread.iter().all(misnamed) {
+        if unread.iter().all(Unread::is_misnamed) {
             self.misnamed += 1;
         } else if unread.iter().all(Unread::is_refused) {
             self.refused += 1;
@@ -372,38 +430,64 @@ impl Summary {
                 .number("refused", self.refused)
                 .number("missing_in_first", self.missing[0])
                 .number("missing_in_second", self.missing[1])
+                .number("empty_on_one_side", self.empty)
                 .number("not_read", self.not_read)
                 .number("misnamed", self.misnamed)
+                .number("folders_without_shards", self.bare)
                 .text("sentence", &sentence),
         )
     }
 
     /// The answer in a word and in a sentence.
     fn sentence(&self) -> (&'static str, String) {
-        let [first, second] = self.missing;
-        let (answer, beginning) = if self.different + first + second > 0 {
+        let (answer, beginning) = if self.differs() {
             ("different", "The two do not hold the same chunks")
-        } else if self.refused + self.not_read + self.misnamed > 0 {
+        } else if self.is_unknown() {
             (
                 "unknown",
                 "It is not known whether the two hold the same chunks",
             )
         } else {
-            let shards = counted(self.same, "shard");
-            let sentence =
-                format!("The two hold the same chunks: {shards} compared, all the same.");
-            return ("same", sentence);
+            return ("same", self.sentence_of_same());
         };
+        let bare = match self.bare {
+            0 => String::new(),
+            bare => format!(", {} without shards", counted(bare, "folder")),
+        };
+        let [first, second] = self.missing;
         let sentence = format!(
             "{beginning}: {} same, {} different, {} refused, {first} missing in the first, \
-             {second} missing in the second{}{}.",
+             {second} missing in the second{}{}{}{bare}.",
             counted(self.same, "shard"),
             self.different,
             self.refused,
+            and(self.empty, "on one side only without chunks"),
             and(self.not_read, "not read"),
             and(self.misnamed, "misnamed"),
         );
         (answer, sentence)
+    }
+
+    /// Whether one side surely lists a chunk that the other does not list with
+    /// the same bytes.
+    fn differs(&self) -> bool {
+        let lacks = |side: Side| self.missing[side as usize] > 0 && !self.strays[side as usize];
+        self.different > 0 || Side::BOTH.into_iter().any(lacks)
+    }
+
+    /// Whether something was left unjudged.
+    fn is_unknown(&self) -> bool {
+        let [first, second] = self.missing;
+        self.refused + self.not_read + self.misnamed + self.bare + first + second > 0
+    }
+
+    fn sentence_of_same(&self) -> String {
+        let empty = match self.empty {
+            0 => String::new(),
+            empty => format!("; shards on one side only that list no chunk: {empty}"),
+        };
+        let shards = counted(self.same, "shard");
+        format!("The two hold the same chunks: {shards} compared, all the same{empty}.")
     }
 }
 
@@ -442,11 +526,18 @@ fn tell_different(
     say(name, &format!("different: {difference}"), members, report)
 }
 
-fn tell_missing(name: &Path, side: Side, report: &mut Report) -> Result<(), Fault> {
-    let line = format!("missing in the {}", side.name());
+/// A sound shard that one side has and the other has not.
+fn tell_only(name: &Path, side: Side, chunks: u64, report: &mut Report) -> Result<(), Fault> {
+    let (result, what) = match chunks {
+        0 => ("empty", ", lists no chunk".to_string()),
+        _ => ("missing", format!(": {}", counted(chunks, "chunk"))),
+    };
+    let line = format!("only in the {}{what}", side.name());
     let members = |object: Object| {
-        let object = object.text("result", "missing");
-        object.text("missing_in", side.name())
+        object
+            .text("result", result)
+            .text("missing_in", side.other().name())
+            .number("chunks", chunks)
     };
     say(name, &line, members, report)
 }
@@ -458,31 +549,25 @@ fn tell_unread(
     unread: Unread,
     report: &mut Report,
 ) -> Result<(), Fault> {
+    let object = unread.object(name);
     match unread.trouble {
-        Trouble::Misnamed => round::tell_misnamed(sharding, &unread.path, report),
+        Trouble::Misnamed { alone } => {
+            round::tell_misnamed(sharding, &unread.path, alone, object, report)
+        }
         Trouble::Fault(Fault::Refused(refused)) => {
             report.note(Status::No);
-            tell_refused(name, unread.side, *refused, report)
+            if report.json() {
+                return report.object(refusal_members(object, &refused));
+            }
+            let only = if unread.only { "only " } else { "" };
+            let place = format!("{}: {only}in the {}", shown(name), unread.side.name());
+            report.line(Refused {
+                subject: Subject::Asked(place),
+                ..*refused
+            })
         }
-        Trouble::Fault(fault) => round::tell_fault(&unread.path, &fault, report),
+        Trouble::Fault(fault) => round::tell_fault(object, &fault, report),
     }
-}
-
-/// `0a.shard: in the first: refused 9: ..`
-fn tell_refused(
-    name: &Path,
-    side: Side,
-    refused: Refused,
-    report: &mut Report,
-) -> Result<(), Fault> {
-    if report.json() {
-        let object = Object::new().path(name).text("side", side.name());
-        return report.object(refusal_members(object, &refused));
-    }
-    report.line(Refused {
-        subject: Subject::Asked(format!("{}: in the {}", shown(name), side.name())),
-        ..refused
-    })
 }
 
 #[cfg(test)]
@@ -574,5 +659,66 @@ mod tests {
             ..same()
         })
         .starts_with(unknown));
+    }
+
+    /// The answer for these counts; strays only where a name is no shard's.
+    fn answer(summary: &Summary) -> &'static str {
+        summary.sentence().0
+    }
+
+    #[test]
+    fn what_is_missing_is_different_unless_it_may_be_there_under_another_name() {
+        let missing = |missing, strays| Summary {
+            same: 3,
+            missing,
+            strays,
+            misnamed: u64::from(strays[0]) + u64::from(strays[1]),
+            ..Summary::default()
+        };
+        for (counts, strays, expected) in [
+            ([0, 1], [false, false], "different"),
+            ([1, 0], [false, false], "different"),
+            ([0, 1], [true, false], "different"),
+            ([1, 0], [false, true], "different"),
+            ([0, 1], [false, true], "unknown"),
+            ([1, 0], [true, false], "unknown"),
+            ([1, 1], [true, false], "different"),
+            ([1, 1], [true, true], "unknown"),
+            ([0, 0], [true, true], "unknown"),
+            ([0, 0], [false, false], "same"),
+        ] {
+            let summary = missing(counts, strays);
+            assert_eq!(answer(&summary), expected, "{counts:?} {strays:?}");
+            // A pair that differs decides, whatever else there is.
+            let summary = Summary {
+                different: 1,
+                ..summary
+            };
+            assert_eq!(answer(&summary), "different");
+        }
+    }
+
+    #[test]
+    fn what_lists_no_chunk_decides_nothing() {
+        let empty = || Summary {
+            empty: 2,
+            ..Summary::default()
+        };
+        assert_eq!(answer(&empty()), "same");
+        assert_eq!(
+            answer(&Summary {
+                refused: 1,
+                ..empty()
+            }),
+            "unknown"
+        );
+        assert_eq!(answer(&Summary { bare: 1, ..empty() }), "unknown");
+        assert_eq!(
+            answer(&Summary {
+                missing: [1, 0],
+                ..empty()
+            }),
+            "different"
+        );
     }
 }

@@ -9,7 +9,7 @@ use coronagamba::{Shard, Sharding};
 use super::Command;
 use crate::args::{flag, value, Args};
 use crate::fault::{Fault, Status};
-use crate::files::{length_to_read, one_place, read_into};
+use crate::files::{length_to_read, one_place, read_into, Inputs};
 use crate::folder::{is_folder, list, single, Input};
 use crate::help;
 use crate::json::Object;
@@ -33,19 +33,35 @@ pub const COMMAND: Command = Command {
 };
 
 fn run(args: &Args, report: &mut Report) -> Result<(), Fault> {
-    let task = Task {
-        sharding: settings::of_shards(args)?.sharding,
-        force: args.flag("--force"),
-    };
+    let sharding = settings::of_shards(args)?.sharding;
     let workers = round::workers(args)?;
     let [source] = args.exactly(["PATH"])?.map(Path::new);
     let out = Path::new(args.needed("--out")?);
     not_one_place(source, out)?;
-    if is_folder(source) {
+    let of_folder = is_folder(source);
+    let (shards, others) = if of_folder {
         round::no_shard_option(args, source)?;
-        task.folder(workers, source, out, report)
+        let listing = list(&sharding, source);
+        let others = listing.others;
+        (listing.inputs(source), others)
     } else {
-        task.file(single(args, &task.sharding, source), out, report)
+        (vec![single(args, &sharding, source)], 0)
+    };
+    if shards.is_empty() {
+        return round::tell_no_shards(source, others, report);
+    }
+    let card = args.value("--card").map(Path::new);
+    let paths = shards.iter().map(|shard| shard.path.as_path());
+    let task = Task {
+        sharding,
+        force: args.flag("--force"),
+        inputs: Inputs::of(paths.chain(card)),
+    };
+    if of_folder {
+        let summary = task.folder(workers, shards, out, report)?;
+        summary.print(others, report)
+    } else {
+        task.file(shards, out, report)
     }
 }
 
@@ -80,41 +96,40 @@ struct Settled {
 struct Task {
     sharding: Sharding,
     force: bool,
+    /// All shards and the card, as they were when the run began: the output of
+    /// one shard may be the input of another.
+    inputs: Inputs,
 }
 
 impl Task {
     /// Settles one file.
-    fn file(&self, input: Input, out: &Path, report: &mut Report) -> Result<(), Fault> {
-        output::is_taken(out)?;
-        output::remove_stale_parts_of(out);
-        let out = out.to_path_buf();
-        self.round(1, vec![Job { input, out }], report).map(|_| ())
+    fn file(&self, shard: Vec<Input>, out: &Path, report: &mut Report) -> Result<(), Fault> {
+        output::remove_stale_parts_of(out, &self.inputs);
+        let job = |input| Job {
+            out: out.to_path_buf(),
+            input,
+        };
+        let jobs = shard.into_iter().map(job).collect();
+        self.round(1, jobs, report).map(|_| ())
     }
 
     /// Settles all shards of a folder.
     fn folder(
         &self,
         workers: usize,
-        source: &Path,
+        shards: Vec<Input>,
         out: &Path,
         report: &mut Report,
-    ) -> Result<(), Fault> {
-        let listing = list(&self.sharding, source);
-        let others = listing.others;
-        let inputs = listing.inputs(source);
-        if inputs.is_empty() {
-            return round::tell_no_shards(source, others, report);
-        }
+    ) -> Result<Summary, Fault> {
         make_folder(out)?;
         let is_shard = |name: &_| shard_number(&self.sharding, name).is_some();
-        output::remove_stale_parts(out, is_shard);
+        output::remove_stale_parts(out, &self.inputs, is_shard);
         let job = |input: Input| Job {
             out: out.join(input.path.file_name().unwrap_or_default()),
             input,
         };
-        let jobs = inputs.into_iter().map(job).collect();
-        let summary = self.round(workers, jobs, report)?;
-        summary.print(others, report)
+        let jobs = shards.into_iter().map(job).collect();
+        self.round(workers, jobs, report)
     }
 
     /// Settles the shards and tells what came of each.
@@ -131,7 +146,8 @@ impl Task {
         let path = job.input.path;
         match job.input.number {
             Ok(number) => {
-                let settled = self.settle(room, &path, number, job.out);
+                let settle = |room: &mut Room| self.settle(room, &path, number, &job.out);
+                let settled = room.attempt(settle, round::lacks_memory);
                 Verdict::from(settled).of(path, room.file.len())
             }
             Err(trouble) => Verdict::from(trouble).of(path, 0),
@@ -144,9 +160,11 @@ impl Task {
         room: &mut Room,
         path: &Path,
         number: u64,
-        out: PathBuf,
+        out: &Path,
     ) -> Result<Settled, Fault> {
-        not_one_place(path, &out)?;
+        // Before the work, and again where a file is to be replaced.
+        self.inputs.spare(out)?;
+        output::is_taken(out)?;
         let to = self.read(room, path, number)?;
         let shard = Shard::open(self.sharding, number, &room.file);
         let form =
@@ -155,8 +173,8 @@ impl Task {
         shard.settle(form).map_err(explain)?;
         let chunks = chunk_count(&self.sharding, &shard).map_err(explain)?;
         Ok(Settled {
-            placed: output::place(&out, self.force, form)?,
-            out,
+            placed: output::place(out, self.force, form, &self.inputs)?,
+            out: out.to_path_buf(),
             chunks,
             from: room.file.len(),
             to,
@@ -332,6 +350,7 @@ mod tests {
         let task = Task {
             sharding: TWO_MINISHARDS,
             force: false,
+            inputs: Inputs::default(),
         };
         let work = |room: &mut Room, job| match task.work(room, job).verdict {
             Verdict::Answer(settled) => (settled.placed, settled.to as u64),

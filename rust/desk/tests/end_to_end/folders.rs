@@ -76,6 +76,14 @@ fn verdict(path: &str, number: u64, file: &[u8]) -> String {
     }
 }
 
+/// How many chunks a sound shard lists, in words.
+fn count(number: u64, file: &[u8]) -> String {
+    match shard::list(&SHARDING, number, file).expect("sound").len() {
+        1 => "1 chunk".to_string(),
+        count => format!("{count} chunks"),
+    }
+}
+
 /// The lines that begin an answer; those that explain a refusal are indented.
 fn answers(run: &Run) -> Vec<&str> {
     let lines = run.lines().into_iter();
@@ -92,7 +100,7 @@ fn two_hundred_shards_are_checked() {
     run.expect_status(1);
 
     let answers = answers(&run);
-    assert_eq!(answers.len(), 201, "{run}");
+    assert_eq!(answers.len(), 202, "{run}");
     let mut refused = BTreeMap::new();
     for ((number, file), answer) in shards.iter().zip(&answers) {
         let expected = verdict(&format!("deposit/{}", name(*number)), *number, file);
@@ -106,7 +114,11 @@ fn two_hundred_shards_are_checked() {
     let count: u32 = refused.values().sum();
     assert!(refused.len() >= 4 && count > 20, "{refused:?}");
     let summary = format!("200 shards: {} sound, {count} refused", 200 - count);
-    assert!(answers[200].starts_with(&summary), "{}", answers[200]);
+    assert_eq!(
+        answers[200],
+        "deposit: 200 of 256 possible shards; not there: c8.shard, c9.shard, ca.shard, cb.shard, cc.shard and 51 more"
+    );
+    assert!(answers[201].starts_with(&summary), "{}", answers[201]);
 
     for jobs in ["1", "2", "3", "64"] {
         let again = folder.run_line(&format!("{line} --jobs {jobs}"));
@@ -408,12 +420,13 @@ fn what_is_refused_or_missing_on_one_side() {
 
     folder.write("one/02.shard", file(rng, 2));
     let run = folder.run_line(&format!("same one two {options}"));
-    run.expect_status(1).expect_line("02.shard: missing in the second").expect_line(
+    let chunks = count(2, &folder.read("one/02.shard"));
+    run.expect_status(1).expect_line(&format!("02.shard: only in the first: {chunks}")).expect_line(
         "The two do not hold the same chunks: 1 shard same, 0 different, 0 refused, 0 missing in the first, 1 missing in the second.",
     );
     let back = folder.run_line(&format!("same two one {options}"));
     back.expect_status(1)
-        .expect_line("02.shard: missing in the first");
+        .expect_line(&format!("02.shard: only in the second: {chunks}"));
 }
 
 #[test]
@@ -447,4 +460,250 @@ fn a_folder_with_other_files() {
     folder
         .run_line(&line.replace("deposit", "nothing"))
         .expect_status(3);
+}
+
+/// The sample's copy a as `one` and `two`, and the words that compare them.
+fn two_copies() -> (Folder, &'static str) {
+    let folder = Folder::with_sample();
+    for side in ["one", "two"] {
+        for name in folder.names("demo/copy-a") {
+            let shard = folder.read(format!("demo/copy-a/{name}"));
+            folder.write(format!("{side}/{name}"), shard);
+        }
+    }
+    (folder, "same one two --card demo/deposit.card")
+}
+
+/// The objects of a run with --json.
+fn objects(folder: &Folder, line: &str) -> Vec<Json> {
+    let run = folder.run_line(&format!("{line} --json"));
+    let read = |line: &str| Json::read(line).unwrap_or_else(|why| panic!("{why}: {line}"));
+    run.lines().into_iter().map(read).collect()
+}
+
+/// Compares, in plain lines and in JSON; gives the last line. The summary
+/// object must hold the same sentence and this answer.
+#[track_caller]
+fn compared_as(folder: &Folder, line: &str, status: i32, answer: &str) -> (Run, String) {
+    let run = folder.run_line(line);
+    run.expect_status(status);
+    let last = run.lines().last().expect("a sentence").to_string();
+    let beginning = match answer {
+        "same" => "The two hold the same chunks: ",
+        "different" => "The two do not hold the same chunks: ",
+        _ => "It is not known whether the two hold the same chunks: ",
+    };
+    assert!(last.starts_with(beginning), "{run}");
+    let objects = objects(folder, line);
+    let summary = objects.last().expect("a summary");
+    assert_eq!(summary.text("result"), Some("summary"));
+    assert_eq!(summary.text("answer"), Some(answer));
+    assert_eq!(summary.text("sentence"), Some(last.as_str()));
+    (run, last)
+}
+
+#[test]
+fn a_shard_without_chunks_on_one_side_changes_nothing() {
+    let (folder, line) = two_copies();
+    // Two empty entries of the shard index: a sound shard that lists nothing.
+    folder.write("one/3.shard", [0; 32]);
+    std::fs::remove_file(folder.at("two/3.shard")).expect("removed");
+    let (run, last) = compared_as(&folder, line, 0, "same");
+    run.expect_line("3.shard: only in the first, lists no chunk");
+    assert_eq!(
+        last,
+        "The two hold the same chunks: 7 shards compared, all the same; shards on one side only that list no chunk: 1."
+    );
+    let objects = objects(&folder, line);
+    let third = &objects[3];
+    assert_eq!(third.text("path"), Some("3.shard"));
+    assert_eq!(third.text("result"), Some("empty"));
+    assert_eq!(third.text("missing_in"), Some("second"));
+    assert_eq!(third.number("chunks"), Some("0"));
+    assert_eq!(objects[8].number("empty_on_one_side"), Some("1"));
+    assert_eq!(objects[8].number("missing_in_second"), Some("0"));
+    // A difference elsewhere is still one.
+    std::fs::remove_file(folder.at("one/7.shard")).expect("removed");
+    let (run, last) = compared_as(&folder, line, 1, "different");
+    run.expect_line("7.shard: only in the second: 8 chunks");
+    assert!(
+        last.ends_with(
+            "6 shards same, 0 different, 0 refused, 1 missing in the first, 0 missing in the second, 1 on one side only without chunks."
+        ),
+        "{run}"
+    );
+}
+
+#[test]
+fn a_shard_on_one_side_is_judged() {
+    let (folder, line) = two_copies();
+    std::fs::remove_file(folder.at("two/7.shard")).expect("removed");
+    // Shorter than its index.
+    folder.write("one/7.shard", [0; 20]);
+    let (run, last) = compared_as(&folder, line, 1, "unknown");
+    assert!(
+        run.text()
+            .contains("7.shard: only in the first: refused 6: "),
+        "{run}"
+    );
+    assert!(
+        last.contains("1 refused, 0 missing in the first, 0 missing"),
+        "{run}"
+    );
+    let refused = &objects(&folder, line)[7];
+    assert_eq!(refused.text("path"), Some("7.shard"));
+    assert_eq!(refused.text("side"), Some("first"));
+    assert_eq!(refused.text("missing_in"), Some("second"));
+    assert_eq!(refused.number("refusal"), Some("6"));
+    // One that cannot be read.
+    std::fs::remove_file(folder.at("one/7.shard")).expect("removed");
+    folder.make("one/7.shard");
+    let (_, last) = compared_as(&folder, line, 3, "unknown");
+    assert!(last.ends_with(", 1 not read."), "{last}");
+    let unread = &objects(&folder, line)[7];
+    assert_eq!(unread.text("path"), Some("7.shard"));
+    assert_eq!(unread.text("side"), Some("first"));
+    assert_eq!(unread.text("result"), Some("error"));
+}
+
+#[test]
+fn a_misnamed_file_may_be_the_one_that_is_missing() {
+    let (folder, line) = two_copies();
+    std::fs::rename(folder.at("two/1.shard"), folder.at("two/01.shard")).expect("renamed");
+    let (run, last) = compared_as(&folder, line, 1, "unknown");
+    run.expect_line("1.shard: only in the first: 16 chunks");
+    assert!(
+        last.ends_with("1 missing in the second, 1 misnamed."),
+        "{run}"
+    );
+    let misnamed = &objects(&folder, line)[1];
+    assert_eq!(misnamed.text("path"), Some("01.shard"));
+    assert_eq!(misnamed.text("side"), Some("second"));
+    assert_eq!(misnamed.text("result"), Some("misnamed"));
+    // On the same side it is not: the second surely lacks a chunk.
+    std::fs::rename(folder.at("two/01.shard"), folder.at("one/01.shard")).expect("renamed");
+    compared_as(&folder, line, 1, "different");
+    // A misnamed file that cannot be read may be it as well.
+    std::fs::remove_file(folder.at("one/01.shard")).expect("removed");
+    std::os::unix::fs::symlink("nowhere", folder.at("two/01.shard")).expect("a link");
+    compared_as(&folder, line, 3, "unknown");
+}
+
+#[test]
+fn folders_without_shards_have_an_answer() {
+    let folder = Folder::with_sample();
+    folder.make("one");
+    folder.make("two");
+    let line = "same one two --card demo/deposit.card";
+    let (_, last) = compared_as(&folder, line, 1, "unknown");
+    assert!(last.ends_with(", 2 folders without shards."), "{last}");
+    folder.write("one/3.shard", [0; 32]);
+    let (_, last) = compared_as(&folder, line, 1, "unknown");
+    assert!(last.ends_with(", 1 folder without shards."), "{last}");
+    folder.write("one/7.shard", folder.read("demo/copy-a/7.shard"));
+    compared_as(&folder, line, 1, "different");
+}
+
+#[test]
+fn shards_that_are_not_there_are_told() {
+    let folder = Folder::with_sample();
+    let line = "check demo/copy-a --card demo/deposit.card";
+    let all = folder.run_line(line);
+    assert!(!all.text().contains("possible"), "{all}");
+    for (name, told) in [
+        ("7", "7 of 8 possible shards; not there: 7.shard"),
+        ("2", "6 of 8 possible shards; not there: 2.shard, 7.shard"),
+    ] {
+        std::fs::remove_file(folder.at(format!("demo/copy-a/{name}.shard"))).expect("removed");
+        let run = folder.run_line(line);
+        run.expect_status(0);
+        run.expect_line(&format!("demo/copy-a: {told}"));
+    }
+    let told = &objects(&folder, line)[6];
+    assert_eq!(told.text("folder"), Some("demo/copy-a"));
+    assert_eq!(told.text("result"), Some("folder"));
+    assert_eq!(told.number("shards"), Some("6"));
+    assert_eq!(told.number("possible"), Some("8"));
+    let names = ["2.shard", "7.shard"].map(|name| Json::Text(name.to_string()));
+    assert_eq!(told.get("not_there"), Some(&Json::Array(names.to_vec())));
+    // One that is there and cannot be read is not missing.
+    folder.make("demo/copy-a/7.shard");
+    folder
+        .run_line(line)
+        .expect_line("demo/copy-a: 7 of 8 possible shards; not there: 2.shard");
+    // Of very many possible shards most are never there.
+    let many = "--preshift 0 --hash identity --minishard-bits 1 --shard-bits 17";
+    folder.write("many/00003.shard", [0; 32]);
+    let run = folder.run_line(&format!("check many {many}"));
+    run.expect_status(0);
+    assert!(!run.text().contains("possible"), "{run}");
+}
+
+#[test]
+fn one_way_for_a_name_of_no_shard() {
+    let folder = Folder::with_sample();
+    folder.write("odd/x.shard", folder.read("demo/copy-a/0.shard"));
+    let card = "--card demo/deposit.card";
+    for (line, at) in [
+        ("check odd", 0),
+        ("check odd/x.shard", 0),
+        ("check demo/copy-a/0.shard odd/x.shard", 1),
+        ("settle odd --out out", 0),
+        ("settle odd/x.shard --out out.shard", 0),
+    ] {
+        let objects = objects(&folder, &format!("{line} {card}"));
+        assert_eq!(objects[at].text("path"), Some("odd/x.shard"), "{line}");
+        assert_eq!(objects[at].text("result"), Some("misnamed"), "{line}");
+    }
+    // Named by itself it is wrong use, since --shard gives the number.
+    let run = folder.run_line(&format!("check demo/copy-a/0.shard odd/x.shard {card}"));
+    run.expect_status(2);
+    assert!(run.stderr.contains("--shard N"), "{run}");
+    run.expect_line("2 shards: 1 sound, 0 refused, 1 misnamed");
+    let line = format!("same odd/x.shard demo/copy-a/0.shard {card}");
+    folder.run_line(&line).expect_status(2);
+    let misnamed = &objects(&folder, &line)[0];
+    assert_eq!(misnamed.text("result"), Some("misnamed"));
+    assert_eq!(misnamed.text("side"), Some("first"));
+    folder
+        .run_line(&format!("{line} --shard 0"))
+        .expect_status(0);
+}
+
+#[test]
+fn one_number_is_for_one_file() {
+    let folder = Folder::with_sample();
+    let shards = "demo/copy-a/0.shard demo/copy-a/1.shard";
+    let card = "--card demo/deposit.card";
+    let run = folder.run_line(&format!("check {shards} --shard 0 {card}"));
+    run.expect_status(2);
+    assert!(run.stderr.contains("--shard is for one file"), "{run}");
+    folder
+        .run_line(&format!("check demo/copy-a/0.shard --shard 0 {card}"))
+        .expect_status(0);
+}
+
+#[test]
+fn an_output_that_cannot_be_written_is_told_beside_its_input() {
+    let folder = Folder::with_sample();
+    folder.write("file", "x");
+    for out in ["none/f", "file/f"] {
+        let line = format!("settle demo/copy-b/5.shard --out {out} --card demo/deposit.card");
+        folder.run_line(&line).expect_status(3);
+        let object = &objects(&folder, &line)[0];
+        assert_eq!(object.text("path"), Some("demo/copy-b/5.shard"));
+        assert_eq!(object.text("result"), Some("error"));
+        assert_eq!(object.text("out"), Some(out));
+    }
+}
+
+#[test]
+fn the_length_of_a_file_that_is_too_long() {
+    let folder = Folder::new();
+    let length = (1 << 30) + 12_345;
+    let long = std::fs::File::create(folder.at("00.shard")).expect("a file");
+    long.set_len(length).expect("a file with a hole");
+    let run = folder.run_line(&format!("check 00.shard {}", options(&SHARDING)));
+    run.expect_status(1);
+    run.expect_line(&format!("  found: a file of {length} bytes"));
 }

@@ -17,11 +17,16 @@ const SHARDING: Sharding = Sharding {
 
 /// A shard file of one chunk of this many bytes, most of them a hole.
 fn write_shard(folder: &Folder, name: &str, chunk: u64) {
+    write_shard_of(folder, name, 5, chunk);
+}
+
+/// The same with the chunk's id.
+fn write_shard_of(folder: &Folder, name: &str, id: u64, chunk: u64) {
     let mut file = File::create(folder.at(name)).expect("a file");
     let index = [chunk, chunk + 24].map(u64::to_le_bytes).concat();
     file.write_all(&index).expect("the shard index");
     file.seek(SeekFrom::Start(16 + chunk)).expect("the chunk");
-    file.write_all(&[5, 0, chunk].map(u64::to_le_bytes).concat())
+    file.write_all(&[id, 0, chunk].map(u64::to_le_bytes).concat())
         .expect("the minishard index");
 }
 
@@ -93,4 +98,38 @@ fn a_folder_under_a_limit_says_what_it_could_not_read() {
     run.expect_status(3);
     assert!(run.text().contains("1.shard: sound"), "{run}");
     assert!(run.text().contains("1 not read"), "{run}");
+}
+
+#[test]
+fn a_shard_that_gets_no_memory_waits_until_it_is_alone() {
+    let folder = Folder::new();
+    let sharding = Sharding {
+        shard_bits: 2,
+        ..SHARDING
+    };
+    let chunk = 96 * MIB;
+    for number in 0..4u64 {
+        // Id 4 + number belongs to that shard.
+        let name = format!("deposit/{number}.shard");
+        folder.write(&name, "");
+        write_shard_of(&folder, &name, 4 + number, chunk);
+    }
+    let options = options(&sharding);
+    // There is memory for one file and its form, not for those of all.
+    let limit = limit(2 * (chunk + 40) + 64 * MIB);
+    for line in [
+        format!("check deposit --jobs 4 {options}"),
+        format!("settle deposit --out settled --jobs 4 {options}"),
+    ] {
+        folder.run_after(&limit, &line).expect_status(0);
+    }
+    let limit = self::limit(3 * (chunk + 40) + 64 * MIB);
+    let same = format!("same deposit settled --jobs 4 {options}");
+    folder.run_after(&limit, &same).expect_status(0);
+    // Where even one alone is too much, the message names the size.
+    let limit = self::limit(chunk / 2);
+    let run = folder.run_after(&limit, &format!("check deposit --jobs 4 {options}"));
+    run.expect_status(3);
+    let size = (chunk + 40).to_string();
+    assert_eq!(run.stderr.matches(&size).count(), 4, "{run}");
 }

@@ -400,3 +400,81 @@ fn inputs_are_never_changed() {
     let after: Vec<_> = names.iter().map(|name| stamp(name)).collect();
     assert!(before == after);
 }
+
+#[test]
+fn the_card_is_never_an_output() {
+    let folder = Folder::with_sample();
+    let card = folder.read("demo/deposit.card");
+    folder.write("my.card", &card);
+    fs::hard_link(folder.at("my.card"), folder.at("hard")).expect("a link");
+    for out in ["my.card", "./demo/../my.card", "hard"] {
+        for force in ["", "--force"] {
+            let line = format!("settle demo/copy-b/5.shard --out {out} {force} --card my.card");
+            folder.run_line(&line).expect_status(2);
+            assert!(folder.read("my.card") == card, "{line}");
+        }
+    }
+    assert_eq!(folder.names("."), ["demo", "hard", "my.card"]);
+}
+
+#[test]
+fn an_output_is_none_of_all_inputs() {
+    let folder = Folder::with_sample();
+    let seventh = folder.read("demo/copy-b/7.shard");
+    for jobs in ["1", "4"] {
+        for force in ["", "--force"] {
+            folder.write("in/0.shard", folder.read("demo/copy-b/0.shard"));
+            folder.write("in/1.shard", folder.read("demo/copy-b/1.shard"));
+            folder.write("out/0.shard", &seventh);
+            symlink("../out/0.shard", folder.at("in/7.shard")).expect("a link");
+            let run = folder.run_line(&format!(
+                "settle in --out out --jobs {jobs} {force} --card demo/deposit.card"
+            ));
+            run.expect_status(2);
+            assert!(run.stderr.contains("in/7.shard"), "{run}");
+            assert!(folder.read("out/0.shard") == seventh, "{run}");
+            // The others are settled all the same.
+            for name in ["1.shard", "7.shard"] {
+                let form = folder.read(format!("demo/copy-a/{name}"));
+                assert!(folder.read(format!("out/{name}")) == form, "{name}");
+            }
+            fs::remove_dir_all(folder.at("in")).expect("removed");
+            fs::remove_dir_all(folder.at("out")).expect("removed");
+        }
+    }
+}
+
+#[test]
+fn part_files_of_an_output_go_away_whoever_writes_it() {
+    let folder = Folder::with_sample();
+    let card = "--card demo/deposit.card";
+    let fields = "--preshift 1 --hash identity --minishard-bits 1 --shard-bits 3 --size 300,260,200 --chunk 64,64,64";
+    for line in [
+        format!("get demo/copy-a/0.shard 0 --out out {card}"),
+        format!("card make --out out {fields}"),
+        format!("settle demo/copy-b/0.shard --out out {card}"),
+    ] {
+        // No process has these numbers.
+        folder.write(".out.4194305.part", "half");
+        folder.write(".other.4194305.part", "mine");
+        folder.run_line(&line).expect_status(0);
+        assert_eq!(folder.names("."), [".other.4194305.part", "demo", "out"]);
+        fs::remove_file(folder.at("out")).expect("removed");
+    }
+}
+
+#[test]
+fn an_input_that_looks_like_a_part_file_stays() {
+    let folder = Folder::with_sample();
+    let shard = folder.read("demo/copy-b/0.shard");
+    folder.write(".out.4194305.part", &shard);
+    let card = "--card demo/deposit.card";
+    for line in [
+        format!("settle .out.4194305.part --shard 0 --out out {card}"),
+        format!("get .out.4194305.part 0 --shard 0 --out out {card}"),
+    ] {
+        folder.run_line(&line).expect_status(0);
+        assert!(folder.read(".out.4194305.part") == shard, "{line}");
+        fs::remove_file(folder.at("out")).expect("removed");
+    }
+}
