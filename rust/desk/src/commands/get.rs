@@ -10,10 +10,10 @@ use super::{cell_of, Command};
 use crate::args::{flag, number, value, Args};
 use crate::diagnosis;
 use crate::fault::{Fault, Refused, Status};
-use crate::files::{one_place, read_whole};
+use crate::files::{read_whole, Inputs};
 use crate::help;
 use crate::naming::number_of_file;
-use crate::output::write_new;
+use crate::output::{remove_stale_parts_of, write_new};
 use crate::report::{complaint, shown, Report};
 use crate::settings;
 
@@ -42,13 +42,10 @@ fn run(args: &Args, report: &mut Report) -> Result<(), Fault> {
     }
     let out = args.value("--out").map(Path::new);
     if let Some(out) = out {
-        not_an_input(out, &[Some(&path), args.value("--card").map(Path::new)])?;
-        let inputs = crate::files::Inputs::of(
-            [Some(path.as_path()), args.value("--card").map(Path::new)]
-                .into_iter()
-                .flatten(),
-        );
-        crate::output::remove_stale_parts_of(out, &inputs);
+        let inputs = [Some(path.as_path()), args.value("--card").map(Path::new)];
+        let inputs = Inputs::of(inputs.into_iter().flatten());
+        inputs.spare(out)?;
+        remove_stale_parts_of(out, &inputs);
     }
     let file = read_whole(&path)?;
     let chunk = Shard::open(sharding, number, &file).chunk(id);
@@ -124,38 +121,4 @@ fn tell_missing(report: &mut Report, folder: &Path, file: &Path, id: u64) {
         shown(folder),
         shown(Path::new(name))
     ));
-}
-
-/// Keeps an output from taking an input's place, by whatever path.
-fn not_an_input(out: &Path, inputs: &[Option<&Path>]) -> Result<(), Fault> {
-    let mut inputs = inputs.iter().flatten();
-    match inputs.find(|input| one_place(out, input)) {
-        None => Ok(()),
-        Some(input) => Err(Fault::wrong_use(format!(
-            "{} is the input {}; an input is never overwritten",
-            shown(out),
-            shown(input)
-        ))),
-    }
-}
-
-#[cfg(test)]
-mod tests {
-    use super::*;
-    use crate::trial::Folder;
-    use std::os::unix::fs::symlink;
-
-    #[test]
-    fn an_output_never_takes_an_input_s_place() {
-        let folder = Folder::new("get-inputs");
-        let (shard, card) = (folder.write("0.shard", b"x"), folder.write("card", b"y"));
-        let link = folder.at("link");
-        symlink(&card, &link).unwrap();
-        let inputs = [Some(shard.as_path()), Some(card.as_path())];
-        for out in [&shard, &card, &link, &folder.at("./card")] {
-            assert!(not_an_input(out, &inputs).is_err(), "{}", out.display());
-        }
-        assert!(not_an_input(&folder.at("new"), &inputs).is_ok());
-        assert!(not_an_input(&card, &[Some(&shard), None]).is_ok());
-    }
 }

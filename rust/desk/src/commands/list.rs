@@ -12,9 +12,9 @@ use crate::fault::{Fault, Refused};
 use crate::files::read_whole;
 use crate::help;
 use crate::json::Object;
-use crate::naming::number_of_file;
+use crate::naming::{number_of_file, shard_number};
 use crate::report::{shown, Report};
-use crate::round::tell_fault;
+use crate::round::{tell_fault, tell_misnamed};
 use crate::settings;
 
 /// The command.
@@ -40,12 +40,24 @@ fn run(args: &Args, report: &mut Report) -> Result<(), Fault> {
         if files.len() > 1 && !report.json() {
             report.line(format_args!("{}:", shown(path)))?;
         }
+        let object = Object::new().path(path);
+        if !args.flag("--shard") && is_misnamed(&sharding, path) {
+            tell_misnamed(&sharding, path, true, object, report)?;
+            continue;
+        }
         match list(args, report, &sharding, path, only) {
-            Err(fault) if !fault.ends_the_run() => tell_fault(path, &fault, report)?,
+            Err(fault @ Fault::Refused(_)) => report.complain(&fault)?,
+            Err(fault) if !fault.ends_the_run() => tell_fault(object, &fault, report)?,
             listed => listed?,
         }
     }
     Ok(())
+}
+
+/// Whether a file's name is that of no shard, so that its number is not known.
+fn is_misnamed(sharding: &Sharding, path: &Path) -> bool {
+    let name = path.file_name().unwrap_or_default();
+    !path.is_dir() && shard_number(sharding, name).is_none()
 }
 
 /// Lists one file.

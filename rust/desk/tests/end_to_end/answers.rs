@@ -114,7 +114,7 @@ fn each_listed_file_has_an_object() {
     let objects = objects(&run);
     assert_eq!(
         results(&objects),
-        ["error", "error", "error", "refused", "error"]
+        ["error", "misnamed", "error", "refused", "error"]
     );
     let paths = objects.iter().map(|object| object.text("path"));
     assert!(paths.eq(files.split(' ').map(Some)), "{run}");
