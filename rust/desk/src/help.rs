@@ -142,7 +142,7 @@ options:
   --force             overwrite existing files that hold other bytes
 ",
     shard!(),
-    "  --jobs N            how many shards are settled at once; all cores otherwise\n",
+    "  --jobs N            how many shards are settled at once; two for each core\n                      otherwise, since each waits for the disk at its end\n",
     json!(),
     "
 exit status: 0 all are settled or already there; 1 one is refused or has no

@@ -35,13 +35,13 @@ pub struct Outcome<V> {
     pub read: u64,
 }
 
-/// How many shards are worked on side by side: what `--jobs` says, else one
+/// How many shards are worked on side by side: what `--jobs` says, else so many
 /// for each core.
-pub fn workers(args: &Args) -> Result<usize, Fault> {
+pub fn workers(args: &Args, for_each_core: usize) -> Result<usize, Fault> {
     match args.number(JOBS)? {
         Some(0) => Err(Fault::wrong_use("--jobs: '0' is not a number from 1 on")),
         Some(jobs) => Ok(usize::try_from(jobs).unwrap_or(usize::MAX)),
-        None => Ok(pool::all_cores()),
+        None => Ok(for_each_core * pool::all_cores()),
     }
 }
 

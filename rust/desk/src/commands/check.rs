@@ -27,7 +27,7 @@ pub const COMMAND: Command = Command {
 
 fn run(args: &Args, report: &mut Report) -> Result<(), Fault> {
     let sharding = settings::of_shards(args)?.sharding;
-    let workers = round::workers(args)?;
+    let workers = round::workers(args, 1)?;
     let paths = args.at_least_one("PATH")?;
     if paths.len() > 1 && args.flag("--shard") {
         return Err(Fault::wrong_use("--shard is for one file"));

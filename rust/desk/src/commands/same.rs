@@ -30,7 +30,7 @@ pub const COMMAND: Command = Command {
 
 fn run(args: &Args, report: &mut Report) -> Result<(), Fault> {
     let sharding = settings::of_shards(args)?.sharding;
-    let workers = round::workers(args)?;
+    let workers = round::workers(args, 1)?;
     let paths = args.exactly(["PATH1", "PATH2"])?.map(Path::new);
     let mut summary = Summary::default();
     let pairs = match paths.map(is_folder) {

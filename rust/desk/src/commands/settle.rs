@@ -34,7 +34,8 @@ pub const COMMAND: Command = Command {
 
 fn run(args: &Args, report: &mut Report) -> Result<(), Fault> {
     let sharding = settings::of_shards(args)?.sharding;
-    let workers = round::workers(args)?;
+    // One works while the other waits for its output to reach the disk.
+    let workers = round::workers(args, 2)?;
     let [source] = args.exactly(["PATH"])?.map(Path::new);
     let out = Path::new(args.needed("--out")?);
     not_one_place(source, out)?;
