@@ -60,13 +60,13 @@ impl Sample {
 }
 
 /// Lookups of listed ids; the limit loads the index of each id's minishard.
-fn lookups(name: &str, sample: &Sample, count: usize) {
+fn lookups(name: &str, sample: &Sample, count: usize, bar: Option<f64>) {
     let shard = sample.open();
     let ids: Vec<u64> = sample.ids.iter().cycle().take(count).copied().collect();
     let measure = Measure {
         name,
         operations: ids.len(),
-        bar: Some(1.3),
+        bar,
     };
     let indexes = sample.indexes();
     let minishard = |id: &u64| sample.sharding.place(*id).unwrap_or_default().minishard;
@@ -87,11 +87,11 @@ fn lookups(name: &str, sample: &Sample, count: usize) {
 }
 
 /// The whole-shard check, timed by chunk; the limit loads all indexes.
-fn checks(name: &str, sample: &Sample) {
+fn checks(name: &str, sample: &Sample, bar: Option<f64>) {
     let measure = Measure {
         name,
         operations: sample.ids.len(),
-        bar: Some(1.3),
+        bar,
     };
     let indexes = sample.indexes();
     measure.run_beside(
@@ -133,19 +133,24 @@ fn settling(name: &str, sample: &Sample, bar: Option<f64>) {
 /// Two MiB of chunks, which fit the caches, in many minishards and in one.
 fn small_shards() {
     let short = sample(1, 9, 1 << 15, 64);
-    lookups("lookup, 64 chunks in the minishard", &short, 1 << 12);
-    checks("check, 64 in a minishard, a chunk", &short);
+    lookups("lookup, 64 chunks in the minishard", &short, 1 << 12, None);
+    checks("check, 64 in a minishard, a chunk", &short, None);
     settling("settling, 2 MiB of 64 bytes, a KiB", &short, None);
     let long = sample(0, 0, 1 << 15, 64);
-    lookups("lookup, 32768 chunks in the minishard", &long, 10);
-    checks("check, identity, a chunk", &long);
+    lookups("lookup, identity, 32768 chunks", &long, 10, None);
+    checks("check, identity, a chunk", &long, None);
 }
 
 /// 256 MiB in a million chunks.
 fn many_chunks() {
     let many = sample(1, 10, 1 << 20, 256);
-    lookups("lookup, 1024 chunks in the minishard", &many, 1 << 11);
-    checks("check, 2^20 chunks, a chunk", &many);
+    lookups(
+        "lookup, 2^20 chunks, 1024 in a minishard",
+        &many,
+        1 << 11,
+        Some(1.3),
+    );
+    checks("check, 2^20 chunks, a chunk", &many, Some(1.3));
     settling("settling, 2^20 of 256 bytes, a KiB", &many, Some(1.5));
 }
 
