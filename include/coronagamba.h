@@ -9,7 +9,7 @@
  * The number is word & 0xff, the minishard word >> 8 & 0xffffff, the position
  * word >> 32: compare the number, not the word. Only coronagamba_check names a
  * minishard, always with 7 to 11, where minishard 0 is one too; no function
- * gives a position yet. A comment ends with the refusals that its function can
+ * gives a position. A comment ends with the refusals that its function can
  * give, in the order in which they are tested; docs/ENTRY-POINTS.md says what
  * each number means.
  *

@@ -1,4 +1,4 @@
--- Lookup, and the listing of a minishard (01, 'From id to shard'; READINGS: 1, 5, 6, then 7 to 11 of the chosen minishard, then 12).
+-- Lookup, and the listing of a minishard (01, 'From id to shard' and 'Refusal numbers': 1, 5, 6, then 7 to 11 of the chosen minishard, then 12).
 use Prim.Native.Nat.{ℕ, zero, suc, _+_}
 use mathlib.Core.Bool.{Bool, not, _||_}
 use mathlib.Core.List.{List, [], _∷_, _++_}

@@ -206,9 +206,6 @@ extern "C" {
 /// leaves everything behind the result pointers as it was.
 #[cfg(test)]
 mod tests {
-    // Which of these are used depends on the parts.
-    #![allow(dead_code, unused_imports)]
-
     use super::*;
 
     const KEPT: u64 = 0x0123_4567_89ab_cdef;

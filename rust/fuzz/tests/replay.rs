@@ -34,7 +34,7 @@ fn kept_finds_have_a_part() {
     let folder = Path::new(env!("CARGO_MANIFEST_DIR")).join("finds");
     for kept in files(&folder).unwrap() {
         let name = kept.file_name().unwrap().to_str().unwrap();
-        let known = PARTS.iter().any(|part| part.name == name) || name == "README.md";
+        let known = PARTS.iter().any(|part| part.name == name);
         assert!(known, "{name} is no part");
     }
 }

@@ -511,7 +511,12 @@ fn tell_different(
     report: &mut Report,
 ) -> Result<(), Fault> {
     let Some(difference) = difference else {
-        return say(name, "different", |o| o.text("result", "different"), report);
+        let line = "different; there is no memory to look for the first id";
+        let members = |object: Object| {
+            let object = object.text("result", "different");
+            object.text("error", "no memory to look for the first id")
+        };
+        return say(name, line, members, report);
     };
     let members = |object: Object| {
         let object = object.text("result", "different");

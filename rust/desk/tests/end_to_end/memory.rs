@@ -72,6 +72,27 @@ fn the_file_its_output_and_64_mib_are_enough() {
     assert_eq!(folder.names("."), ["0.shard", "chunk", "settled"]);
 }
 
+/// The longest shard, whose settled form is as long: both fit a machine of
+/// 4 GiB with room to spare.
+#[test]
+fn a_shard_of_one_gibibyte() {
+    let folder = Folder::new();
+    let file = 1 << 30;
+    write_shard(&folder, "0.shard", file - 40);
+    let options = options(&SHARDING);
+    folder
+        .run_after(&limit(file + 64 * MIB), &format!("check 0.shard {options}"))
+        .expect_status(0);
+    folder
+        .run_after(
+            &limit(2 * file + 64 * MIB),
+            &format!("settle 0.shard --out settled {options}"),
+        )
+        .expect_status(0);
+    let length = |name| folder.at(name).metadata().expect("a file").len();
+    assert_eq!((length("0.shard"), length("settled")), (file, file));
+}
+
 #[test]
 fn two_files_and_both_forms_are_compared_one_after_another() {
     let folder = Folder::new();
