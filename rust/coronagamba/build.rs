@@ -8,6 +8,8 @@ const FOLDER_VARIABLE: &str = "CORONAGAMBA_LIB_DIR";
 fn main() {
     println!("cargo::rerun-if-env-changed={FOLDER_VARIABLE}");
     let folder = env::var_os(FOLDER_VARIABLE).map_or_else(default_folder, PathBuf::from);
+    // The linker may run in another folder.
+    let folder = std::path::absolute(&folder).unwrap_or(folder);
     let archive = folder.join("libcapi.a");
     println!("cargo::rerun-if-changed={}", archive.display());
     if !archive.is_file() {

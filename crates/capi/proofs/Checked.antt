@@ -9,16 +9,16 @@ use lib.ListN.{length}
 use lib.Pow.{pow-pos}
 use borrow.Author.Tests.{ltb-true, not-false}
 use Rattle.endian.specs.Choice.{pick}
+use Rattle.endian.specs.Range.{first}
 use Rattle.sharding.specs.declared.Sharding.{Sharding}
-use Rattle.sharding.specs.Specification.{allowed, minishardCount, minishardBits}
+use Rattle.sharding.specs.Specification.{allowed, minishardCount, minishardBits, noSuchShard}
 use Rattle.sharding.proofs.Allowed.{minishards-most}
 use Rattle.shard.specs.declared.inner.Fault.{Fault}
 use Rattle.shard.specs.declared.inner.ShardFault.{ShardFault}
 use Rattle.shard.specs.declared.CheckAnswer.{CheckAnswer}
 use Rattle.shard.specs.declared.CheckAnswer.the-variants.{Refused, Faulty}
-use Rattle.shard.specs.Sums.{first}
 use Rattle.shard.specs.Faults.{faultOf, faulty, firstFault, shardFault}
-use Rattle.shard.specs.File.{indexPart, dataPart, noSuchShard, badFileLength, verdict, checkAnswer}
+use Rattle.shard.specs.File.{indexPart, dataPart, badFileLength, verdict, checkAnswer}
 
 first-below : (f : ℕ → Fault) (n : ℕ) → 0 < n → firstFault f n .minishard < n
 unfolding firstFault

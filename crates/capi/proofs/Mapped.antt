@@ -12,7 +12,7 @@ use Rattle.endian.specs.Place.{paste}
 use Rattle.endian.proofs.Paste.{paste-nil, paste-cons, paste-front}
 use Rattle.sharding.specs.declared.Sharding.{Sharding}
 use Rattle.sharding.specs.Specification.{allowed}
-use Rattle.capi.specs.Batch.{batchWord, batchAfter}
+use Rattle.capi.specs.Batch.{batchWord, batchAfter, countedAfter}
 
 drop-all : (l : List ℕ) (i : ℕ) → length l ≤ i → drop i l ≡ []
 drop-all [] i h = drop-nil i
@@ -26,10 +26,6 @@ module _ (f : ℕ → ℕ) (ids : List ℕ) (i : ℕ) (d : List ℕ) {e : List �
 
   pub map-last : length ids ≤ i → d ≡ e
   map-last l = sym (paste-nil i d) ∙ ap (λ (x : List ℕ). paste i (map f x) d) (sym (drop-all ids i l)) ∙ h
-
-length-map : (f : ℕ → ℕ) (l : List ℕ) → length (map f l) ≡ length l
-length-map f [] = refl
-length-map f (x ∷ l) = ap suc (length-map f l)
 
 -- ---- the answers
 
@@ -54,6 +50,15 @@ pub kept : (k : ℕ) (results before : List ℕ) → before ≡ batchAfter (suc 
 unfolding batchAfter
 kept k results before = refl
 
-pub filled : (f : ℕ → ℕ) (ids before : List ℕ) {now : List ℕ} → now ≡ paste 0 (map f ids) before → now ≡ batchAfter 0 (map f ids) before
+-- the same of the lent length
+pub count-kept : {A : Type 0} (k : ℕ) (results : List A) (before : ℕ) → before ≡ countedAfter (suc k) results before
+unfolding countedAfter
+count-kept k results before = refl
+
+pub counted : {A : Type 0} (results : List A) (before : ℕ) {now : ℕ} → now ≡ length results → now ≡ countedAfter 0 results before
+unfolding countedAfter
+counted results before e = e
+
+pub filled : (results before : List ℕ) {now : List ℕ} → now ≡ paste 0 results before → now ≡ batchAfter 0 results before
 unfolding batchAfter
-filled f ids before e = e ∙ paste-front (map f ids) before (length (map f ids)) refl
+filled results before e = e ∙ paste-front results before (length results) refl

@@ -13,14 +13,14 @@ use grid::Offset;
 use grid::Volume;
 use sharding::Sharding;
 
-fn four(spec: Sharding) -> [u8; 4]
-    ensures { λ r. ⌜ r ≡ spec .preshift ∷ spec .hash ∷ minishardBits spec ∷ shardBits spec ∷ [] ⌝ }
+fn four(sharding: Sharding) -> [u8; 4]
+    ensures { λ r. ⌜ r ≡ sharding .preshift ∷ sharding .hash ∷ minishardBits sharding ∷ shardBits sharding ∷ [] ⌝ }
 {
     [
-        spec.preshift,
-        spec.hash,
-        spec.minishard_bits,
-        spec.shard_bits,
+        sharding.preshift,
+        sharding.hash,
+        sharding.minishard_bits,
+        sharding.shard_bits,
     ]
 }
 
@@ -39,13 +39,13 @@ fn three_offsets(o: Offset) -> [i32; 3]
 #[no_mangle]
 pub extern "C" fn coronagamba_card_read(
     bytes: &[u8],
-    spec: &mut [u8; 4],
+    sharding: &mut [u8; 4],
     size: &mut [u32; 3],
     chunk: &mut [u32; 3],
     offset: &mut [i32; 3],
 ) -> u64
     ensures answer { λ r. ⌜ r ≡ cardWord (readAnswer (now (bytes .entry))) ⌝ }
-    ensures spec { λ _. ⌜ now (spec .exit) ≡ shardingAfter (readAnswer (now (bytes .entry))) (now (spec .entry)) ⌝ }
+    ensures sharding { λ _. ⌜ now (sharding .exit) ≡ shardingAfter (readAnswer (now (bytes .entry))) (now (sharding .entry)) ⌝ }
     ensures size { λ _. ⌜ now (size .exit) ≡ volumeAfter (readAnswer (now (bytes .entry))) (now (size .entry)) ⌝ }
     ensures chunk { λ _. ⌜ now (chunk .exit) ≡ chunkAfter (readAnswer (now (bytes .entry))) (now (chunk .entry)) ⌝ }
     ensures offset { λ _. ⌜ now (offset .exit) ≡ offsetAfter (readAnswer (now (bytes .entry))) (now (offset .entry)) ⌝ }
@@ -53,7 +53,7 @@ pub extern "C" fn coronagamba_card_read(
     match card::read_card(bytes) {
         CardAnswer::Says(card) => {
             let volume = card.volume;
-            *spec = four(card.sharding);
+            *sharding = four(card.sharding);
             *size = three_extents(volume.size);
             *chunk = three_extents(volume.chunk);
             *offset = three_offsets(volume.offset);
@@ -65,24 +65,18 @@ pub extern "C" fn coronagamba_card_read(
 
 #[no_mangle]
 pub extern "C" fn coronagamba_card_write(
-    spec: Sharding,
+    sharding: Sharding,
     volume: Volume,
     out: &mut [u8],
-    written: &mut u64,
+    length: &mut u64,
 ) -> u64
-    ensures answer { λ r. ⌜ r ≡ writtenWord (writeAnswer (record { sharding = spec; volume = volume }) (now (out .entry))) ⌝ }
-    ensures out { λ _. ⌜ now (out .exit) ≡ writeLeft (record { sharding = spec; volume = volume }) (now (out .entry)) ⌝ }
-    ensures written { λ _. ⌜ now (written .exit) ≡ lengthAfter (writeAnswer (record { sharding = spec; volume = volume }) (now (out .entry))) (now (written .entry)) ⌝ }
+    ensures answer { λ r. ⌜ r ≡ writtenWord (writeAnswer (record { sharding = sharding; volume = volume }) (now (out .entry))) ⌝ }
+    ensures out { λ _. ⌜ now (out .exit) ≡ writeLeft (record { sharding = sharding; volume = volume }) (now (out .entry)) ⌝ }
+    ensures length { λ _. ⌜ now (length .exit) ≡ lengthAfter (writeAnswer (record { sharding = sharding; volume = volume }) (now (out .entry))) (now (length .entry)) ⌝ }
 {
-    match card::write_card(
-        Card {
-            sharding: spec,
-            volume,
-        },
-        out,
-    ) {
+    match card::write_card(Card { sharding, volume }, out) {
         Written::Length(n) => {
-            *written = n as u64;
+            *length = n as u64;
             0
         }
         Written::Refused(refusal) => refusal as u64,

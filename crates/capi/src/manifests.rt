@@ -4,13 +4,17 @@ ghost use mathlib.Core.List.{[], _∷_};
 ghost use Rattle.manifest.specs.Verdict.{manifestAnswer};
 ghost use Rattle.manifest.specs.Questions.{headerAnswer, fieldAnswer, nodeAnswer};
 ghost use Rattle.manifest.specs.Boxes.{cornersAnswer};
-ghost use Rattle.capi.specs.Manifests.{manifestWord, headerWord, headerAfter, fieldWord, kindAfter, realAfter, wholeAfter, nodeWord, positionAfter, fragmentAfter, bytesAfter, cornersWord, nearAfter, farAfter};
+ghost use Rattle.manifest.specs.Walks.{walkAnswer, stepAnswer};
+ghost use Rattle.capi.specs.Manifests.{manifestWord, headerWord, headerAfter, fieldWord, kindAfter, realAfter, wholeAfter, nodeWord, positionAfter, fragmentAfter, bytesAfter, cornersWord, nearAfter, farAfter, atOf, placesOf, walkOf, walkWord, atBegun, placesBegun, stepWord, atStepped, placesStepped, kindStepped, positionStepped, fragmentStepped, bytesStepped};
 use manifest::Corner;
 use manifest::CornersAnswer;
 use manifest::Field;
 use manifest::HeaderAnswer;
 use manifest::ManifestAnswer;
 use manifest::NodeAnswer;
+use manifest::StepAnswer;
+use manifest::Walk;
+use manifest::WalkAnswer;
 
 #[no_mangle]
 pub extern "C" fn coronagamba_manifest_check(bytes: &[u8]) -> u64
@@ -107,19 +111,101 @@ pub extern "C" fn coronagamba_manifest_corners(
     bytes: &[u8],
     level: u32,
     node: u32,
-    near: &mut [f32; 3],
-    far: &mut [f32; 3],
+    near_corner: &mut [f32; 3],
+    far_corner: &mut [f32; 3],
 ) -> u64
     ensures answer { λ r. ⌜ r ≡ cornersWord (cornersAnswer (now (bytes .entry)) level node) ⌝ }
-    ensures near { λ _. ⌜ now (near .exit) ≡ nearAfter (cornersAnswer (now (bytes .entry)) level node) (now (near .entry)) ⌝ }
-    ensures far { λ _. ⌜ now (far .exit) ≡ farAfter (cornersAnswer (now (bytes .entry)) level node) (now (far .entry)) ⌝ }
+    ensures near { λ _. ⌜ now («near_corner» .exit) ≡ nearAfter (cornersAnswer (now (bytes .entry)) level node) (now («near_corner» .entry)) ⌝ }
+    ensures far { λ _. ⌜ now («far_corner» .exit) ≡ farAfter (cornersAnswer (now (bytes .entry)) level node) (now («far_corner» .entry)) ⌝ }
 {
     match manifest::corners_of(bytes, level, node) {
         CornersAnswer::Corners(corners) => {
-            *near = three_reals(corners.near);
-            *far = three_reals(corners.far);
+            *near_corner = three_reals(corners.near);
+            *far_corner = three_reals(corners.far);
             0
         }
         CornersAnswer::Refused(refusal) => refusal as u64,
+    }
+}
+
+fn at_of(walk: Walk) -> [u32; 2]
+    ensures { λ r. ⌜ r ≡ atOf walk ⌝ }
+{
+    [walk.level, walk.node]
+}
+
+fn places_of(walk: Walk) -> [u64; 2]
+    ensures { λ r. ⌜ r ≡ placesOf walk ⌝ }
+{
+    [walk.first, walk.start]
+}
+
+#[no_mangle]
+pub extern "C" fn coronagamba_manifest_walk_begin(
+    bytes: &[u8],
+    at: &mut [u32; 2],
+    places: &mut [u64; 2],
+) -> u64
+    ensures answer { λ r. ⌜ r ≡ walkWord (walkAnswer (now (bytes .entry))) ⌝ }
+    ensures at { λ _. ⌜ now (at .exit) ≡ atBegun (walkAnswer (now (bytes .entry))) (now (at .entry)) ⌝ }
+    ensures places { λ _. ⌜ now (places .exit) ≡ placesBegun (walkAnswer (now (bytes .entry))) (now (places .entry)) ⌝ }
+{
+    match manifest::walk_begin(bytes) {
+        WalkAnswer::Walk(walk) => {
+            *at = at_of(walk);
+            *places = places_of(walk);
+            0
+        }
+        WalkAnswer::Refused(refusal) => refusal as u64,
+    }
+}
+
+// A step does not judge the bytes again: the numbers are to be those that the last call on the same bytes left.
+#[no_mangle]
+pub extern "C" fn coronagamba_manifest_walk_step(
+    bytes: &[u8],
+    at: &mut [u32; 2],
+    places: &mut [u64; 2],
+    kind: &mut u32,
+    position: &mut [u32; 3],
+    start: &mut u64,
+    size: &mut u32,
+) -> u64
+    ensures answer { λ r. ⌜ r ≡ stepWord (stepAnswer (now (bytes .entry)) (walkOf (now (at .entry)) (now (places .entry)))) ⌝ }
+    ensures at { λ _. ⌜ now (at .exit) ≡ atStepped (stepAnswer (now (bytes .entry)) (walkOf (now (at .entry)) (now (places .entry)))) (now (at .entry)) ⌝ }
+    ensures places { λ _. ⌜ now (places .exit) ≡ placesStepped (stepAnswer (now (bytes .entry)) (walkOf (now (at .entry)) (now (places .entry)))) (now (places .entry)) ⌝ }
+    ensures kind { λ _. ⌜ now (kind .exit) ≡ kindStepped (stepAnswer (now (bytes .entry)) (walkOf (now (at .entry)) (now (places .entry)))) (now (kind .entry)) ⌝ }
+    ensures position { λ _. ⌜ now (position .exit) ≡ positionStepped (stepAnswer (now (bytes .entry)) (walkOf (now (at .entry)) (now (places .entry)))) (now (position .entry)) ⌝ }
+    ensures start { λ _. ⌜ now (start .exit) ≡ fragmentStepped (stepAnswer (now (bytes .entry)) (walkOf (now (at .entry)) (now (places .entry)))) (now (start .entry)) ⌝ }
+    ensures size { λ _. ⌜ now (size .exit) ≡ bytesStepped (stepAnswer (now (bytes .entry)) (walkOf (now (at .entry)) (now (places .entry)))) (now (size .entry)) ⌝ }
+{
+    let walk = Walk {
+        level: at[0],
+        node: at[1],
+        first: places[0],
+        start: places[1],
+    };
+    match manifest::walk_step(bytes, walk) {
+        StepAnswer::Node(visit) => {
+            let node = visit.node;
+            *kind = 1;
+            *position = [node.x, node.y, node.z];
+            *start = node.start;
+            *size = node.size;
+            *at = at_of(visit.next);
+            *places = places_of(visit.next);
+            0
+        }
+        StepAnswer::Level(next) => {
+            *kind = 2;
+            *at = at_of(next);
+            *places = places_of(next);
+            0
+        }
+        StepAnswer::End => {
+            *kind = 0;
+            0
+        }
+        StepAnswer::Refused(refusal) => refusal as u64,
     }
 }

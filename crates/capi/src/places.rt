@@ -7,16 +7,16 @@ use sharding::Sharding;
 
 #[no_mangle]
 pub extern "C" fn coronagamba_place_of(
-    spec: Sharding,
+    sharding: Sharding,
     id: u64,
     shard: &mut u64,
     minishard: &mut u64,
 ) -> u64
-    ensures answer { λ r. ⌜ r ≡ placeWord (placeAnswer spec id) ⌝ }
-    ensures shard { λ _. ⌜ now (shard .exit) ≡ shardAfter (placeAnswer spec id) (now (shard .entry)) ⌝ }
-    ensures minishard { λ _. ⌜ now (minishard .exit) ≡ minishardAfter (placeAnswer spec id) (now (minishard .entry)) ⌝ }
+    ensures answer { λ r. ⌜ r ≡ placeWord (placeAnswer sharding id) ⌝ }
+    ensures shard { λ _. ⌜ now (shard .exit) ≡ shardAfter (placeAnswer sharding id) (now (shard .entry)) ⌝ }
+    ensures minishard { λ _. ⌜ now (minishard .exit) ≡ minishardAfter (placeAnswer sharding id) (now (minishard .entry)) ⌝ }
 {
-    match sharding::place_of(spec, id) {
+    match sharding::place_of(sharding, id) {
         PlaceAnswer::At(place) => {
             *shard = place.shard;
             *minishard = place.minishard;

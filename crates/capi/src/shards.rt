@@ -14,24 +14,24 @@ use sharding::Sharding;
 
 #[no_mangle]
 pub extern "C" fn coronagamba_lookup(
-    spec: Sharding,
-    number: u64,
+    sharding: Sharding,
+    shard: u64,
     file: &[u8],
     id: u64,
     start: &mut u64,
-    size: &mut u64,
+    length: &mut u64,
 ) -> u64
-    ensures answer { λ r. ⌜ r ≡ lookupWord (lookupAnswer spec number (now (file .entry)) id) ⌝ }
-    ensures start { λ _. ⌜ now (start .exit) ≡ startAfter (lookupAnswer spec number (now (file .entry)) id) (now (start .entry)) ⌝ }
-    ensures size { λ _. ⌜ now (size .exit) ≡ sizeAfter (lookupAnswer spec number (now (file .entry)) id) (now (size .entry)) ⌝ }
+    ensures answer { λ r. ⌜ r ≡ lookupWord (lookupAnswer sharding shard (now (file .entry)) id) ⌝ }
+    ensures start { λ _. ⌜ now (start .exit) ≡ startAfter (lookupAnswer sharding shard (now (file .entry)) id) (now (start .entry)) ⌝ }
+    ensures length { λ _. ⌜ now (length .exit) ≡ sizeAfter (lookupAnswer sharding shard (now (file .entry)) id) (now (length .entry)) ⌝ }
 {
-    match shard::lookup(spec, number, file, id) {
+    match shard::lookup(sharding, shard, file, id) {
         LookupAnswer::Found {
             start: begin,
             length: bytes,
         } => {
             *start = begin as u64;
-            *size = bytes as u64;
+            *length = bytes as u64;
             0
         }
         LookupAnswer::Refused(refusal) => refusal as u64,
@@ -47,10 +47,10 @@ fn fault_word(refusal: u8, minishard: u64) -> u64
 }
 
 #[no_mangle]
-pub extern "C" fn coronagamba_check(spec: Sharding, number: u64, file: &[u8]) -> u64
-    ensures answer { λ r. ⌜ r ≡ checkWord (checkAnswer spec number (now (file .entry))) ⌝ }
+pub extern "C" fn coronagamba_check(sharding: Sharding, shard: u64, file: &[u8]) -> u64
+    ensures answer { λ r. ⌜ r ≡ checkWord (checkAnswer sharding shard (now (file .entry))) ⌝ }
 {
-    match shard::check::check(spec, number, file) {
+    match shard::check::check(sharding, shard, file) {
         CheckAnswer::Sound => 0,
         CheckAnswer::Refused(refusal) => refusal as u64,
         CheckAnswer::Faulty {
@@ -62,16 +62,16 @@ pub extern "C" fn coronagamba_check(spec: Sharding, number: u64, file: &[u8]) ->
 
 #[no_mangle]
 pub extern "C" fn coronagamba_listed_count(
-    spec: Sharding,
-    number: u64,
+    sharding: Sharding,
+    shard: u64,
     file: &[u8],
     minishard: u64,
     chunks: &mut u64,
 ) -> u64
-    ensures answer { λ r. ⌜ r ≡ countWord (countAnswer spec number (now (file .entry)) minishard) ⌝ }
-    ensures chunks { λ _. ⌜ now (chunks .exit) ≡ countAfter (countAnswer spec number (now (file .entry)) minishard) (now (chunks .entry)) ⌝ }
+    ensures answer { λ r. ⌜ r ≡ countWord (countAnswer sharding shard (now (file .entry)) minishard) ⌝ }
+    ensures chunks { λ _. ⌜ now (chunks .exit) ≡ countAfter (countAnswer sharding shard (now (file .entry)) minishard) (now (chunks .entry)) ⌝ }
 {
-    match shard::listed_count(spec, number, file, minishard) {
+    match shard::listed_count(sharding, shard, file, minishard) {
         CountAnswer::Count(n) => {
             *chunks = n as u64;
             0
@@ -82,20 +82,20 @@ pub extern "C" fn coronagamba_listed_count(
 
 #[no_mangle]
 pub extern "C" fn coronagamba_listing(
-    spec: Sharding,
-    number: u64,
+    sharding: Sharding,
+    shard: u64,
     file: &[u8],
     minishard: u64,
     out: &mut [u64],
-    written: &mut u64,
+    length: &mut u64,
 ) -> u64
-    ensures answer { λ r. ⌜ r ≡ countWord (listed (listingRefusal spec number (now (file .entry)) minishard) (listingOf spec (now (file .entry)) minishard) (now (out .entry))) ⌝ }
-    ensures out { λ _. ⌜ now (out .exit) ≡ leftListed (listingRefusal spec number (now (file .entry)) minishard) (listingOf spec (now (file .entry)) minishard) (now (out .entry)) ⌝ }
-    ensures written { λ _. ⌜ now (written .exit) ≡ countAfter (listed (listingRefusal spec number (now (file .entry)) minishard) (listingOf spec (now (file .entry)) minishard) (now (out .entry))) (now (written .entry)) ⌝ }
+    ensures answer { λ r. ⌜ r ≡ countWord (listed (listingRefusal sharding shard (now (file .entry)) minishard) (listingOf sharding (now (file .entry)) minishard) (now (out .entry))) ⌝ }
+    ensures out { λ _. ⌜ now (out .exit) ≡ leftListed (listingRefusal sharding shard (now (file .entry)) minishard) (listingOf sharding (now (file .entry)) minishard) (now (out .entry)) ⌝ }
+    ensures length { λ _. ⌜ now (length .exit) ≡ countAfter (listed (listingRefusal sharding shard (now (file .entry)) minishard) (listingOf sharding (now (file .entry)) minishard) (now (out .entry))) (now (length .entry)) ⌝ }
 {
-    match shard::listing(spec, number, file, minishard, out) {
+    match shard::listing(sharding, shard, file, minishard, out) {
         CountAnswer::Count(n) => {
-            *written = n as u64;
+            *length = n as u64;
             0
         }
         CountAnswer::Refused(refusal) => refusal as u64,
@@ -104,17 +104,17 @@ pub extern "C" fn coronagamba_listing(
 
 #[no_mangle]
 pub extern "C" fn coronagamba_settled_length(
-    spec: Sharding,
-    number: u64,
+    sharding: Sharding,
+    shard: u64,
     file: &[u8],
-    bytes: &mut u64,
+    length: &mut u64,
 ) -> u64
-    ensures answer { λ r. ⌜ r ≡ writtenWord (lengthAnswer spec number (now (file .entry))) ⌝ }
-    ensures bytes { λ _. ⌜ now (bytes .exit) ≡ lengthAfter (lengthAnswer spec number (now (file .entry))) (now (bytes .entry)) ⌝ }
+    ensures answer { λ r. ⌜ r ≡ writtenWord (lengthAnswer sharding shard (now (file .entry))) ⌝ }
+    ensures length { λ _. ⌜ now (length .exit) ≡ lengthAfter (lengthAnswer sharding shard (now (file .entry))) (now (length .entry)) ⌝ }
 {
-    match settle::settled_length(spec, number, file) {
+    match settle::settled_length(sharding, shard, file) {
         Written::Length(n) => {
-            *bytes = n as u64;
+            *length = n as u64;
             0
         }
         Written::Refused(refusal) => refusal as u64,
@@ -123,19 +123,19 @@ pub extern "C" fn coronagamba_settled_length(
 
 #[no_mangle]
 pub extern "C" fn coronagamba_settle(
-    spec: Sharding,
-    number: u64,
+    sharding: Sharding,
+    shard: u64,
     file: &[u8],
     out: &mut [u8],
-    written: &mut u64,
+    length: &mut u64,
 ) -> u64
-    ensures answer { λ r. ⌜ r ≡ writtenWord (settleAnswer spec number (now (file .entry)) (now (out .entry))) ⌝ }
-    ensures out { λ _. ⌜ now (out .exit) ≡ settleLeft spec number (now (file .entry)) (now (out .entry)) ⌝ }
-    ensures written { λ _. ⌜ now (written .exit) ≡ lengthAfter (settleAnswer spec number (now (file .entry)) (now (out .entry))) (now (written .entry)) ⌝ }
+    ensures answer { λ r. ⌜ r ≡ writtenWord (settleAnswer sharding shard (now (file .entry)) (now (out .entry))) ⌝ }
+    ensures out { λ _. ⌜ now (out .exit) ≡ settleLeft sharding shard (now (file .entry)) (now (out .entry)) ⌝ }
+    ensures length { λ _. ⌜ now (length .exit) ≡ lengthAfter (settleAnswer sharding shard (now (file .entry)) (now (out .entry))) (now (length .entry)) ⌝ }
 {
-    match settle::settle(spec, number, file, out) {
+    match settle::settle(sharding, shard, file, out) {
         Written::Length(n) => {
-            *written = n as u64;
+            *length = n as u64;
             0
         }
         Written::Refused(refusal) => refusal as u64,

@@ -13,15 +13,15 @@ pub extern "C" fn coronagamba_chunk_name(
     volume: Volume,
     cell: Cell,
     out: &mut [u8],
-    written: &mut u64,
+    length: &mut u64,
 ) -> u64
     ensures answer { λ r. ⌜ r ≡ writtenWord (chunkNameAnswer volume cell (now (out .entry))) ⌝ }
     ensures out { λ _. ⌜ now (out .exit) ≡ chunkNameLeft volume cell (now (out .entry)) ⌝ }
-    ensures written { λ _. ⌜ now (written .exit) ≡ lengthAfter (chunkNameAnswer volume cell (now (out .entry))) (now (written .entry)) ⌝ }
+    ensures length { λ _. ⌜ now (length .exit) ≡ lengthAfter (chunkNameAnswer volume cell (now (out .entry))) (now (length .entry)) ⌝ }
 {
     match names::chunk_name(volume, cell, out) {
         Written::Length(n) => {
-            *written = n as u64;
+            *length = n as u64;
             0
         }
         Written::Refused(number) => number as u64,
@@ -30,18 +30,18 @@ pub extern "C" fn coronagamba_chunk_name(
 
 #[no_mangle]
 pub extern "C" fn coronagamba_shard_name(
-    spec: Sharding,
+    sharding: Sharding,
     shard: u64,
     out: &mut [u8],
-    written: &mut u64,
+    length: &mut u64,
 ) -> u64
-    ensures answer { λ r. ⌜ r ≡ writtenWord (shardNameAnswer spec shard (now (out .entry))) ⌝ }
-    ensures out { λ _. ⌜ now (out .exit) ≡ shardNameLeft spec shard (now (out .entry)) ⌝ }
-    ensures written { λ _. ⌜ now (written .exit) ≡ lengthAfter (shardNameAnswer spec shard (now (out .entry))) (now (written .entry)) ⌝ }
+    ensures answer { λ r. ⌜ r ≡ writtenWord (shardNameAnswer sharding shard (now (out .entry))) ⌝ }
+    ensures out { λ _. ⌜ now (out .exit) ≡ shardNameLeft sharding shard (now (out .entry)) ⌝ }
+    ensures length { λ _. ⌜ now (length .exit) ≡ lengthAfter (shardNameAnswer sharding shard (now (out .entry))) (now (length .entry)) ⌝ }
 {
-    match names::shard_name(spec, shard, out) {
+    match names::shard_name(sharding, shard, out) {
         Written::Length(n) => {
-            *written = n as u64;
+            *length = n as u64;
             0
         }
         Written::Refused(number) => number as u64,

@@ -1,5 +1,5 @@
 -- What the functions that write a card need: how long its parts are, and one part written after another.
-use Prim.Native.Nat.{ℕ, _+_, _≤_, _<_}
+use Prim.Native.Nat.{ℕ, _+_, _≤_}
 use mathlib.Core.Path.{_≡_, refl, sym, ap, _∙_}
 use mathlib.Core.Bool.{Bool, true, false}
 use mathlib.Core.List.{List, [], _∷_, _++_, append-assoc}
@@ -11,11 +11,9 @@ use mir.Val.{SFits, toZ, ofZ}
 use mir.Facts.{toZ-ofZ}
 use Rattle.endian.specs.Little.{le}
 use Rattle.endian.specs.Place.{paste}
-use Rattle.endian.specs.Buffer.{written, leftBy}
-use Rattle.endian.specs.declared.Written.the-variants.{Length, Refused}
 use Rattle.endian.proofs.Little.{length-le}
 use Rattle.endian.proofs.Paste.{paste-nil, paste-then}
-use Rattle.endian.proofs.Buffer.{written-short, leftBy-short, written-fits, leftBy-paste}
+use Rattle.endian.proofs.Buffer.{too-long, kept-whole, how-long, at-front}
 use Rattle.grid.specs.declared.Extents.{Extents}
 use Rattle.grid.specs.declared.Offset.{Offset}
 use Rattle.grid.specs.declared.Volume.{Volume}
@@ -168,21 +166,6 @@ pub card-put : (c : Card) (d : List ℕ) {a b : List ℕ} → a ≡ paste 0 (sha
     → 46 + length (offsetBytes (c .volume .offset)) ≤ length d → b ≡ paste 0 (cardBytes c) d
 unfolding cardBytes
 card-put c d u v h = two 0 16 (shardingBytes (c .sharding)) (volumeBytes (c .volume)) d (length-sharding (c .sharding)) u v (omega arith)
-
--- ---- into a lent buffer
-module _ (s d : List ℕ) (n : ℕ) (e : n ≡ length s) where
-  pub too-long : length d < n → Refused 13 ≡ written s d
-  too-long h = sym (written-short s d (omega arith))
-
-  pub kept-whole : length d < n → d ≡ leftBy s d
-  kept-whole h = sym (leftBy-short s d (omega arith))
-
-  module _ (h : n ≤ length d) where
-    pub how-long : Length n ≡ written s d
-    how-long = sym (written-fits s d (omega arith) ∙ ap Length (omega arith))
-
-    pub at-front : (r : List ℕ) → r ≡ paste 0 s d → r ≡ leftBy s d
-    at-front r q = q ∙ leftBy-paste s d (omega arith)
 
 pub ruleset composing = (
   absent-length,

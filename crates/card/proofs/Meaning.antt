@@ -16,11 +16,11 @@ use Rattle.endian.specs.declared.Written.the-variants.{Length}
 use Rattle.endian.proofs.Little.{leAt-le, le-leAt, leAt-bound}
 use Rattle.endian.proofs.Copy.{part-length}
 use Rattle.endian.proofs.Buffer.{written-fits, leftBy-fits}
+use Rattle.endian.proofs.Tests.{both}
 use Rattle.grid.specs.declared.Offset.{Offset}
 use Rattle.grid.specs.Grid.{InU32, gridOf, zeroExtent}
 use Rattle.grid.specs.Key.{tooManyBits}
 use Rattle.sharding.specs.Specification.{allowed}
-use Rattle.grid.proofs.Ways.{both}
 use Rattle.card.specs.declared.Card.{Card}
 use Rattle.card.specs.declared.CardAnswer.the-variants.{Says, Refused}
 use Rattle.card.specs.Layout.{head, field, oneByte, three, bits32, shardingBytes, extentsBytes, isZero, noOffset, offsetTag, offsetBytes, volumeBytes, cardBytes, InI32, Ranged, Bytes}

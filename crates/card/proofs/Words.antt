@@ -5,13 +5,14 @@ use mathlib.Core.Bool.{Bool, true, false, _&&_}
 use native.Mathlib.Omega.{arith}
 use borrow.Author.Needs.{needs}
 use borrow.Author.Tests.{ltb-true, ltb-false, lt-ltb, le-ltb, ne-eqb}
-use lib.Dec.{T, ltb, eqb}
+use lib.Dec.{ltb, eqb}
 use lib.IntN.{ℤ, pos, negsuc, natAbs, _-ℤ_}
-use lib.Signed.{mag, ltZ, nonNeg}
+use lib.Signed.{mag, ltZ}
 use mir.Syntax.{w32}
 use mir.Val.{Fits, SFits, toZ, ofZ, sel}
 use mir.Facts.{toZ-ofZ, toZ-pos}
 use Rattle.endian.specs.Choice.{pick}
+use Rattle.endian.proofs.Signs.{less-fits, less-is, less-pos, less-fit, kept, kept-pos, kept-fit}
 use Rattle.grid.specs.declared.Offset.{Offset}
 use Rattle.card.specs.Layout.{bits32, isZero, noOffset, InI32}
 use Rattle.card.specs.Reading.{signed32}
@@ -75,19 +76,10 @@ module _ (v : ℕ) (l : 2147483648 ≤ v) (f : Fits w32 v) where
 
 -- ---- to 32 bits; an i32 in a local is read back from its bits
 
--- -1 - z for a negative z
-complement : (z : ℤ) → ltZ z (pos 0) ≡ true → negsuc 0 -ℤ z ≡ pos (mag z)
-complement (pos n) t = let h : n < 0 = ltb-true n 0 t in absurd (omega arith)
-complement (negsuc n) t = rw (le-ltb (suc n) 1 (omega arith)) (ap pos (omega arith))
-
 neg-bits : (z : ℤ) → ltZ z (pos 0) ≡ true → 4294967295 - mag z ≡ bits32 z
 unfolding bits32
 neg-bits (pos n) t = let h : n < 0 = ltb-true n 0 t in absurd (omega arith)
 neg-bits (negsuc n) t = omega arith
-
-same : (z : ℤ) → ltZ z (pos 0) ≡ false → z ≡ pos (mag z)
-same (pos n) t = refl
-same (negsuc n) t = let h : _≡_ {A = ℕ} 0 1 = cc in absurd (omega arith)
 
 same-bits : (z : ℤ) → ltZ z (pos 0) ≡ false → mag z ≡ bits32 z
 unfolding bits32
@@ -96,39 +88,14 @@ same-bits (negsuc n) t = let h : _≡_ {A = ℕ} 0 1 = cc in absurd (omega arith
 
 module _ (z : ℤ) (f : SFits w32 z) where
   module _ (t : ltZ (toZ w32 (ofZ w32 z)) (pos 0) ≡ true) where
-    less : negsuc 0 -ℤ toZ w32 (ofZ w32 z) ≡ pos (mag z)
-    less = rw (toZ-ofZ f) (complement z (rw (toZ-ofZ f) at t))
-
-    pub less-fits : SFits w32 (negsuc 0 -ℤ toZ w32 (ofZ w32 z))
-    less-fits = rw less (record { sfits = f .sfits })
-
-    less-is : toZ w32 (ofZ w32 (negsuc 0 -ℤ toZ w32 (ofZ w32 z))) ≡ pos (mag z)
-    less-is = toZ-ofZ less-fits ∙ less
-
-    pub less-pos : T (nonNeg (toZ w32 (ofZ w32 (negsuc 0 -ℤ toZ w32 (ofZ w32 z)))))
-    less-pos = rw less-is tt
-
-    pub less-fit : Fits w32 (natAbs (toZ w32 (ofZ w32 (negsuc 0 -ℤ toZ w32 (ofZ w32 z)))))
-    less-fit = rw less-is (let h = f .sfits in omega arith)
-
     pub less-most : natAbs (toZ w32 (ofZ w32 (negsuc 0 -ℤ toZ w32 (ofZ w32 z)))) ≤ 4294967295
-    less-most = rw less-is (let h = f .sfits in omega arith)
+    less-most = rw (less-is z f t) (let h = f .sfits in omega arith)
 
     pub neg-is : 4294967295 - natAbs (toZ w32 (ofZ w32 (negsuc 0 -ℤ toZ w32 (ofZ w32 z)))) ≡ bits32 z
-    neg-is = rw less-is (neg-bits z (rw (toZ-ofZ f) at t))
+    neg-is = rw (less-is z f t) (neg-bits z (rw (toZ-ofZ f) at t))
 
-  module _ (t : ltZ (toZ w32 (ofZ w32 z)) (pos 0) ≡ false) where
-    kept : toZ w32 (ofZ w32 z) ≡ pos (mag z)
-    kept = toZ-ofZ f ∙ same z (rw (toZ-ofZ f) at t)
-
-    pub kept-pos : T (nonNeg (toZ w32 (ofZ w32 z)))
-    kept-pos = rw kept tt
-
-    pub kept-fit : Fits w32 (natAbs (toZ w32 (ofZ w32 z)))
-    kept-fit = rw kept (let h = f .sfits in omega arith)
-
-    pub kept-is : natAbs (toZ w32 (ofZ w32 z)) ≡ bits32 z
-    kept-is = rw kept (same-bits z (rw (toZ-ofZ f) at t))
+  pub kept-is : ltZ (toZ w32 (ofZ w32 z)) (pos 0) ≡ false → natAbs (toZ w32 (ofZ w32 z)) ≡ bits32 z
+  kept-is t = rw (kept z f t) (same-bits z (rw (toZ-ofZ f) at t))
 
 -- ---- zero
 

@@ -1,7 +1,8 @@
 -- Laws of answers written into lent buffers: the two cases, and what a write at the front leaves.
 use Prim.Native.Nat.{ℕ, _≤_, _<_}
-use mathlib.Core.Path.{_≡_, refl, sym, _∙_}
+use mathlib.Core.Path.{_≡_, refl, sym, ap, _∙_}
 use mathlib.Core.List.{List, _++_}
+use native.Mathlib.Omega.{arith}
 use lib.ListN.{length, drop}
 use borrow.Author.Tests.{lt-ltb, le-ltb}
 use Rattle.endian.specs.Place.{paste}
@@ -29,3 +30,18 @@ module _ (s out : List ℕ) where
   -- the text pasted at the front
   pub leftBy-paste : length s ≤ length out → paste 0 s out ≡ leftBy s out
   leftBy-paste h = paste-front s out (length s) refl ∙ sym (leftBy-fits h)
+
+-- of s, n bytes long, written at the front of d: each law has the shape of a need
+module _ (s d : List ℕ) (n : ℕ) (e : n ≡ length s) where
+  pub too-long : length d < n → Refused 13 ≡ written s d
+  too-long h = sym (written-short s d (omega arith))
+
+  pub kept-whole : length d < n → d ≡ leftBy s d
+  kept-whole h = sym (leftBy-short s d (omega arith))
+
+  module _ (h : n ≤ length d) where
+    pub how-long : Length n ≡ written s d
+    how-long = sym (written-fits s d (omega arith) ∙ ap Length (sym e))
+
+    pub at-front : (r : List ℕ) → r ≡ paste 0 s d → r ≡ leftBy s d
+    at-front r q = q ∙ leftBy-paste s d (omega arith)

@@ -1,4 +1,5 @@
 pub mod Choice
+pub mod Range
 pub mod Little
 pub mod Place
 pub mod Buffer

@@ -9,6 +9,7 @@ use lib.Dec.{ltb, eqb}
 use lib.IntN.{ℤ, pos, negℤ, _+ℤ_, +ℤ-assoc, +ℤ-invl, +ℤ-idl}
 use borrow.Author.Tests.{not-false, ltb-true, ltb-false, lt-ltb, le-ltb, ne-eqb}
 use Rattle.endian.specs.Choice.{pick}
+use Rattle.endian.proofs.Tests.{both, neither}
 use Rattle.grid.specs.declared.Extents.{Extents}
 use Rattle.grid.specs.declared.Cell.{Cell}
 use Rattle.grid.specs.declared.Volume.{Volume}
@@ -20,7 +21,7 @@ use Rattle.grid.specs.Bounds.{beginOf, endOf}
 use Rattle.grid.specs.Answers.{noCell, keyAnswer, cellAnswer}
 use Rattle.grid.proofs.Covers.{grid-size-small}
 use Rattle.grid.proofs.From.{cell-of-key, key-of-cell, key-below}
-use Rattle.grid.proofs.Ways.{both, neither, chunk-some, inside-all}
+use Rattle.grid.proofs.Ways.{chunk-some, inside-all}
 
 -- ---- grids
 -- a grid's sizes are u32, as its volume's are

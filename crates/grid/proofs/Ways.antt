@@ -1,7 +1,7 @@
 -- Each way out of a function, as a case of its definition.
 use Prim.Native.Nat.{ℕ, _*_, _%_, _^_, _≤_, _<_}
-use mathlib.Core.Path.{_≡_, refl, sym, ap, _∙_}
-use mathlib.Core.Bool.{Bool, true, false, not, _&&_, _||_}
+use mathlib.Core.Path.{_≡_, sym, ap, _∙_}
+use mathlib.Core.Bool.{Bool, true, false, not}
 use native.Mathlib.Omega.{arith}
 use lib.Dec.{ltb, leb, eqb}
 use borrow.Author.Needs.{needs}
@@ -9,6 +9,7 @@ use borrow.Author.Tests.{not-true, not-false, ltb-true, eqb-false, leb-true, leb
 use lib.Pow.{shl-exact}
 use mir.Syntax.{w64}
 use mir.Val.{Fits}
+use Rattle.endian.proofs.Tests.{both, neither}
 use Rattle.grid.specs.declared.Extents.{Extents}
 use Rattle.grid.specs.declared.Cell.{Cell}
 use Rattle.grid.specs.declared.Volume.{Volume}
@@ -22,15 +23,6 @@ use Rattle.grid.specs.Key.{used, keyBits, tooManyBits, keyOf, cellOf, is
 use Rattle.grid.specs.Bounds.{beginPoint, endPoint, boundsOf, BeginsInside}
 use Rattle.grid.specs.Answers.{noCell, gridAnswer, keyAnswer, cellAnswer, boundsAnswer}
 use Rattle.grid.proofs.Covers.{cell-begins-inside}
-
--- ---- what a test that passed, or did not, says of its parts
-pub both : (a b : Bool) → a && b ≡ true → (a ≡ true) × (b ≡ true)
-both true b e = (refl, e)
-both false b e = (cc, cc)
-
-pub neither : (a b : Bool) → a || b ≡ false → (a ≡ false) × (b ≡ false)
-neither true b e = (cc, cc)
-neither false b e = (refl, e)
 
 positive : (n : ℕ) → eqb n 0 ≡ false → 0 < n
 positive n e = let f = eqb-false n 0 e in omega arith

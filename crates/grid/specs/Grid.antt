@@ -27,7 +27,7 @@ zeroExtent v = hasZero (v .size) || hasZero (v .chunk)
 
 -- each coordinate is below its grid size
 unfoldable pub inGrid : Extents → Cell → Bool
-inGrid g c = ltb (c .x) (g .x) && (ltb (c .y) (g .y) && ltb (c .z) (g .z))
+inGrid grid c = ltb (c .x) (grid .x) && (ltb (c .y) (grid .y) && ltb (c .z) (grid .z))
 
 -- extents are u32: no law below needs more of a volume's size
 pub record InU32 (e : Extents) : Type 0 where

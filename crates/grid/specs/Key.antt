@@ -10,9 +10,9 @@ use Rattle.grid.specs.Grid.{inGrid}
 unfoldable pub bitOf : ℕ → ℕ → ℕ
 bitOf n i = n / 2 ^ i % 2
 
--- turn i uses an axis of g cells: "If 2**i < grid_size[dim]"
+-- turn i uses an axis of so many cells: "If 2**i < grid_size[dim]"
 unfoldable pub used : ℕ → ℕ → Bool
-used g i = ltb (2 ^ i) g
+used cells i = ltb (2 ^ i) cells
 
 -- ---- the key of a cell
 -- the state of the steps: j, the next output bit, and the key so far
@@ -27,24 +27,24 @@ step false b w = w
 
 -- n turns from turn i on: "For dim in 0, 1, 2 (corresponding to x, y, z)"
 unfoldable pub steps : ℕ → ℕ → Extents → Cell → Output → Output
-steps zero i g c w = w
-steps (suc n) i g c w =
-    steps n (suc i) g c
-    (step (used (g .z) i) (bitOf (c .z) i)
-    (step (used (g .y) i) (bitOf (c .y) i)
-    (step (used (g .x) i) (bitOf (c .x) i) w)))
+steps zero i grid c w = w
+steps (suc n) i grid c w =
+    steps n (suc i) grid c
+    (step (used (grid .z) i) (bitOf (c .z) i)
+    (step (used (grid .y) i) (bitOf (c .y) i)
+    (step (used (grid .x) i) (bitOf (c .x) i) w)))
 
 -- "Set j := 0." Coordinates are u32: 32 turns reach each bit, and a turn that no axis uses gives nothing.
 unfoldable pub keyOf : Extents → Cell → ℕ
-keyOf g c = steps 32 0 g c (record { j = 0; key = 0 }) .key
+keyOf grid c = steps 32 0 grid c (record { j = 0; key = 0 }) .key
 
 -- how many output bits the steps give: the cell does not matter
 unfoldable pub keyBits : Extents → ℕ
-keyBits g = steps 32 0 g (record { x = 0; y = 0; z = 0 }) (record { j = 0; key = 0 }) .j
+keyBits grid = steps 32 0 grid (record { x = 0; y = 0; z = 0 }) (record { j = 0; key = 0 }) .j
 
 -- refusal 3: "the grid needs more than 64 key bits"
 unfoldable pub tooManyBits : Extents → Bool
-tooManyBits g = ltb 64 (keyBits g)
+tooManyBits grid = ltb 64 (keyBits grid)
 
 -- ---- the cell of a key: the same steps, which now read
 -- 1 for a bit that is used
@@ -76,15 +76,15 @@ stepBack ux uy uz key i w =
 
 -- n turns from turn i on
 unfoldable pub stepsBack : ℕ → ℕ → Extents → ℕ → Input → Input
-stepsBack zero i g key w = w
-stepsBack (suc n) i g key w =
-    stepsBack n (suc i) g key (stepBack (used (g .x) i) (used (g .y) i) (used (g .z) i) key i w)
+stepsBack zero i grid key w = w
+stepsBack (suc n) i grid key w =
+    stepsBack n (suc i) grid key (stepBack (used (grid .x) i) (used (grid .y) i) (used (grid .z) i) key i w)
 
 unfoldable pub cellOf : Extents → ℕ → Cell
-cellOf g key =
-    let w : Input = stepsBack 32 0 g key (record { j = 0; x = 0; y = 0; z = 0 }) in
+cellOf grid key =
+    let w : Input = stepsBack 32 0 grid key (record { j = 0; x = 0; y = 0; z = 0 }) in
     record { x = w .x; y = w .y; z = w .z }
 
 -- refusal 4, denied: no "bit above the last used one", and no "cell outside the grid"
 unfoldable pub isKey : Extents → ℕ → Bool
-isKey g key = ltb key (2 ^ keyBits g) && inGrid g (cellOf g key)
+isKey grid key = ltb key (2 ^ keyBits grid) && inGrid grid (cellOf grid key)

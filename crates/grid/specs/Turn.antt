@@ -18,20 +18,20 @@ unfoldable pub rest : Bool → ℕ → ℕ
 rest true k = k / 2
 rest false k = k
 
--- of n turns from turn i on, how many use an axis of g cells
+-- of n turns from turn i on, how many use an axis of so many cells
 unfoldable pub usedTurns : ℕ → ℕ → ℕ → ℕ
-usedTurns zero i g = 0
-usedTurns (suc n) i g = count (used g i) + usedTurns n (suc i) g
+usedTurns zero i cells = 0
+usedTurns (suc n) i cells = count (used cells i) + usedTurns n (suc i) cells
 
--- an axis of g cells gives r bits to a key: r turns use it, and none from turn r on
-pub record AxisBits (g r : ℕ) : Type 0 where
-  pub is : r ≡ usedTurns 32 0 g
+-- an axis of so many cells gives r bits to a key: r turns use it, and none from turn r on
+pub record AxisBits (cells r : ℕ) : Type 0 where
+  pub is : r ≡ usedTurns 32 0 cells
   pub most : r ≤ 32
-  pub holds : g ≤ 2 ^ r
+  pub holds : cells ≤ 2 ^ r
 
--- from turn r on no axis is used
-pub record Top (g : Extents) (r : ℕ) : Type 0 where
+-- from turn r on no axis of the grid is used
+pub record Top (grid : Extents) (r : ℕ) : Type 0 where
   pub most : r ≤ 32
-  pub x : g .x ≤ 2 ^ r
-  pub y : g .y ≤ 2 ^ r
-  pub z : g .z ≤ 2 ^ r
+  pub x : grid .x ≤ 2 ^ r
+  pub y : grid .y ≤ 2 ^ r
+  pub z : grid .z ≤ 2 ^ r

@@ -8,6 +8,7 @@ use lib.Dec.{T, T-not, leb, ltb, eqb}
 use lib.Pow.{field, pow-pos}
 use lib.IntN.{ℤ, pos}
 use lib.Ieee.{fin, binary32, up, down, ofBits, ofFields, odd, lt}
+use lib.Ieee.Bits.{is-true}
 use lib.Ieee.Fits.{up-pos}
 use lib.Ieee.Exact.{odd-sign}
 use lib.Ieee.Positive.{positive, positive-of-value}
@@ -29,10 +30,6 @@ lt-zero false m e = go m
     go (suc m) =
         let p : 0 < suc m * up e = mul-pos (omega arith) (up-pos e) in
         rw z (lt-ltb 0 (suc m * up e * 1) (omega arith) ∙ sym (lt-ltb 0 (suc m) (omega arith)))
-
-is-true : (b : Bool) → T b → b ≡ true
-is-true true t = refl
-is-true false t = absurd t
 
 odd-above : (s : Bool) (d q k l : ℕ) → lt (fin false 0 (pos 0)) (odd d s q k l) ≡ (not s && ltb 0 q)
 unfolding odd

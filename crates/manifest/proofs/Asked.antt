@@ -10,7 +10,9 @@ use lib.ListN.{length}
 use lib.Ieee.{Float}
 use borrow.Author.Needs.{needs}
 use borrow.Author.Tests.{lt-ltb, le-ltb, eq-eqb, ne-eqb}
-use Rattle.manifest.specs.Layout.{itemAt, sumTo, levelsOf, isReal, countOf, nodesBefore, fieldCount, sizeAt}
+use Rattle.endian.specs.Range.{sumTo}
+use Rattle.endian.proofs.Tests.{told-no, told-yes}
+use Rattle.manifest.specs.Layout.{itemAt, levelsOf, isReal, countOf, nodesBefore, fieldCount, sizeAt}
 use Rattle.manifest.specs.Bits.{finite, realAt}
 use Rattle.manifest.specs.Verdict.{verdict, manifestAnswer}
 use Rattle.manifest.specs.Questions.{headerAt, headerAnswer, fieldAt, fieldAnswer, hasNode, levelBytes, fragmentStart, nodeIn, nodeAt, nodeAnswer}
@@ -25,7 +27,6 @@ use Rattle.manifest.specs.declared.NodeAnswer.the-variants as N
 use Rattle.manifest.specs.declared.Corner.{Corner}
 use Rattle.manifest.specs.declared.CornersAnswer.{CornersAnswer}
 use Rattle.manifest.specs.declared.CornersAnswer.the-variants as C
-use Rattle.manifest.proofs.Ways.{told-no, told-yes}
 use Rattle.manifest.proofs.Sounds.{sound-if, sound-ends, has-level}
 
 -- v is what the judge gave

@@ -7,12 +7,13 @@ use native.Mathlib.Omega.{arith}
 use lib.ListN.{length, getD}
 use Rattle.endian.specs.Choice.{pick}
 use Rattle.endian.proofs.Little.{leAt-bound}
+use Rattle.endian.proofs.Ranges.{sum-none, sum-step}
 use Rattle.manifest.specs.Layout.{itemAt, levelsOf, countOf, levelItem, sizeAt}
 use Rattle.manifest.specs.Verdict.{verdict, refused}
 use Rattle.manifest.specs.Questions.{hasNode, levelBytes, fragmentSize, fragmentStart, nodeIn, nodeAt, nodeAnswer}
 use Rattle.manifest.specs.declared.Node.{Node}
 use Rattle.manifest.specs.declared.NodeAnswer.the-variants as N
-use Rattle.manifest.proofs.Loops.{sum-none, sum-step, sum-below, sum-under}
+use Rattle.manifest.proofs.Loops.{sum-below, sum-under}
 use Rattle.manifest.proofs.Sounds.{sound-if, sound-ends, level-fits}
 
 module _ (s : List ℕ) where

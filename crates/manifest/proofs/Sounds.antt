@@ -8,14 +8,16 @@ use lib.Dec.{T, eqb, leb, ltb, leb→le, ltb→lt, eqb→eq}
 use borrow.Author.Needs.{needs}
 use borrow.Author.Tests.{lt-ltb, ltb-true, le-leb, eq-eqb}
 use lib.ListN.{length}
+use lib.Ieee.Bits.{is-true}
 use lib.Ieee.Fits.{and-l, and-r}
 use Rattle.endian.specs.Choice.{pick}
-use Rattle.manifest.specs.Layout.{itemAt, every, sumTo, levelsOf, isReal, countOf, nodesBefore, levelItem, fieldCount, sizeAt}
+use Rattle.endian.specs.Range.{every, sumTo}
+use Rattle.endian.proofs.Ranges.{every-at, every-all, sum-none, sum-step, sum-grows}
+use Rattle.manifest.specs.Layout.{itemAt, levelsOf, isReal, countOf, nodesBefore, levelItem, fieldCount, sizeAt}
 use Rattle.manifest.specs.Bits.{finiteBits, aboveZero}
 use Rattle.manifest.specs.Verdict.{rightLength, realFits, realsFit, inOrder, levelRises, riseAt, nodesRise, verdict}
 use Rattle.manifest.specs.Soundness.{Sound}
 use Rattle.manifest.specs.Questions.{hasNode, levelBytes}
-use Rattle.manifest.proofs.Loops.{every-at, every-all, sum-none, sum-step, sum-grows}
 
 pub record Shaped (s : List ℕ) : Type 0 where
   pub bytes : length s ≤ 16777216
@@ -97,10 +99,6 @@ picked false b c e = let z : ⊥ = omega arith in absurd z
 implied : (a b : Bool) → T (not a || b) → T a → T b
 implied true b t u = t
 implied false b t u = absurd u
-
-is-true : (b : Bool) → T b → b ≡ true
-is-true true t = refl
-is-true false t = absurd t
 
 -- not refused, then sound
 pub sound-if : (s : List ℕ) → verdict s ≡ 0 → Sound s

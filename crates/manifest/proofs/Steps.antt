@@ -9,7 +9,9 @@ use lib.Ieee.Fits.{and-l, and-r}
 use lib.ListN.{length, getD}
 use borrow.Author.Needs.{needs}
 use borrow.Author.Tests.{lt-ltb, le-ltb, lt-leb, le-leb, eq-eqb, ne-eqb, not-true, not-false}
-use Rattle.manifest.specs.Layout.{sumTo, levelsOf, countOf, levelItem, sizeAt}
+use Rattle.endian.specs.Range.{sumTo}
+use Rattle.endian.proofs.Ranges.{sum-none}
+use Rattle.manifest.specs.Layout.{levelsOf, countOf, levelItem, sizeAt}
 use Rattle.manifest.specs.Verdict.{verdict}
 use Rattle.manifest.specs.Questions.{levelBytes, fragmentStart, fragmentSize, nodeAt}
 use Rattle.manifest.specs.Walks.{walkAt, walkAnswer, visitOf, nextLevel, stands, stepAnswer}
@@ -17,7 +19,6 @@ use Rattle.manifest.specs.declared.Walk.{Walk}
 use Rattle.manifest.specs.declared.Visit.{Visit}
 use Rattle.manifest.specs.declared.WalkAnswer.the-variants as W
 use Rattle.manifest.specs.declared.StepAnswer.the-variants as S
-use Rattle.manifest.proofs.Loops.{sum-none}
 use Rattle.manifest.proofs.Sounds.{sound-ends, level-first, level-next, level-fits}
 use Rattle.manifest.proofs.Fragments.{fragments-next, fragments-level, start-below}
 

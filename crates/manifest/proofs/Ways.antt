@@ -7,18 +7,13 @@ use native.Mathlib.Omega.{arith}
 use lib.Dec.{leb, ltb, eqb}
 use lib.ListN.{length}
 use borrow.Author.Needs.{needs}
-use borrow.Author.Tests.{lt-ltb, le-ltb, lt-leb, le-leb, ne-eqb, not-true, not-false}
-use Rattle.manifest.specs.Layout.{itemAt, every, levelsOf, isReal, countOf, nodesBefore, levelItem}
+use borrow.Author.Tests.{lt-ltb, le-ltb, lt-leb, le-leb, ne-eqb}
+use Rattle.endian.specs.Range.{every}
+use Rattle.endian.proofs.Ranges.{every-fails, every-done}
+use Rattle.endian.proofs.Tests.{told-no, told-yes}
+use Rattle.manifest.specs.Layout.{itemAt, levelsOf, isReal, countOf, nodesBefore, levelItem}
 use Rattle.manifest.specs.Bits.{finiteBits, aboveZero}
 use Rattle.manifest.specs.Verdict.{rightLength, realFits, realsFit, inOrder, levelRises, riseAt, nodesRise, verdict}
-use Rattle.manifest.proofs.Loops.{every-fails, every-done}
-
--- a test that failed, and one that held
-pub told-no : {r b : Bool} → r ≡ b → not r ≡ true → b ≡ false
-told-no {r} e t = sym e ∙ not-true r t
-
-pub told-yes : {r b : Bool} → r ≡ b → not r ≡ false → b ≡ true
-told-yes {r} e t = sym e ∙ not-false r t
 
 -- ---- 15
 

@@ -5,7 +5,8 @@ use mathlib.Core.List.{List, [], _∷_, _++_}
 use Prim.Native.Nat.{ℕ}
 use lib.Ieee.{binary32, ofBits, toBits, add, mul, ofInt}
 use Rattle.endian.specs.Little.{le, leAt}
-use Rattle.manifest.specs.Layout.{itemAt, every, sumTo, isReal, countOf, sizeAt}
+use Rattle.endian.specs.Range.{every, sumTo}
+use Rattle.manifest.specs.Layout.{itemAt, isReal, countOf, sizeAt}
 use Rattle.manifest.specs.Bits.{finiteBits, aboveZero, realAt, finite}
 use Rattle.manifest.specs.Order.{zDigit, zFrom, zBefore}
 use Rattle.manifest.specs.Verdict.{rightLength, realFits, realsFit, inOrder, levelRises, riseAt, nodesRise, verdict}

@@ -1,23 +1,14 @@
 -- Where the items of a manifest stand (01, "Manifest"; source 001, "Encoded manifest format"). Each item has 4 bytes.
-use Prim.Native.Nat.{ℕ, zero, suc, _+_, _*_}
-use mathlib.Core.Bool.{Bool, true, _&&_, _||_}
+use Prim.Native.Nat.{ℕ, _+_, _*_}
+use mathlib.Core.Bool.{Bool, _&&_, _||_}
 use mathlib.Core.List.{List}
 use lib.Dec.{leb, ltb}
 use Rattle.endian.specs.Little.{leAt}
+use Rattle.endian.specs.Range.{sumTo}
 
 -- the number in item i, counted from 0 in file order
 unfoldable pub itemAt : List ℕ → ℕ → ℕ
 itemAt s i = leAt 4 s (4 * i)
-
--- f 0 + f 1 + .. + f (n - 1)
-unfoldable pub sumTo : (ℕ → ℕ) → ℕ → ℕ
-sumTo f zero = 0
-sumTo f (suc n) = sumTo f n + f n
-
--- the test f holds of each number below n
-unfoldable pub every : (ℕ → Bool) → ℕ → Bool
-every f zero = true
-every f (suc n) = every f n && f n
 
 -- the level count stands after chunk shape and grid origin, three reals each
 abbrev pub levelsOf : List ℕ → ℕ

@@ -4,7 +4,8 @@ use mathlib.Core.Bool.{Bool, not, _&&_}
 use mathlib.Core.List.{List}
 use lib.Dec.{ltb}
 use Rattle.endian.specs.Choice.{pick}
-use Rattle.manifest.specs.Layout.{itemAt, sumTo, levelsOf, isReal, countOf, levelItem, fieldCount, xAt, yAt, zAt, sizeAt}
+use Rattle.endian.specs.Range.{sumTo}
+use Rattle.manifest.specs.Layout.{itemAt, levelsOf, isReal, countOf, levelItem, fieldCount, xAt, yAt, zAt, sizeAt}
 use Rattle.manifest.specs.Bits.{realAt}
 use Rattle.manifest.specs.Verdict.{verdict, refused}
 use Rattle.manifest.specs.declared.Header.{Header}

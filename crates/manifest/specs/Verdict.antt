@@ -5,7 +5,8 @@ use mathlib.Core.List.{List}
 use lib.ListN.{length}
 use lib.Dec.{leb, eqb}
 use Rattle.endian.specs.Choice.{pick}
-use Rattle.manifest.specs.Layout.{itemAt, every, levelsOf, isReal, countOf, nodesBefore, levelItem, xAt, yAt, zAt}
+use Rattle.endian.specs.Range.{every}
+use Rattle.manifest.specs.Layout.{itemAt, levelsOf, isReal, countOf, nodesBefore, levelItem, xAt, yAt, zAt}
 use Rattle.manifest.specs.Bits.{finiteBits, aboveZero}
 use Rattle.manifest.specs.Order.{zBefore}
 use Rattle.manifest.specs.declared.ManifestAnswer.{ManifestAnswer}

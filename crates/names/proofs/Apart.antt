@@ -9,6 +9,7 @@ use lib.Dec.{leb}
 use lib.IntN.{ℤ, pos, negsuc}
 use lib.ListN.{length}
 use Rattle.endian.specs.Choice.{pick}
+use Rattle.endian.proofs.Tests.{both, neither}
 use Rattle.grid.specs.Answers.{noCell}
 use Rattle.grid.specs.Grid.{zeroExtent}
 use Rattle.grid.specs.Bounds.{beginPoint, boundsOf}
@@ -16,7 +17,7 @@ use Rattle.grid.specs.declared.Bounds.{Bounds}
 use Rattle.grid.specs.declared.Cell.{Cell}
 use Rattle.grid.specs.declared.Volume.{Volume}
 use Rattle.grid.proofs.Laws.{same-begin-same-cell}
-use Rattle.grid.proofs.Ways.{neither, chunk-some}
+use Rattle.grid.proofs.Ways.{chunk-some}
 use Rattle.names.specs.Digits.{digitByte, digits, digitCount, decimal}
 use Rattle.names.specs.Signs.{negative, signed, signedText, spanOf, spanText, twoText, spansText}
 use Rattle.names.specs.Chunks.{boundsName, chunkName}
@@ -40,14 +41,6 @@ after : List ℕ → List ℕ
 after [] = []
 after (x ∷ xs) = pick (isDigit x) (after xs) (x ∷ xs)
 
-both-l : (a b : Bool) → a && b ≡ true → a ≡ true
-both-l true b e = refl
-both-l false b e = e
-
-both-r : (a b : Bool) → a && b ≡ true → b ≡ true
-both-r true b e = e
-both-r false b e = let h : _≡_ {A = ℕ} 0 1 = cc in absurd (omega arith)
-
 digit-is : (d : ℕ) → d < 10 → isDigit (digitByte d) ≡ true
 unfolding isDigit
 digit-is d h = rw (digit-low d h, le-leb 48 (48 + d) (omega arith), le-leb (48 + d) 57 (omega arith))
@@ -55,7 +48,7 @@ digit-is d h = rw (digit-low d h, le-leb 48 (48 + d) (omega arith), le-leb (48 +
 more-digits : (xs : List ℕ) (d : ℕ) → allDigits xs ≡ true → d < 10 → allDigits (xs ++ (digitByte d ∷ [])) ≡ true
 unfolding allDigits
 more-digits [] d e h = rw (digit-is d h)
-more-digits (x ∷ xs) d e h = rw (both-l (isDigit x) (allDigits xs) e, more-digits xs d (both-r (isDigit x) (allDigits xs) e) h)
+more-digits (x ∷ xs) d e h = rw (both (isDigit x) (allDigits xs) e .0, more-digits xs d (both (isDigit x) (allDigits xs) e .1) h)
 
 digits-all : (k n : ℕ) → allDigits (digits 10 k n) ≡ true
 unfolding digits allDigits
@@ -72,12 +65,12 @@ module _ (c : ℕ) (r : List ℕ) (q : isDigit c ≡ false) where
   up-to : (xs : List ℕ) → allDigits xs ≡ true → upTo (xs ++ (c ∷ r)) ≡ xs
   unfolding upTo allDigits
   up-to [] e = rw q
-  up-to (x ∷ xs) e = rw (both-l (isDigit x) (allDigits xs) e, up-to xs (both-r (isDigit x) (allDigits xs) e))
+  up-to (x ∷ xs) e = rw (both (isDigit x) (allDigits xs) e .0, up-to xs (both (isDigit x) (allDigits xs) e .1))
 
   rest : (xs : List ℕ) → allDigits xs ≡ true → after (xs ++ (c ∷ r)) ≡ c ∷ r
   unfolding after allDigits
   rest [] e = rw q
-  rest (x ∷ xs) e = rw (both-l (isDigit x) (allDigits xs) e) (rest xs (both-r (isDigit x) (allDigits xs) e))
+  rest (x ∷ xs) e = rw (both (isDigit x) (allDigits xs) e .0) (rest xs (both (isDigit x) (allDigits xs) e .1))
 
 -- no text of digits begins with a minus sign, whatever follows it
 no-sign : {X : Type 0} (xs t u : List ℕ) → allDigits xs ≡ true → 0 < length xs → xs ++ t ≡ 45 ∷ u → X
@@ -85,7 +78,7 @@ unfolding allDigits isDigit
 no-sign [] t u e l h = absurd (omega arith)
 no-sign (x ∷ xs) t u e l h =
     let g : x ≡ 45 = cc in
-    let w : _≡_ {A = Bool} true false = sym (both-l (isDigit x) (allDigits xs) e) ∙ rw g in
+    let w : _≡_ {A = Bool} true false = sym (both (isDigit x) (allDigits xs) e .0) ∙ rw g in
     let z : _≡_ {A = ℕ} 0 1 = cc in
     absurd (omega arith)
 

@@ -6,7 +6,7 @@ use mathlib.Core.List.{List, [], _∷_, _++_}
 use native.Mathlib.Omega.{arith}
 use native.Mathlib.Nat.{pow-le-pow-right}
 use borrow.Author.Needs.{needs}
-use borrow.Author.Tests.{lt-ltb, le-ltb, not-true, not-false}
+use borrow.Author.Tests.{le-leb, lt-leb, not-true, not-false}
 use lib.Dec.{lit<}
 use lib.ListN.{length, take, replicate, length-append}
 use lib.Seq.{take-at}
@@ -128,11 +128,11 @@ module _ (spec : Sharding) (n : ℕ) (d : List ℕ) (r : Bool) (e : r ≡ allowe
     module _ (k : ℕ) (f : k ≡ shardCount spec) where
       pub refused-5 : k ≤ n → Refused 5 ≡ shardNameAnswer spec n d
       unfolding shardNameAnswer
-      refused-5 h = rw (is-allowed, ← f, le-ltb n k h)
+      refused-5 h = rw (is-allowed, ← f, le-leb k n h)
 
       pub left-5 : k ≤ n → d ≡ shardNameLeft spec n d
       unfolding shardNameLeft
-      left-5 h = rw (is-allowed, ← f, le-ltb n k h)
+      left-5 h = rw (is-allowed, ← f, le-leb k n h)
 
       module _ (h : n < k) (m : ℕ) (g : m ≡ shardDigits spec + 6) where
         fits : length (shardName spec n) ≡ m
@@ -140,11 +140,11 @@ module _ (spec : Sharding) (n : ℕ) (d : List ℕ) (r : Bool) (e : r ≡ allowe
 
         answer-is : shardNameAnswer spec n d ≡ written (shardName spec n) d
         unfolding shardNameAnswer
-        answer-is = rw (is-allowed, ← f, lt-ltb n k h)
+        answer-is = rw (is-allowed, ← f, lt-leb k n h)
 
         left-is : shardNameLeft spec n d ≡ leftBy (shardName spec n) d
         unfolding shardNameLeft
-        left-is = rw (is-allowed, ← f, lt-ltb n k h)
+        left-is = rw (is-allowed, ← f, lt-leb k n h)
 
         pub refused-13 : length d < m → Refused 13 ≡ shardNameAnswer spec n d
         refused-13 l = sym (answer-is ∙ written-short (shardName spec n) d (omega (arith, fits)))

@@ -11,9 +11,9 @@ use mir.Syntax.{w64}
 use mir.Val.{Fits, SFits, toZ, ofZ}
 use mir.Facts.{toZ-ofZ}
 use Rattle.endian.specs.Place.{paste}
-use Rattle.endian.specs.Buffer.{written, leftBy}
-use Rattle.endian.specs.declared.Written.the-variants.{Length, Refused}
-use Rattle.endian.proofs.Buffer.{written-short, leftBy-short, written-fits, leftBy-paste}
+use Rattle.endian.specs.Buffer.{written}
+use Rattle.endian.specs.declared.Written.the-variants.{Length}
+use Rattle.endian.proofs.Buffer.{too-long, kept-whole, how-long, at-front}
 use Rattle.endian.proofs.Paste.{paste-then, length-paste}
 use Rattle.names.specs.Digits.{digits, decimal}
 use Rattle.names.specs.Signs.{negative, signed, signedText, spanOf}
@@ -135,21 +135,11 @@ span-is b e r s f g p q =
 
 -- ---- a text written at the front of a buffer
 
-module _ (s d : List ℕ) (n : ℕ) (e : n ≡ length s) where
-  pub too-long : length d < n → Refused 13 ≡ written s d
-  too-long h = sym (written-short s d (omega arith))
+module _ (s d : List ℕ) (n : ℕ) (e : n ≡ length s) (h : n ≤ length d) where
+  pub front-room : 0 + length s ≤ length d
+  front-room = omega arith
 
-  pub kept-whole : length d < n → d ≡ leftBy s d
-  kept-whole h = sym (leftBy-short s d (omega arith))
+  pub front-end : (k : ℕ) → k ≡ 0 + length s → Length k ≡ written s d
+  front-end k q = how-long s d k (omega arith) (omega arith)
 
-  module _ (h : n ≤ length d) where
-    pub front-room : 0 + length s ≤ length d
-    front-room = omega arith
-
-    pub how-long : (k : ℕ) → k ≡ 0 + length s → Length k ≡ written s d
-    how-long k q = sym (written-fits s d (omega arith) ∙ ap Length (omega arith))
-
-    pub at-front : (r : List ℕ) → r ≡ paste 0 s d → r ≡ leftBy s d
-    at-front r q = q ∙ leftBy-paste s d (omega arith)
-
-pub ruleset fronting = (too-long, kept-whole, front-room, how-long, at-front, needs)
+pub ruleset fronting = (too-long, kept-whole, front-room, front-end, at-front, needs)

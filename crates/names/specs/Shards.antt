@@ -2,12 +2,11 @@
 use Prim.Native.Nat.{ℕ, _+_, _/_, max}
 use mathlib.Core.Bool.{not}
 use mathlib.Core.List.{List, [], _∷_, _++_}
-use lib.Dec.{ltb}
 use Rattle.endian.specs.Choice.{pick}
 use Rattle.endian.specs.Buffer.{written, leftBy}
 use Rattle.endian.specs.declared.Written.{Written}
 use Rattle.endian.specs.declared.Written.the-variants.{Refused}
-use Rattle.sharding.specs.Specification.{shardBits, allowed, shardCount}
+use Rattle.sharding.specs.Specification.{shardBits, allowed, noSuchShard}
 use Rattle.sharding.specs.declared.Sharding.{Sharding}
 use Rattle.names.specs.Digits.{digits}
 
@@ -27,12 +26,12 @@ shardName spec shard = digits 16 (shardDigits spec) shard ++ suffix
 unfoldable pub shardNameAnswer : Sharding → ℕ → List ℕ → Written
 shardNameAnswer spec shard out =
     pick (not (allowed spec)) (Refused 1)
-    (pick (not (ltb shard (shardCount spec))) (Refused 5)
+    (pick (noSuchShard spec shard) (Refused 5)
     (written (shardName spec shard) out))
 
 -- and what it leaves in the buffer
 unfoldable pub shardNameLeft : Sharding → ℕ → List ℕ → List ℕ
 shardNameLeft spec shard out =
     pick (not (allowed spec)) out
-    (pick (not (ltb shard (shardCount spec))) out
+    (pick (noSuchShard spec shard) out
     (leftBy (shardName spec shard) out))

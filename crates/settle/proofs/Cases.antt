@@ -3,12 +3,12 @@ use Prim.Native.Nat.{ℕ}
 use mathlib.Core.Path.{_≡_, refl, ap, _∙_}
 use mathlib.Core.List.{List, [], _∷_, _++_}
 use Rattle.endian.specs.Little.{le, leAt, row}
+use Rattle.endian.specs.Range.{sumTo, anyBelow, first}
 use Rattle.sharding.specs.declared.Sharding.{Sharding}
 use Rattle.sharding.specs.Specification.{identity, allowed}
 use Rattle.sharding.specs.Place.{hashedId, shardOf, minishardOf}
 use Rattle.shard.specs.declared.CheckAnswer.the-variants.{Sound}
 use Rattle.shard.specs.declared.LookupAnswer.the-variants.{Found, Refused}
-use Rattle.shard.specs.Sums.{sumTo, anyBelow, first}
 use Rattle.shard.specs.Index.{idAt, startAt}
 use Rattle.shard.specs.Faults.{badEntry, badLength, badId, foreign, foreignAt, outside, faultAt, faultOf, faulty, firstFault, shardFault}
 use Rattle.shard.specs.File.{badFileLength, verdict, checkAnswer}

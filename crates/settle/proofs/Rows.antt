@@ -7,8 +7,8 @@ use native.Mathlib.Nat.{not-suc-le-zero}
 use lib.ListN.{length, getD}
 use Rattle.endian.specs.Little.{row, rowAt, Fit}
 use Rattle.endian.specs.Place.{Holds}
+use Rattle.endian.specs.Range.{sumTo}
 use Rattle.endian.proofs.Holds.{holds-left, holds-right, holds-move, holds-row}
-use Rattle.shard.specs.Sums.{sumTo}
 use Rattle.settle.specs.Form.{Item, chunksOf, chunksLength, idRow, startRow, sizeRow}
 
 abbrev pub noItem : Item

@@ -15,10 +15,10 @@ use Rattle.endian.specs.declared.Written.{Written}
 use Rattle.endian.specs.declared.Written.the-variants.{Length, Refused}
 use Rattle.endian.proofs.Paste.{paste-front}
 use Rattle.sharding.specs.declared.Sharding.{Sharding}
-use Rattle.sharding.specs.Specification.{allowed, minishardCount}
+use Rattle.sharding.specs.Specification.{allowed, minishardCount, noSuchShard}
 use Rattle.shard.specs.declared.CheckAnswer.{CheckAnswer}
 use Rattle.shard.specs.declared.CheckAnswer.the-variants.{Sound, Refused as CheckRefused}
-use Rattle.shard.specs.File.{mostShardBytes, indexLength, indexPart, dataPart, noSuchShard, badFileLength, verdict, checkAnswer}
+use Rattle.shard.specs.File.{mostShardBytes, indexLength, indexPart, dataPart, badFileLength, verdict, checkAnswer}
 use Rattle.shard.specs.Sound.{SoundFrom, SoundShard}
 use Rattle.shard.proofs.Split.{rest-whole, front-count}
 use Rattle.shard.proofs.Whole.{check-passes-sound}

@@ -11,9 +11,9 @@ use mir.Syntax.{w64}
 use lib.ListN.{length, take, drop}
 use Rattle.endian.specs.Little.{leAt}
 use Rattle.endian.specs.Place.{paste}
+use Rattle.endian.specs.Range.{sumTo}
 use Rattle.endian.proofs.Copy.{part-length}
 use Rattle.endian.proofs.Paste.{paste-nil, paste-on}
-use Rattle.shard.specs.Sums.{sumTo}
 use Rattle.shard.specs.Index.{startSteps, sizes, startAt, endAt, chunkAt}
 use Rattle.shard.specs.File.{mostShardBytes}
 use Rattle.settle.specs.Form.{Item, chunksOf, chunksLength}

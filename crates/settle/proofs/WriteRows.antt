@@ -11,10 +11,11 @@ use mir.Val.{Fits}
 use mir.Syntax.{w8}
 use Rattle.endian.specs.Little.{le, leAt, row}
 use Rattle.endian.specs.Place.{paste}
+use Rattle.endian.specs.Range.{sumTo}
 use Rattle.endian.proofs.Little.{le-leAt, length-le}
 use Rattle.endian.proofs.Copy.{part-length}
 use Rattle.endian.proofs.Paste.{paste-then}
-use Rattle.shard.specs.Sums.{sumTo}
+use Rattle.endian.proofs.Ranges.{sum-none}
 use Rattle.shard.specs.Index.{idSteps, startSteps, sizes, idAt, endAt, chunkAt}
 use Rattle.settle.specs.Form.{chunksOf, chunksLength, idRow, startRow, sizeRow, indexOf, partOf}
 use Rattle.settle.specs.Content.{itemAt, itemsFrom, itemsAt}
@@ -99,10 +100,6 @@ starts-written p n at o l h u v =
     paste-then at (at + 8) (le 8 p) (replicate (8 * n - 8) 0) o u v (omega (arith, length-le 8 p)) (omega (arith, length-le 8 p))
 
 -- ---- a settled minishard
-
-sum-none : (f : ℕ → ℕ) → 0 ≡ sumTo f 0
-unfolding sumTo
-sum-none f = refl
 
 -- as it is written
 part-is : (d : List ℕ) (s n p : ℕ) → Readable d s n → ((i : ℕ) → getD d i 0 < 256)

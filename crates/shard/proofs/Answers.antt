@@ -1,13 +1,15 @@
 -- What each way out of a lookup shows.
 use Prim.Native.Nat.{ℕ, zero, suc, _<_, _≤_}
 use mathlib.Core.List.{List}
-use mathlib.Core.Path.{_≡_, refl, sym, subst, _∙_}
+use mathlib.Core.Path.{_≡_, refl, subst, _∙_}
 use mathlib.Core.Bool.{Bool, true, false, not, or-true}
 use native.Mathlib.Nat.{sub-self}
 use native.Mathlib.Omega.{arith}
 use lib.ListN.{length}
 use lib.Dec.{ltb}
-use borrow.Author.Tests.{lt-ltb, le-ltb, le-leb, lt-leb, eq-eqb, ne-eqb, not-true, not-false}
+use borrow.Author.Tests.{lt-ltb, le-ltb, le-leb, lt-leb, eq-eqb, ne-eqb}
+use Rattle.endian.specs.Range.{first}
+use Rattle.endian.proofs.Tests.{told-no, told-yes}
 use Rattle.sharding.specs.declared.Sharding.{Sharding}
 use Rattle.sharding.specs.Specification.{allowed, shardCount}
 use Rattle.sharding.specs.Place.{shardOf, minishardOf}
@@ -15,7 +17,6 @@ use Rattle.sharding.proofs.Allowed.{minishards-most}
 use Rattle.shard.specs.declared.inner.Fault.{Fault}
 use Rattle.shard.specs.declared.LookupAnswer.{LookupAnswer}
 use Rattle.shard.specs.declared.LookupAnswer.the-variants.{Refused}
-use Rattle.shard.specs.Sums.{first}
 use Rattle.shard.specs.Index.{entryStart, entryEnd, entryCount}
 use Rattle.shard.specs.Faults.{faultOf}
 use Rattle.shard.specs.File.{mostShardBytes, indexLength, indexPart, dataPart, badFileLength}
@@ -52,12 +53,6 @@ module _ (spec : Sharding) (shard id : ℕ) (x d : List ℕ) {m : ℕ} {r : Faul
 
 -- ---- in one file: 1, 5, 6, then as above
 
-pub told-allowed : (spec : Sharding) {b : Bool} → b ≡ allowed spec → not b ≡ false → allowed spec ≡ true
-told-allowed spec {b} e q = sym e ∙ not-false b q
-
-pub told-refused : (spec : Sharding) {b : Bool} → b ≡ allowed spec → not b ≡ true → allowed spec ≡ false
-told-refused spec {b} e q = sym e ∙ not-true b q
-
 pub length-short : (spec : Sharding) {n k : ℕ} → k ≡ indexLength spec → n < k → badFileLength spec n ≡ true
 unfolding badFileLength
 length-short spec {n} {k} e l = rw (← e, lt-ltb n k l)
@@ -73,27 +68,27 @@ length-good spec {n} {k} e l h = rw (← e, le-ltb n k l, le-ltb mostShardBytes 
 module _ (spec : Sharding) (shard : ℕ) (file : List ℕ) (id : ℕ) {b : Bool} (p : b ≡ allowed spec) where
   pub answer-spec : not b ≡ true → Refused 1 ≡ lookupAnswer spec shard file id
   unfolding lookupAnswer
-  answer-spec q = rw (told-refused spec p q)
+  answer-spec q = rw (told-no p q)
 
   module _ (q : not b ≡ false) {c : ℕ} (u : c ≡ shardCount spec) where
     pub answer-shard : c ≤ shard → Refused 5 ≡ lookupAnswer spec shard file id
     unfolding lookupAnswer
-    answer-shard l = rw (told-allowed spec p q, ← u, le-leb c shard l)
+    answer-shard l = rw (told-yes p q, ← u, le-leb c shard l)
 
     module _ (l : shard < c) {t : ℕ} (v : t ≡ shardOf spec id) where
       pub answer-other : (t ≡ shard → ⊥) → Refused 5 ≡ lookupAnswer spec shard file id
       unfolding lookupAnswer
-      answer-other n = rw (told-allowed spec p q, ← u, lt-leb c shard l, ← v, ne-eqb t shard n)
+      answer-other n = rw (told-yes p q, ← u, lt-leb c shard l, ← v, ne-eqb t shard n)
 
       module _ (o : t ≡ shard) {n : ℕ} (w : n ≡ indexLength spec) where
         pub answer-short : length file < n → Refused 6 ≡ lookupAnswer spec shard file id
         unfolding lookupAnswer
-        answer-short k = rw (told-allowed spec p q, ← u, lt-leb c shard l, ← v, eq-eqb t shard o, length-short spec w k)
+        answer-short k = rw (told-yes p q, ← u, lt-leb c shard l, ← v, eq-eqb t shard o, length-short spec w k)
 
         pub answer-long : mostShardBytes < length file → Refused 6 ≡ lookupAnswer spec shard file id
         unfolding lookupAnswer
-        answer-long k = rw (told-allowed spec p q, ← u, lt-leb c shard l, ← v, eq-eqb t shard o, length-long spec (length file) k)
+        answer-long k = rw (told-yes p q, ← u, lt-leb c shard l, ← v, eq-eqb t shard o, length-long spec (length file) k)
 
         pub answer-in : n ≤ length file → length file ≤ mostShardBytes → {a : LookupAnswer} → a ≡ lookupIn spec shard (indexPart spec file) (dataPart spec file) id → a ≡ lookupAnswer spec shard file id
         unfolding lookupAnswer
-        answer-in k h e = rw (told-allowed spec p q, ← u, lt-leb c shard l, ← v, eq-eqb t shard o, length-good spec w k h) e
+        answer-in k h e = rw (told-yes p q, ← u, lt-leb c shard l, ← v, eq-eqb t shard o, length-good spec w k h) e

@@ -9,6 +9,7 @@ use lib.Dec.{ltb}
 use borrow.Author.Tests.{ltb-true}
 use Rattle.endian.specs.Choice.{pick}
 use Rattle.endian.specs.Little.{leAt}
+use Rattle.endian.specs.Range.{sumTo, anyBelow, first}
 use Rattle.endian.proofs.Little.{leAt-drop, leAt-take}
 use Rattle.sharding.specs.declared.Sharding.{Sharding}
 use Rattle.sharding.specs.Specification.{minishardCount}
@@ -16,11 +17,11 @@ use Rattle.sharding.specs.Place.{minishardOf}
 use Rattle.sharding.proofs.Placed.{minishard-below}
 use Rattle.shard.specs.declared.LookupAnswer.{LookupAnswer}
 use Rattle.shard.specs.declared.LookupAnswer.the-variants.{Found, Refused}
-use Rattle.shard.specs.Sums.{sumTo, anyBelow, first}
 use Rattle.shard.specs.Index.{entryStart, entryEnd, entryCount, idSteps, startSteps, sizes, idAt, startAt}
 use Rattle.shard.specs.Faults.{badEntry, badId, foreignAt, outside, faultAt, faultOf}
 use Rattle.shard.specs.File.{indexLength, indexPart, dataPart}
 use Rattle.shard.specs.Find.{isId, foundAt, foundIn, lookupIn, lookupAnswer, partBytes}
+use Rattle.shard.specs.Lookups.{AgreeFor}
 
 -- ---- rows that are alike in their first n numbers
 
@@ -130,22 +131,6 @@ same-in spec shard x y a b id {s} {e} p q u v u′ v′ w =
     rw (p, u, v, u′, v′, same-fault a b s e q w spec shard (minishardOf spec id), same-found a b s e q w (length y) id)
 
 -- ---- files
-
--- the 16 bytes of the entry of minishard m, and the minishard index that they point at
-abbrev pub entryBytes : List ℕ → ℕ → List ℕ
-entryBytes file m = take 16 (drop (16 * m) file)
-
-abbrev pub indexBytes : Sharding → List ℕ → ℕ → List ℕ
-indexBytes spec file m =
-    let s = entryStart (indexPart spec file) m in
-    let e = entryEnd (indexPart spec file) m in
-    take (e - s) (drop s (dataPart spec file))
-
--- two files agree in their length, in the index entry of the id's minishard, and in that minishard's index
-pub record AgreeFor (spec : Sharding) (id : ℕ) (a b : List ℕ) : Type 0 where
-  pub size : length a ≡ length b
-  pub entry : entryBytes a (minishardOf spec id) ≡ entryBytes b (minishardOf spec id)
-  pub index : indexBytes spec a (minishardOf spec id) ≡ indexBytes spec b (minishardOf spec id)
 
 -- a number of the entry, read in the index part of a file, stands in the 16 bytes of the entry
 entry-number : (spec : Sharding) (m j : ℕ) (a : List ℕ) → m < minishardCount spec → j + 8 ≤ 16 → leAt 8 (indexPart spec a) (16 * m + j) ≡ leAt 8 (take 16 (drop (16 * m) a)) j

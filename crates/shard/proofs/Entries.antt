@@ -6,8 +6,8 @@ use native.Mathlib.Omega.{arith}
 use native.Mathlib.Numerals.{add-one}
 use lib.ListN.{length, set, length-set}
 use Rattle.endian.specs.Place.{paste}
+use Rattle.endian.specs.Range.{sumTo}
 use Rattle.endian.proofs.Paste.{paste-nil, paste-cons, paste-on, store, length-paste}
-use Rattle.shard.specs.Sums.{sumTo}
 use Rattle.shard.specs.Index.{idAt, startAt}
 use Rattle.shard.specs.Find.{listingFrom}
 use Rattle.shard.proofs.Seek.{Tally}

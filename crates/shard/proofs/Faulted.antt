@@ -8,12 +8,12 @@ use native.Mathlib.Omega.{arith}
 use lib.ListN.{length}
 use lib.Dec.{ltb}
 use borrow.Author.Tests.{lt-ltb, le-ltb, eq-eqb, ne-eqb}
+use Rattle.endian.specs.Range.{anyBelow, first}
+use Rattle.endian.proofs.Ranges.{told-some, told-none}
 use Rattle.sharding.specs.declared.Sharding.{Sharding}
 use Rattle.shard.specs.declared.inner.Fault.{Fault}
-use Rattle.shard.specs.Sums.{anyBelow, first}
 use Rattle.shard.specs.Index.{entryStart, entryEnd, entryCount, idSteps, startSteps, sizes}
 use Rattle.shard.specs.Faults.{fault, badEntry, badLength, badId, foreignAt, outside, faultAt, faultOf}
-use Rattle.shard.proofs.First.{told-some, told-none}
 
 module _ (spec : Sharding) (shard m : ℕ) (d : List ℕ) (s e : ℕ) where
   pub fault-before : e < s → fault 7 0 ≡ faultAt spec shard m d s e

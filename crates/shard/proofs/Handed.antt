@@ -11,15 +11,16 @@ use mir.Val.{Fits}
 use mir.Syntax.{w64}
 use borrow.Author.Tests.{ltb-false}
 use Rattle.endian.specs.Choice.{pick}
+use Rattle.endian.proofs.Tests.{neither}
 use Rattle.sharding.specs.declared.Sharding.{Sharding}
-use Rattle.sharding.specs.Specification.{allowed}
+use Rattle.sharding.specs.Specification.{allowed, noSuchShard}
 use Rattle.sharding.specs.Place.{shardOf, minishardOf}
 use Rattle.shard.specs.declared.LookupAnswer.{LookupAnswer}
 use Rattle.shard.specs.declared.LookupAnswer.the-variants.{Found, Refused}
 use Rattle.shard.specs.Index.{entryStart, entryEnd, entryCount}
-use Rattle.shard.specs.File.{mostShardBytes, indexLength, indexPart, dataPart, noSuchShard, badFileLength}
+use Rattle.shard.specs.File.{mostShardBytes, indexLength, indexPart, dataPart, badFileLength}
 use Rattle.shard.specs.Find.{unless, lookupIn, lookupAnswer, partStart, partBytes}
-use Rattle.shard.proofs.Passed.{or-false, Passed, passed}
+use Rattle.shard.proofs.Passed.{Passed, passed}
 use Rattle.shard.proofs.Seek.{found-within}
 
 pick-found : (b : Bool) (n : ℕ) (rest : LookupAnswer) {a k : ℕ} → pick b (Refused n) rest ≡ Found a k → (b ≡ false) × (rest ≡ Found a k)
@@ -52,7 +53,7 @@ answer-within spec shard file id a k e =
     let q1 = pick-found (not (allowed spec)) 1 _ e in
     let q5 = pick-found (noSuchShard spec shard || not (eqb (shardOf spec id) shard)) 5 _ (q1 .1) in
     let q6 = pick-found (badFileLength spec (length file)) 6 _ (q5 .1) in
-    let o = or-false (ltb (length file) (indexLength spec)) _ (q6 .0) in
+    let o = neither (ltb (length file) (indexLength spec)) _ (q6 .0) in
     let h = ltb-false (length file) (indexLength spec) (o .0) in
     let w = in-within spec shard (indexPart spec file) (dataPart spec file) id a k (q6 .1) in
     record {

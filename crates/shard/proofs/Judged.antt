@@ -1,37 +1,33 @@
 -- The tests 7 to 11 pass a minishard exactly where it is sound.
 use Prim.Native.Nat.{ℕ, zero, suc, _-_, _%_, _^_, _≤_, _<_}
 use mathlib.Core.Path.{_≡_, refl}
-use mathlib.Core.Bool.{Bool, true, false, not, _||_, _&&_, and-false, true≢false}
+use mathlib.Core.Bool.{Bool, true, false, not, _&&_, and-false}
 use mathlib.Core.Logic.{_⊎_, inl, inr}
 use mathlib.Core.List.{List}
 use native.Mathlib.Omega.{arith}
 use lib.Dec.{ltb, leb, eqb}
 use lib.ListN.{length}
 use borrow.Author.Tests.{ltb-false, le-ltb, lt-leb, leb-false, eqb-true, eq-eqb, not-false}
-use Rattle.endian.specs.Choice.{pick}
+use Rattle.endian.specs.Range.{anyBelow}
+use Rattle.endian.proofs.Ranges.{any-miss, any-no}
+use Rattle.endian.proofs.Tests.{neither}
 use Rattle.sharding.specs.declared.Sharding.{Sharding}
 use Rattle.sharding.specs.Place.{shardOf, minishardOf}
-use Rattle.shard.specs.declared.inner.Fault.{Fault}
-use Rattle.shard.specs.Sums.{anyBelow}
 use Rattle.shard.specs.Index.{entryStart, entryEnd, entryCount, idSteps, startSteps, sizes, idAt}
 use Rattle.shard.specs.Faults.{fault, badEntry, badLength, badId, foreign, foreignAt, outside, faultAt, faultOf}
 use Rattle.shard.specs.Sound.{SoundFrom, SoundMinishard}
-use Rattle.shard.proofs.First.{any-miss, any-no}
+use Rattle.shard.proofs.Passed.{pick-fault}
 
 -- ---- what each test says
-
-pub either-false : (a b : Bool) → (a || b) ≡ false → (a ≡ false) × (b ≡ false)
-either-false true b e = absurd (true≢false e)
-either-false false b e = (refl, e)
 
 pub id-bounded : (steps : ℕ → ℕ) (i : ℕ) → badId steps i ≡ false → idAt steps i < 2 ^ 64
 unfolding badId
 id-bounded steps zero e = leb-false _ _ e
-id-bounded steps (suc i) e = leb-false _ _ (either-false (leb (idAt steps (suc i)) (idAt steps i)) _ e .1)
+id-bounded steps (suc i) e = leb-false _ _ (neither (leb (idAt steps (suc i)) (idAt steps i)) _ e .1)
 
 pub id-rising : (steps : ℕ → ℕ) (i : ℕ) → badId steps (suc i) ≡ false → idAt steps i < idAt steps (suc i)
 unfolding badId
-id-rising steps i e = leb-false _ _ (either-false _ (leb (2 ^ 64) (idAt steps (suc i))) e .0)
+id-rising steps i e = leb-false _ _ (neither _ (leb (2 ^ 64) (idAt steps (suc i))) e .0)
 
 pub id-good : (steps : ℕ → ℕ) (n : ℕ) → ((i : ℕ) → suc i < n → idAt steps i < idAt steps (suc i)) → ((i : ℕ) → i < n → idAt steps i < 2 ^ 64) → (i : ℕ) → i < n → badId steps i ≡ false
 unfolding badId
@@ -41,7 +37,7 @@ id-good steps n r b (suc i) l = rw (lt-leb _ _ (r i l), lt-leb _ _ (b (suc i) l)
 pub foreign-not : (spec : Sharding) (shard m id : ℕ) → foreign spec shard m id ≡ false → (shardOf spec id ≡ shard) × (minishardOf spec id ≡ m)
 unfolding foreign
 foreign-not spec shard m id e =
-    let f = either-false (not (eqb (shardOf spec id) shard)) _ e in
+    let f = neither (not (eqb (shardOf spec id) shard)) _ e in
     (eqb-true _ _ (not-false _ (f .0)), eqb-true _ _ (not-false _ (f .1)))
 
 pub not-foreign : (spec : Sharding) (shard m id : ℕ) → shardOf spec id ≡ shard → minishardOf spec id ≡ m → foreign spec shard m id ≡ false
@@ -49,10 +45,6 @@ unfolding foreign
 not-foreign spec shard m id p q = rw (eq-eqb _ _ p, eq-eqb _ _ q)
 
 -- ---- a minishard
-
-passed : (b : Bool) (k i : ℕ) (later : Fault) → pick b (fault (suc k) i) later .number ≡ 0 → (b ≡ false) × (later .number ≡ 0)
-passed true k i later e = absurd (omega arith)
-passed false k i later e = (refl, e)
 
 reaches : (d : List ℕ) (s e : ℕ) → s ≤ e → (ltb s e && ltb (length d) e) ≡ false → (s ≡ e) ⊎ (e ≤ length d)
 reaches d s e o p = go (ltb s e) refl
@@ -65,12 +57,12 @@ module _ (spec : Sharding) (shard m : ℕ) (d : List ℕ) (s e : ℕ) where
   pub passes-sound : faultAt spec shard m d s e .number ≡ 0 → SoundFrom spec shard m d s e
   unfolding faultAt badEntry badLength foreignAt outside
   passes-sound p =
-      let q7 = passed (badEntry d s e) 6 0 _ p in
-      let q8 = passed (badLength s e) 7 0 _ (q7 .1) in
-      let q9 = passed (anyBelow (entryCount s e) (badId (idSteps d s))) 8 _ _ (q8 .1) in
-      let q10 = passed (anyBelow (entryCount s e) (foreignAt spec shard m (idSteps d s))) 9 _ _ (q9 .1) in
-      let q11 = passed (anyBelow (entryCount s e) (outside (length d) (startSteps d s (entryCount s e)) (sizes d s (entryCount s e)))) 10 _ _ (q10 .1) in
-      let o = either-false (ltb e s) _ (q7 .0) in
+      let q7 = pick-fault (badEntry d s e) 6 0 _ p in
+      let q8 = pick-fault (badLength s e) 7 0 _ (q7 .1) in
+      let q9 = pick-fault (anyBelow (entryCount s e) (badId (idSteps d s))) 8 _ _ (q8 .1) in
+      let q10 = pick-fault (anyBelow (entryCount s e) (foreignAt spec shard m (idSteps d s))) 9 _ _ (q9 .1) in
+      let q11 = pick-fault (anyBelow (entryCount s e) (outside (length d) (startSteps d s (entryCount s e)) (sizes d s (entryCount s e)))) 10 _ _ (q10 .1) in
+      let o = neither (ltb e s) _ (q7 .0) in
       record {
         ordered = ltb-false e s (o .0);
         within = reaches d s e (ltb-false e s (o .0)) (o .1);

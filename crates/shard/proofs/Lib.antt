@@ -1,5 +1,4 @@
 -- Laws of the definitions.
-pub mod First
 pub mod Walks
 pub mod Faulted
 pub mod Seek

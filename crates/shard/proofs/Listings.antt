@@ -9,17 +9,18 @@ use lib.Dec.{ltb, leb}
 use borrow.Author.Tests.{le-leb, lt-leb, leb-false, ltb-false, lt-ltb, le-ltb, not-false}
 use Rattle.endian.specs.Choice.{pick}
 use Rattle.endian.specs.Place.{paste}
+use Rattle.endian.specs.Range.{anyBelow}
 use Rattle.endian.proofs.Paste.{paste-nil, paste-front}
+use Rattle.endian.proofs.Tests.{neither, told-no, told-yes}
 use Rattle.sharding.specs.declared.Sharding.{Sharding}
-use Rattle.sharding.specs.Specification.{allowed, minishardCount, shardCount}
+use Rattle.sharding.specs.Specification.{allowed, minishardCount, shardCount, noSuchShard}
 use Rattle.shard.specs.declared.CountAnswer.the-variants.{Count, Refused}
-use Rattle.shard.specs.Sums.{anyBelow}
 use Rattle.shard.specs.Index.{entryStart, entryEnd, entryCount, idSteps, startSteps, sizes}
 use Rattle.shard.specs.Faults.{badEntry, badId, outside, faultOf}
-use Rattle.shard.specs.File.{mostShardBytes, indexLength, indexPart, dataPart, noSuchShard, badFileLength}
+use Rattle.shard.specs.File.{mostShardBytes, indexLength, indexPart, dataPart, badFileLength}
 use Rattle.shard.specs.Find.{listingRefusal, listedCount, counted, countAnswer, listingFrom, listingOf, listed, leftListed}
-use Rattle.shard.proofs.Answers.{told-allowed, told-refused, length-short, length-long, length-good, index-short}
-use Rattle.shard.proofs.Passed.{Passed, passed, or-false, entry-order, entry-within}
+use Rattle.shard.proofs.Answers.{length-short, length-long, length-good, index-short}
+use Rattle.shard.proofs.Passed.{Passed, passed, entry-order, entry-within}
 use Rattle.shard.proofs.Split.{restOf, rest-whole, rest-short, front-index}
 use Rattle.shard.proofs.Entries.{length-listing}
 
@@ -44,30 +45,30 @@ fails11 x d m =
 module _ (spec : Sharding) (shard : ℕ) (file : List ℕ) (m : ℕ) {b : Bool} (p : b ≡ allowed spec) where
   pub refusal-spec : not b ≡ true → 1 ≡ listingRefusal spec shard file m
   unfolding listingRefusal
-  refusal-spec q = rw (told-refused spec p q)
+  refusal-spec q = rw (told-no p q)
 
   module _ (q : not b ≡ false) {c : ℕ} (u : c ≡ shardCount spec) where
     pub refusal-shard : c ≤ shard → 5 ≡ listingRefusal spec shard file m
     unfolding listingRefusal
-    refusal-shard l = rw (told-allowed spec p q, ← u, le-leb c shard l)
+    refusal-shard l = rw (told-yes p q, ← u, le-leb c shard l)
 
     module _ (l : shard < c) {k : ℕ} (v : k ≡ minishardCount spec) where
       pub refusal-minishard : k ≤ m → 5 ≡ listingRefusal spec shard file m
       unfolding listingRefusal
-      refusal-minishard o = rw (told-allowed spec p q, ← u, lt-leb c shard l, ← v, le-leb k m o)
+      refusal-minishard o = rw (told-yes p q, ← u, lt-leb c shard l, ← v, le-leb k m o)
 
       module _ (o : m < k) {n : ℕ} (w : n ≡ indexLength spec) where
         pub refusal-short : length file < n → 6 ≡ listingRefusal spec shard file m
         unfolding listingRefusal
-        refusal-short h = rw (told-allowed spec p q, ← u, lt-leb c shard l, length-short spec w h, lt-leb (minishardCount spec) m (omega arith))
+        refusal-short h = rw (told-yes p q, ← u, lt-leb c shard l, length-short spec w h, lt-leb (minishardCount spec) m (omega arith))
 
         pub refusal-long : mostShardBytes < length file → 6 ≡ listingRefusal spec shard file m
         unfolding listingRefusal
-        refusal-long h = rw (told-allowed spec p q, ← u, lt-leb c shard l, length-long spec (length file) h, lt-leb (minishardCount spec) m (omega arith))
+        refusal-long h = rw (told-yes p q, ← u, lt-leb c shard l, length-long spec (length file) h, lt-leb (minishardCount spec) m (omega arith))
 
         pub refusal-fault : n ≤ length file → length file ≤ mostShardBytes → {r : ℕ} → r ≡ faultOf spec shard (indexPart spec file) (dataPart spec file) m .number → r ≡ listingRefusal spec shard file m
         unfolding listingRefusal
-        refusal-fault h g e = rw (told-allowed spec p q, ← u, lt-leb c shard l, length-good spec w h g, lt-leb (minishardCount spec) m (omega arith)) e
+        refusal-fault h g e = rw (told-yes p q, ← u, lt-leb c shard l, length-good spec w h g, lt-leb (minishardCount spec) m (omega arith)) e
 
 -- ---- what no refusal shows
 
@@ -88,10 +89,10 @@ listable spec shard file m e =
     let q1 = pick-zero (not (allowed spec)) 0 _ e in
     let q5 = pick-zero (noSuchShard spec shard || leb (minishardCount spec) m) 4 _ (q1 .1) in
     let q6 = pick-zero (badFileLength spec (length file)) 5 _ (q5 .1) in
-    let o = or-false (ltb (length file) (indexLength spec)) _ (q6 .0) in
+    let o = neither (ltb (length file) (indexLength spec)) _ (q6 .0) in
     record {
       permitted = not-false _ (q1 .0);
-      below = leb-false _ _ (or-false (noSuchShard spec shard) _ (q5 .0) .1);
+      below = leb-false _ _ (neither (noSuchShard spec shard) _ (q5 .0) .1);
       held = ltb-false _ _ (o .0);
       short = ltb-false _ _ (o .1);
       sound = passed spec shard m (indexPart spec file) (dataPart spec file) refl refl refl (q6 .1);

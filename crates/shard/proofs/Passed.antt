@@ -2,15 +2,16 @@
 use Prim.Native.Nat.{ℕ, suc, _+_, _*_, _-_, _%_, _<_, _≤_}
 use mathlib.Core.List.{List}
 use mathlib.Core.Path.{_≡_, refl, sym, _∙_, ap, ap₂}
-use mathlib.Core.Bool.{Bool, true, false, _||_, _&&_, true≢false}
+use mathlib.Core.Bool.{Bool, true, false, _&&_}
 use native.Mathlib.Omega.{arith}
 use lib.ListN.{length}
 use lib.Dec.{ltb}
 use borrow.Author.Tests.{ltb-false, lt-ltb, eqb-true, not-false}
 use Rattle.endian.specs.Choice.{pick}
+use Rattle.endian.specs.Range.{anyBelow}
+use Rattle.endian.proofs.Tests.{neither}
 use Rattle.sharding.specs.declared.Sharding.{Sharding}
 use Rattle.shard.specs.declared.inner.Fault.{Fault}
-use Rattle.shard.specs.Sums.{anyBelow}
 use Rattle.shard.specs.Index.{entryStart, entryEnd, entryCount, idSteps, startSteps, sizes}
 use Rattle.shard.specs.Faults.{fault, badEntry, badLength, badId, foreignAt, outside, faultAt, faultOf}
 
@@ -26,21 +27,17 @@ pub pick-fault : (b : Bool) (k i : ℕ) (f : Fault) → pick b (fault (suc k) i)
 pick-fault true k i f e = absurd (omega arith)
 pick-fault false k i f e = (refl, e)
 
-pub or-false : (a b : Bool) → a || b ≡ false → (a ≡ false) × (b ≡ false)
-or-false true b e = absurd (true≢false e)
-or-false false b e = (refl, e)
-
 past-end : (s e n : ℕ) → ltb s e && ltb n e ≡ false → s < e → e ≤ n
 past-end s e n p l = ltb-false n e (rw (lt-ltb s e l) at p)
 
 -- what test 7 shows of an entry
 pub entry-order : (d : List ℕ) (s e : ℕ) → badEntry d s e ≡ false → s ≤ e
 unfolding badEntry
-entry-order d s e p = ltb-false e s (or-false (ltb e s) _ p .0)
+entry-order d s e p = ltb-false e s (neither (ltb e s) _ p .0)
 
 pub entry-within : (d : List ℕ) (s e : ℕ) → badEntry d s e ≡ false → s < e → e ≤ length d
 unfolding badEntry
-entry-within d s e p = past-end s e (length d) (or-false (ltb e s) _ p .1)
+entry-within d s e p = past-end s e (length d) (neither (ltb e s) _ p .1)
 
 pub passed-at : (spec : Sharding) (shard m : ℕ) (d : List ℕ) (s e : ℕ) → faultAt spec shard m d s e .number ≡ 0 → Passed d s e
 unfolding faultAt badLength

@@ -11,6 +11,8 @@ use lib.Seq.{length-take-le, drop-drop}
 use lib.Dec.{ltb}
 use borrow.Author.Tests.{lt-ltb, le-ltb, ltb-false, lt-leb, eq-eqb, ne-eqb}
 use Rattle.endian.specs.Choice.{pick}
+use Rattle.endian.specs.Range.{anyBelow, first}
+use Rattle.endian.proofs.Ranges.{any-no, any-miss, first-none, first-hit, told-none}
 use Rattle.sharding.specs.declared.Sharding.{Sharding}
 use Rattle.sharding.specs.Specification.{allowed, shardCount}
 use Rattle.sharding.specs.Place.{shardOf, minishardOf}
@@ -18,14 +20,13 @@ use Rattle.sharding.proofs.Placed.{shard-below}
 use Rattle.shard.specs.declared.inner.Fault.{Fault}
 use Rattle.shard.specs.declared.LookupAnswer.{LookupAnswer}
 use Rattle.shard.specs.declared.LookupAnswer.the-variants.{Found, Refused}
-use Rattle.shard.specs.Sums.{anyBelow, first}
 use Rattle.shard.specs.Index.{entryStart, entryEnd, entryCount, idSteps, startSteps, sizes, idAt, startAt}
 use Rattle.shard.specs.Faults.{fault, badEntry, badLength, badId, foreignAt, outside, faultAt, faultOf}
 use Rattle.shard.specs.File.{mostShardBytes, indexLength, indexPart, dataPart}
-use Rattle.shard.specs.Find.{isId, foundAt, foundIn, unless, lookupIn, lookupAnswer, partBytes}
+use Rattle.shard.specs.Find.{isId, foundAt, foundIn, unless, lookupIn, lookupAnswer}
 use Rattle.shard.specs.Sound.{SoundMinishard}
 use Rattle.shard.specs.Lists.{ListsAt, ListsIn}
-use Rattle.shard.proofs.First.{any-no, any-miss, first-none, first-hit, told-none}
+use Rattle.shard.specs.Lookups.{HandsOut}
 use Rattle.shard.proofs.Answers.{length-good}
 use Rattle.shard.proofs.Judged.{passes-minishard, minishard-passes}
 
@@ -137,13 +138,6 @@ module _ (spec : Sharding) (shard : ℕ) (x d : List ℕ) (id : ℕ) where
       )
 
 -- ---- in a file
-
--- a call whose answer is a chunk, these bytes
-pub record HandsOut (answer : LookupAnswer) (file bytes : List ℕ) : Type 0 where
-  pub start : ℕ
-  pub count : ℕ
-  pub found : answer ≡ Found start count
-  pub part : partBytes answer file ≡ bytes
 
 -- an allowed specification, an id of the shard, a file of allowed length
 module _ (spec : Sharding) (shard : ℕ) (file : List ℕ) (id : ℕ) (permitted : allowed spec ≡ true) (numbered : shardOf spec id ≡ shard)

@@ -1,7 +1,7 @@
 -- What holds at the head of a loop over a minishard that passed the judge, the search in it, and that a found chunk lies within the data.
 use Prim.Native.Nat.{ℕ, _+_, _<_, _≤_, _^_}
 use mathlib.Core.List.{List}
-use mathlib.Core.Path.{_≡_, refl, sym, ap₂}
+use mathlib.Core.Path.{_≡_, refl, ap₂}
 use mathlib.Core.Bool.{Bool, true, false}
 use native.Mathlib.Omega.{arith}
 use lib.Dec.{ltb}
@@ -10,13 +10,13 @@ use mir.Val.{Fits}
 use mir.Syntax.{w64}
 use borrow.Author.Tests.{lt-ltb, le-ltb, ltb-true, eq-eqb, ne-eqb}
 use Rattle.endian.specs.Choice.{pick}
+use Rattle.endian.specs.Range.{sumTo, anyBelow, first}
+use Rattle.endian.proofs.Ranges.{sum-none, sum-step, any-none, any-more, any-miss, first-none, first-hit}
 use Rattle.shard.specs.declared.LookupAnswer.the-variants.{Found, Refused}
-use Rattle.shard.specs.Sums.{sumTo, anyBelow, first}
 use Rattle.shard.specs.Index.{idAt, startAt, idSteps, startSteps, sizes}
 use Rattle.shard.specs.Faults.{badId, outside}
 use Rattle.shard.specs.File.{mostShardBytes}
 use Rattle.shard.specs.Find.{isId, foundAt, foundIn}
-use Rattle.shard.proofs.First.{sum-none, sum-one, any-none, any-more, any-miss, first-none, first-hit}
 use Rattle.shard.proofs.Walks.{id-fits, within-data}
 
 is-id : (f : ℕ → ℕ) (id i : ℕ) → sumTo f i + f i ≡ id → isId f id i ≡ true
@@ -35,7 +35,7 @@ pub record Tally (f g h : ℕ → ℕ) (n i cur end : ℕ) : Type 0 where
   pub place : end ≡ sumTo g i + sumTo h i
 
 pub tally-start : (f g h : ℕ → ℕ) (n : ℕ) → Tally f g h n 0 0 0
-tally-start f g h n = record { within = omega arith; ids = sym (sum-none f); place = omega (arith, sum-none g, sum-none h) }
+tally-start f g h n = record { within = omega arith; ids = sum-none f; place = omega (arith, sum-none g, sum-none h) }
 
 module _ {f g h : ℕ → ℕ} {n i cur end : ℕ} (r : Tally f g h n i cur end) (l : i < n) where
   pub tally-id : {x : ℕ} → x ≡ f i → anyBelow n (badId f) ≡ false → Fits w64 (cur + x)
@@ -52,7 +52,7 @@ module _ {f g h : ℕ → ℕ} {n i cur end : ℕ} (r : Tally f g h n i cur end)
 
   pub tally-turn : {x y z : ℕ} → x ≡ f i → y ≡ g i → z ≡ h i → Tally f g h n (i + 1) (cur + x) (end + y + z)
   tally-turn e d c =
-      record { within = omega arith; ids = omega (arith, sum-one f i); place = omega (arith, sum-one g i, sum-one h i) }
+      record { within = omega arith; ids = omega (arith, sum-step f i); place = omega (arith, sum-step g i, sum-step h i) }
 
 -- ---- the search
 

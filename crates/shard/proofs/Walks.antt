@@ -1,20 +1,21 @@
 -- What holds at the head of each loop over the entries of a minishard, and what each way out of a turn shows.
 use Prim.Native.Nat.{ℕ, zero, suc, _+_, _-_, _<_, _≤_, _^_}
 use mathlib.Core.Path.{_≡_, sym, _∙_, ap}
-use mathlib.Core.Bool.{Bool, true, false, not, _||_, or-true, true≢false}
+use mathlib.Core.Bool.{Bool, true, false, not, _||_, or-true}
 use native.Mathlib.Nat.{not-suc-le-zero}
 use native.Mathlib.Omega.{arith}
 use lib.Dec.{leb, eqb}
 use mir.Val.{Fits}
 use mir.Syntax.{w64}
 use borrow.Author.Tests.{lt-ltb, le-ltb, le-leb, lt-leb, leb-false, ltb-false}
+use Rattle.endian.specs.Range.{sumTo, anyBelow, first}
+use Rattle.endian.proofs.Ranges.{sum-none, sum-step, any-none, any-more, any-miss, first-none, first-hit}
+use Rattle.endian.proofs.Tests.{neither}
 use Rattle.sharding.specs.declared.Sharding.{Sharding}
 use Rattle.sharding.specs.declared.Place.{Place}
 use Rattle.sharding.specs.Place.{placeOf}
-use Rattle.shard.specs.Sums.{sumTo, anyBelow, first}
 use Rattle.shard.specs.Index.{idAt, startAt}
 use Rattle.shard.specs.Faults.{badId, foreign, foreignAt, outside}
-use Rattle.shard.proofs.First.{sum-none, sum-one, any-none, any-more, any-miss, first-none, first-hit}
 
 -- ---- test 9 of one entry
 
@@ -37,14 +38,10 @@ good-id f (suc i) p h =
     let ne = p (omega arith) in
     rw (lt-leb (sumTo f i + f i + f (suc i)) (sumTo f i + f i) (omega arith), lt-leb _ _ h)
 
-or-right : (a b : Bool) → a || b ≡ false → b ≡ false
-or-right true b e = absurd (true≢false e)
-or-right false b e = e
-
 pub id-fits : (f : ℕ → ℕ) (i : ℕ) → badId f i ≡ false → sumTo f i + f i < 2 ^ 64
 unfolding badId idAt sumTo
 id-fits f zero h = leb-false _ _ h
-id-fits f (suc i) h = leb-false _ _ (or-right (leb (sumTo f i + f i + f (suc i)) (sumTo f i + f i)) _ h)
+id-fits f (suc i) h = leb-false _ _ (neither (leb (sumTo f i + f i + f (suc i)) (sumTo f i + f i)) _ h .1)
 
 -- ---- tests 9 and 10: the sum of the steps passed, none of which fails
 
@@ -55,14 +52,14 @@ pub record Walk (steps : ℕ → ℕ) (test : ℕ → Bool) (n i sum : ℕ) : Ty
   pub none : anyBelow i test ≡ false
 
 pub walk-start : (steps : ℕ → ℕ) (test : ℕ → Bool) (n : ℕ) → Walk steps test n 0 0
-walk-start steps test n = record { within = omega arith; total = sym (sum-none steps); fits = omega arith; none = any-none test }
+walk-start steps test n = record { within = omega arith; total = sum-none steps; fits = omega arith; none = any-none test }
 
 walk-hit : {steps : ℕ → ℕ} {test : ℕ → Bool} {n i sum : ℕ} → Walk steps test n i sum → i < n → test i ≡ true → i ≡ first test n
 walk-hit {steps} {test} {n} {i} r l e = sym (first-hit test n i (r .none) l e)
 
 walk-turn : {steps : ℕ → ℕ} {test : ℕ → Bool} {n i sum x : ℕ} → Walk steps test n i sum → i < n → x ≡ steps i → sum + x < 2 ^ 64 → test i ≡ false → Walk steps test n (i + 1) (sum + x)
 walk-turn {steps} {test} {n} {i} {sum} {x} r l e f q =
-    record { within = omega arith; total = omega (arith, sum-one steps i); fits = f; none = any-more test i (r .none) q }
+    record { within = omega arith; total = omega (arith, sum-step steps i); fits = f; none = any-more test i (r .none) q }
 
 pub walk-end : {steps : ℕ → ℕ} {test : ℕ → Bool} {n i sum : ℕ} → Walk steps test n i sum → n ≤ i → n ≡ first test n
 walk-end {steps} {test} {n} {i} r l = let e : i ≡ n = omega arith in sym (first-none test n (rw e at (r .none)))
@@ -140,7 +137,7 @@ module _ {g h : ℕ → ℕ} {len n i end : ℕ} (r : Span g h len n i end) wher
   span-turn q l e d p =
       record {
         within = omega arith;
-        total = omega (arith, sum-one g i, sum-one h i);
+        total = omega (arith, sum-step g i, sum-step h i);
         fits = omega arith;
         none = any-more (outside len g h) i (r .none) (not-outside (omega arith));
       }

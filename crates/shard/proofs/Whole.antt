@@ -3,23 +3,23 @@ use Prim.Native.Nat.{ℕ, zero, suc, _<_}
 use mathlib.Core.Path.{_≡_, refl, ap}
 use mathlib.Core.Bool.{Bool, true, false, not}
 use mathlib.Core.List.{List}
-use native.Mathlib.Nat.{not-suc-le-zero}
 use native.Mathlib.Omega.{arith}
 use lib.Dec.{ltb}
 use lib.ListN.{length}
 use borrow.Author.Tests.{ltb-true, ltb-false, lt-ltb, le-ltb, leb-false, lt-leb, eqb-true, eqb-false, eq-eqb, not-true, not-false}
 use Rattle.endian.specs.Choice.{pick}
+use Rattle.endian.specs.Range.{anyBelow, first}
+use Rattle.endian.proofs.Ranges.{any-miss, any-no, first-none, first-lt, first-holds, first-before}
+use Rattle.endian.proofs.Tests.{neither}
 use Rattle.sharding.specs.declared.Sharding.{Sharding}
-use Rattle.sharding.specs.Specification.{allowed, minishardCount, shardCount}
+use Rattle.sharding.specs.Specification.{allowed, minishardCount, shardCount, noSuchShard}
 use Rattle.shard.specs.declared.inner.Fault.{Fault}
 use Rattle.shard.specs.declared.CheckAnswer.{CheckAnswer}
 use Rattle.shard.specs.declared.CheckAnswer.the-variants.{Sound, Refused, Faulty}
-use Rattle.shard.specs.Sums.{anyBelow, first}
 use Rattle.shard.specs.Faults.{faultOf, faulty, firstFault, shardFault}
-use Rattle.shard.specs.File.{mostShardBytes, indexLength, indexPart, dataPart, noSuchShard, badFileLength, verdict, checkAnswer}
+use Rattle.shard.specs.File.{mostShardBytes, indexLength, indexPart, dataPart, badFileLength, verdict, checkAnswer}
 use Rattle.shard.specs.Sound.{SoundMinishard, SoundShard}
-use Rattle.shard.proofs.First.{any-miss, any-no, first-none, first-lt, first-holds}
-use Rattle.shard.proofs.Judged.{either-false, passes-minishard, minishard-passes}
+use Rattle.shard.proofs.Judged.{passes-minishard, minishard-passes}
 
 -- ---- the first fault of n minishards
 
@@ -31,7 +31,7 @@ pub not-faulty : (f : ℕ → Fault) (m : ℕ) → f m .number ≡ 0 → faulty 
 unfolding faulty
 not-faulty f m p = rw (eq-eqb (f m .number) 0 p)
 
-is-faulty : (f : ℕ → Fault) (m : ℕ) → faulty f m ≡ true → f m .number ≡ 0 → ⊥
+pub is-faulty : (f : ℕ → Fault) (m : ℕ) → faulty f m ≡ true → f m .number ≡ 0 → ⊥
 unfolding faulty
 is-faulty f m p = eqb-false _ _ (not-true _ p)
 
@@ -71,7 +71,7 @@ module _ (spec : Sharding) (shard : ℕ) (file : List ℕ) where
       let q1 = accepted (not (allowed spec)) 1 _ p in
       let q5 = accepted (noSuchShard spec shard) 5 _ (q1 .1) in
       let q6 = accepted (badFileLength spec (length file)) 6 _ (q5 .1) in
-      let o = either-false (ltb (length file) (indexLength spec)) _ (q6 .0) in
+      let o = neither (ltb (length file) (indexLength spec)) _ (q6 .0) in
       let z = verdict-sound _ _ (q6 .1) in
       record {
         permitted = not-false _ (q1 .0);
@@ -94,16 +94,6 @@ module _ (spec : Sharding) (shard : ℕ) (file : List ℕ) where
       )
 
 -- ---- where the check names a minishard, it is the first with a fault
-
-first-before : (test : ℕ → Bool) (n j : ℕ) → j < first test n → test j ≡ false
-unfolding first anyBelow
-first-before test zero j l = absurd (not-suc-le-zero l)
-first-before test (suc n) j l = go (λ h. first-before test n j h) (anyBelow n test) refl (test n) refl
-  where
-    go : (j < first test n → test j ≡ false) → (b : Bool) → anyBelow n test ≡ b → (t : Bool) → test n ≡ t → test j ≡ false
-    go h true e t u = h (rw e at l)
-    go h false e true u = any-miss test n j e (rw (e, u) at l)
-    go h false e false u = any-miss test (suc n) j (rw (e, u)) (rw (e, u) at l)
 
 kept : (b : Bool) (i k m : ℕ) (later : CheckAnswer) → pick b (Refused i) later ≡ Faulty k m → later ≡ Faulty k m
 kept true i k m later e = let z : _≡_ {A = ℕ} 0 1 = cc in absurd (omega arith)

@@ -8,14 +8,14 @@ use native.Mathlib.Omega.{arith}
 use lib.Dec.{ltb}
 use lib.ListN.{length}
 use borrow.Author.Tests.{lt-ltb, le-ltb, eq-eqb, ne-eqb}
+use Rattle.endian.specs.Range.{anyBelow, first}
+use Rattle.endian.proofs.Ranges.{any-none, any-more, first-none, first-hit, told-some, told-none}
 use Rattle.sharding.specs.declared.Sharding.{Sharding}
 use Rattle.sharding.specs.Specification.{minishardCount}
 use Rattle.shard.specs.declared.inner.Fault.{Fault}
 use Rattle.shard.specs.declared.inner.ShardFault.{ShardFault}
-use Rattle.shard.specs.Sums.{anyBelow, first}
 use Rattle.shard.specs.Index.{entryStart, entryEnd, entryCount, idSteps, startSteps, sizes}
 use Rattle.shard.specs.Faults.{fault, orFirst, badEntry, badLength, badId, foreignAt, outside, faultAt, faultOf, faulty, firstFault, shardFault}
-use Rattle.shard.proofs.First.{any-none, any-more, first-none, first-hit, told-some, told-none}
 use Rattle.shard.proofs.Walks.{Walk, walk-end, Span, span-end}
 use Rattle.shard.proofs.Faulted.{fault-before, fault-empty, fault-past, fault-ragged, fault-entry}
 use Rattle.shard.proofs.Whole.{not-faulty}

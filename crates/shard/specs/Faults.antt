@@ -6,12 +6,12 @@ use mathlib.Core.List.{List}
 use lib.Dec.{ltb, leb, eqb}
 use lib.ListN.{length}
 use Rattle.endian.specs.Choice.{pick}
+use Rattle.endian.specs.Range.{anyBelow, first}
 use Rattle.sharding.specs.declared.Sharding.{Sharding}
 use Rattle.sharding.specs.Specification.{minishardCount}
 use Rattle.sharding.specs.Place.{shardOf, minishardOf}
 use Rattle.shard.specs.declared.inner.Fault.{Fault}
 use Rattle.shard.specs.declared.inner.ShardFault.{ShardFault}
-use Rattle.shard.specs.Sums.{anyBelow, first}
 use Rattle.shard.specs.Index.{entryStart, entryEnd, entryCount, idSteps, startSteps, sizes, idAt, endAt}
 
 abbrev pub fault : ℕ → ℕ → Fault

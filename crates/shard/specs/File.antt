@@ -2,11 +2,11 @@
 use Prim.Native.Nat.{ℕ, zero, suc, _*_}
 use mathlib.Core.Bool.{Bool, not, _||_}
 use mathlib.Core.List.{List}
-use lib.Dec.{ltb, leb}
+use lib.Dec.{ltb}
 use lib.ListN.{length, take, drop}
 use Rattle.endian.specs.Choice.{pick}
 use Rattle.sharding.specs.declared.Sharding.{Sharding}
-use Rattle.sharding.specs.Specification.{allowed, minishardCount, shardCount}
+use Rattle.sharding.specs.Specification.{allowed, minishardCount, noSuchShard}
 use Rattle.shard.specs.declared.inner.ShardFault.{ShardFault}
 use Rattle.shard.specs.declared.CheckAnswer.{CheckAnswer}
 use Rattle.shard.specs.declared.CheckAnswer.the-variants.{Sound, Refused, Faulty}
@@ -26,10 +26,6 @@ indexPart spec file = take (indexLength spec) file
 
 abbrev pub dataPart : Sharding → List ℕ → List ℕ
 dataPart spec file = drop (indexLength spec) file
-
--- refusal 5 of a shard number
-abbrev pub noSuchShard : Sharding → ℕ → Bool
-noSuchShard spec shard = leb (shardCount spec) shard
 
 -- refusal 6 of a file of n bytes
 unfoldable pub badFileLength : Sharding → ℕ → Bool

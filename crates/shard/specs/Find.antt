@@ -1,21 +1,21 @@
--- Lookup, and the listing of a minishard (01, 'From id to shard'; READINGS: 1, 5, 6, then 7 to 11 of the chosen minishard, then 12).
+-- Lookup, and the listing of a minishard (01, 'From id to shard' and 'Refusal numbers': 1, 5, 6, then 7 to 11 of the chosen minishard, then 12).
 use Prim.Native.Nat.{ℕ, zero, suc, _+_}
 use mathlib.Core.Bool.{Bool, not, _||_}
 use mathlib.Core.List.{List, [], _∷_, _++_}
 use lib.Dec.{ltb, leb, eqb}
 use lib.ListN.{length, take, drop}
 use Rattle.endian.specs.Choice.{pick}
+use Rattle.endian.specs.Range.{first}
 use Rattle.sharding.specs.declared.Sharding.{Sharding}
-use Rattle.sharding.specs.Specification.{allowed, minishardCount}
+use Rattle.sharding.specs.Specification.{allowed, minishardCount, noSuchShard}
 use Rattle.sharding.specs.Place.{shardOf, minishardOf}
 use Rattle.shard.specs.declared.LookupAnswer.{LookupAnswer}
 use Rattle.shard.specs.declared.LookupAnswer.the-variants.{Found, Refused}
 use Rattle.shard.specs.declared.CountAnswer.{CountAnswer}
 use Rattle.shard.specs.declared.CountAnswer.the-variants.{Count, Refused as NoCount}
-use Rattle.shard.specs.Sums.{first}
 use Rattle.shard.specs.Index.{entryStart, entryEnd, entryCount, idSteps, startSteps, sizes, idAt, startAt}
 use Rattle.shard.specs.Faults.{faultOf}
-use Rattle.shard.specs.File.{indexPart, dataPart, noSuchShard, badFileLength}
+use Rattle.shard.specs.File.{indexPart, dataPart, badFileLength}
 
 -- ---- lookup
 

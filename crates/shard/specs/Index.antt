@@ -4,7 +4,7 @@ use Prim.Native.Nat.{ℕ, suc, _+_, _*_, _-_, _/_}
 use mathlib.Core.List.{List}
 use lib.ListN.{take, drop}
 use Rattle.endian.specs.Little.{leAt, rowAt}
-use Rattle.shard.specs.Sums.{sumTo}
+use Rattle.endian.specs.Range.{sumTo}
 
 -- the entry of minishard m in the shard index: where its minishard index begins and ends
 abbrev pub entryStart : List ℕ → ℕ → ℕ

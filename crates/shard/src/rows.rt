@@ -5,7 +5,7 @@ ghost use mathlib.Core.List.{[], _∷_};
 ghost use Prim.Native.Nat.{_+_, _*_, _<_, _≤_};
 ghost use lib.ListN.{length};
 ghost use Rattle.endian.specs.Place.{paste};
-ghost use Rattle.shard.specs.Sums.{anyBelow};
+ghost use Rattle.endian.specs.Range.{anyBelow};
 ghost use Rattle.shard.specs.Index.{entryStart, entryEnd, entryCount, idSteps, startSteps, sizes};
 ghost use Rattle.shard.specs.Faults.{badEntry, badId, outside};
 ghost use Rattle.shard.specs.File.{mostShardBytes};

@@ -3,7 +3,7 @@ use Prim.Native.Nat.{ℕ, _^_, _≤_}
 use mathlib.Core.Path.{_≡_}
 use mathlib.Core.Bool.{Bool, not, _||_}
 use mathlib.Core.Logic.{_⊎_}
-use lib.Dec.{ltb, eqb}
+use lib.Dec.{ltb, leb, eqb}
 use Rattle.endian.specs.Choice.{pick}
 use Rattle.sharding.specs.declared.Sharding.{Sharding}
 
@@ -55,3 +55,7 @@ minishardCount spec = 2 ^ minishardBits spec
 
 abbrev pub shardCount : Sharding → ℕ
 shardCount spec = 2 ^ shardBits spec
+
+-- refusal 5 of a shard number: it "is not below 2^shard_bits"
+abbrev pub noSuchShard : Sharding → ℕ → Bool
+noSuchShard spec shard = leb (shardCount spec) shard

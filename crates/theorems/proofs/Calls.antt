@@ -10,6 +10,8 @@ use borrow.Author.Tests.{lt-ltb, le-ltb}
 use Rattle.endian.specs.Choice.{pick}
 use Rattle.endian.specs.Buffer.{written, leftBy}
 use Rattle.endian.specs.declared.Written.the-variants.{Length, Refused}
+use Rattle.endian.specs.Range.{anyBelow, first}
+use Rattle.endian.proofs.Ranges.{first-lt, first-none}
 use Rattle.grid.specs.declared.Volume.{Volume}
 use Rattle.grid.specs.declared.Cell.{Cell}
 use Rattle.grid.specs.declared.GridAnswer.the-variants as G
@@ -20,19 +22,17 @@ use Rattle.grid.specs.Answers.{noCell, gridAnswer, keyAnswer, cellAnswer, bound
 use Rattle.sharding.specs.declared.Sharding.{Sharding}
 use Rattle.sharding.specs.declared.Place.{Place}
 use Rattle.sharding.specs.declared.PlaceAnswer.the-variants as P
-use Rattle.sharding.specs.Specification.{allowed, shardCount}
+use Rattle.sharding.specs.Specification.{allowed, noSuchShard}
 use Rattle.sharding.specs.Place.{shardOf, minishardOf, placeOf, placeAnswer}
 use Rattle.names.specs.Chunks.{chunkName, chunkNameAnswer, chunkNameLeft}
 use Rattle.names.specs.Shards.{shardName, shardNameAnswer, shardNameLeft}
 use Rattle.shard.specs.declared.CheckAnswer.the-variants.{Refused as CheckRefused}
 use Rattle.shard.specs.declared.LookupAnswer.the-variants.{Found, Refused as NotFound}
 use Rattle.shard.specs.declared.CountAnswer.the-variants.{Count, Refused as NoCount}
-use Rattle.shard.specs.Sums.{anyBelow, first}
 use Rattle.shard.specs.Index.{entryStart, entryEnd, entryCount, idSteps}
 use Rattle.shard.specs.Faults.{faultOf}
-use Rattle.shard.specs.File.{mostShardBytes, indexPart, dataPart, noSuchShard, verdict, checkAnswer}
+use Rattle.shard.specs.File.{mostShardBytes, indexPart, dataPart, verdict, checkAnswer}
 use Rattle.shard.specs.Find.{isId, foundAt, foundIn, unless, lookupIn, lookupAnswer, listingRefusal, listedCount, listingOf, counted, countAnswer, listed, leftListed}
-use Rattle.shard.proofs.First.{first-lt, first-none}
 use Rattle.shard.proofs.Retrieval.{fault-most}
 use Rattle.settle.specs.Content.{formLength}
 use Rattle.settle.specs.Answers.{checkNumber, refusedBy, lengthAnswer, tooLong, settleAnswer, unlessRefused, settleLeft}
@@ -246,7 +246,7 @@ chunk-name-kept v c out k = kept-by (noCell v c) false (ltb (length out) (length
 pub shard-name-kept : (spec : Sharding) (shard : ℕ) (out : List ℕ) (k : ℕ) → shardNameAnswer spec shard out ≡ Refused k → shardNameLeft spec shard out ≡ out
 unfolding shardNameAnswer shardNameLeft written leftBy
 shard-name-kept spec shard out k =
-    kept-by (not (allowed spec)) (not (ltb shard (shardCount spec))) (ltb (length out) (length (shardName spec shard))) 1 5 _ k out _
+    kept-by (not (allowed spec)) (noSuchShard spec shard) (ltb (length out) (length (shardName spec shard))) 1 5 _ k out _
 
 settle-kept-by : (n : ℕ) (b : Bool) (m k : ℕ) (out x : List ℕ) → refusedBy n (pick b (Refused 13) (Length m)) ≡ Refused k → unlessRefused n (pick b out x) out ≡ out
 unfolding refusedBy unlessRefused

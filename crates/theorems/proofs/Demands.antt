@@ -1,11 +1,14 @@
 -- The demands hold: each from the laws of the crates' definitions.
-use mathlib.Core.Path.{sym, ap, _∙_}
+use mathlib.Core.Path.{_≡_, sym, ap, _∙_}
 use mathlib.Core.Logic.{inl, inr}
-use native.Mathlib.Omega.{by-contra}
+use native.Mathlib.Omega.{arith, by-contra}
+use lib.ListN.{length, take, drop, length-drop}
+use lib.Seq.{length-take-le}
 use Rattle.grid.proofs.Laws.{keyed, cell-gives-key-gives-cell, accepted-key}
 use Rattle.shard.specs.File.{indexPart, dataPart}
 use Rattle.shard.specs.Find.{listingRefusal, listingOf}
 use Rattle.shard.proofs.Whole.{check-passes-sound, check-names-first}
+use Rattle.shard.proofs.Handed.{answer-within}
 use Rattle.shard.proofs.Retrieval.{listed-chunk-is-handed-out, twelve-means-not-listed}
 use Rattle.settle.specs.Answers.{checkNumber}
 use Rattle.settle.proofs.Demand3.{demand-3-sound, demand-3-same, demand-3-form-passes, demand-3-form-lists, demand-3-form-settles, demand-3-refused, demand-3-written}
@@ -57,7 +60,10 @@ demand-2 =
       celled = accepted-key;
       found = λ spec shard file id bytes a s t.
           let h = listed-chunk-is-handed-out spec shard file id (a .permitted) (a .numbered) (a .held) (a .short) s t in
-          (h .start, h .count, h .found, rw (h .found) at (h .part), h .part);
+          let w = answer-within spec shard file id (h .start) (h .count) (h .found) .inside in
+          let p : take (h .count) (drop (h .start) file) ≡ bytes = rw (h .found) at (h .part) in
+          let n = length-take-le (h .count) (drop (h .start) file) (omega (arith, length-drop (h .start) file)) in
+          (h .start, h .count, h .found, sym n ∙ ap length p, p, h .part);
       absent = λ spec shard file id a. twelve-means-not-listed spec shard file id (a .permitted) (a .numbered) (a .held) (a .short);
     }
 

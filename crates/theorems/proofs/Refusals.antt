@@ -6,19 +6,20 @@ use mathlib.Core.List.{List, [], _∷_, _++_}
 use native.Mathlib.Omega.{arith}
 use lib.Dec.{ltb, leb}
 use lib.ListN.{length}
-use borrow.Author.Tests.{leb-true, lt-ltb, le-ltb, not-true, eqb-false}
+use borrow.Author.Tests.{leb-true, lt-ltb, le-ltb}
 use Rattle.endian.specs.Choice.{pick}
+use Rattle.endian.specs.Range.{anyBelow, first}
+use Rattle.endian.proofs.Ranges.{first-none, first-lt, first-holds}
+use Rattle.endian.proofs.Tests.{both}
 use Rattle.sharding.specs.declared.Sharding.{Sharding}
-use Rattle.sharding.specs.Specification.{allowed, minishardCount}
+use Rattle.sharding.specs.Specification.{allowed, minishardCount, noSuchShard}
 use Rattle.shard.specs.declared.inner.Fault.{Fault}
 use Rattle.shard.specs.declared.CheckAnswer.the-variants.{Sound, Refused}
-use Rattle.shard.specs.Sums.{anyBelow, first}
 use Rattle.shard.specs.Index.{entryStart, entryEnd, entryCount, idSteps, startSteps, sizes}
 use Rattle.shard.specs.Faults.{fault, badEntry, badLength, badId, foreignAt, outside, faultAt, faultOf, faulty, firstFault, shardFault}
-use Rattle.shard.specs.File.{indexPart, dataPart, noSuchShard, badFileLength, verdict, checkAnswer}
+use Rattle.shard.specs.File.{indexPart, dataPart, badFileLength, verdict, checkAnswer}
 use Rattle.shard.specs.Find.{listingRefusal}
-use Rattle.shard.proofs.First.{first-none, first-lt, first-holds}
-use Rattle.shard.proofs.Whole.{faulty-not}
+use Rattle.shard.proofs.Whole.{faulty-not, is-faulty}
 use Rattle.shard.proofs.Retrieval.{fault-most}
 use Rattle.settle.specs.Answers.{checkNumber}
 use Rattle.theorems.specs.Checks.{Check, check, firstNumber, InTable, Refuses, minishardChecks, minishardsChecks, fileChecks, listingChecks, shardChecks}
@@ -45,11 +46,6 @@ byChecks r (c ∷ cs) a = pick (c .holds) (r (c .number)) (byChecks r cs a)
 abbrev pub allIn : List Check → Bool
 allIn [] = true
 allIn (c ∷ cs) = (leb 1 (c .number) && leb (c .number) 18) && allIn cs
-
-both : (a b : Bool) → a && b ≡ true → (a ≡ true) × (b ≡ true)
-both true true e = (refl, refl)
-both true false e = (cc, cc)
-both false b e = (cc, cc)
 
 pub tests : {A : Type 0} (r : ℕ → A) → ((j k : ℕ) → r j ≡ r k → j ≡ k) → (checks : List Check) (later : A) {more : List Check}
     → allIn checks ≡ true → Refuses later r more → Refuses (byChecks r checks later) r (checks ++ more)
@@ -104,10 +100,6 @@ module _ (spec : Sharding) (shard : ℕ) (index d : List ℕ) where
       (fault-test (anyBelow n (outside (length d) (startSteps d s n) (sizes d s n))) 10 _ (fault 0 0) _ more refl))))
 
 -- ---- all minishards
-
-is-faulty : (f : ℕ → Fault) (m : ℕ) → faulty f m ≡ true → f m .number ≡ 0 → ⊥
-unfolding faulty
-is-faulty f m p = eqb-false _ _ (not-true _ p)
 
 or-some : (a b : ℕ) → (a ≡ 0 → ⊥) → orElse a b ≡ a
 unfolding orElse

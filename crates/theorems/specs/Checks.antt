@@ -7,23 +7,23 @@ use mathlib.Core.List.{List, [], _∷_}
 use lib.Dec.{ltb, leb, eqb}
 use lib.ListN.{length}
 use Rattle.endian.specs.Choice.{pick}
+use Rattle.endian.specs.Range.{anyBelow}
 use Rattle.grid.specs.declared.Volume.{Volume}
 use Rattle.grid.specs.declared.Cell.{Cell}
 use Rattle.grid.specs.Grid.{gridOf, zeroExtent}
 use Rattle.grid.specs.Key.{tooManyBits, isKey}
 use Rattle.grid.specs.Answers.{noCell}
 use Rattle.sharding.specs.declared.Sharding.{Sharding}
-use Rattle.sharding.specs.Specification.{allowed, minishardCount, shardCount}
+use Rattle.sharding.specs.Specification.{allowed, minishardCount, noSuchShard}
 use Rattle.sharding.specs.Place.{shardOf, minishardOf}
 use Rattle.names.specs.Chunks.{chunkName}
 use Rattle.names.specs.Shards.{shardName}
 use Rattle.card.specs.declared.Card.{Card}
 use Rattle.card.specs.Layout.{cardBytes}
 use Rattle.card.specs.Reading.{wellFormed, cardIn}
-use Rattle.shard.specs.Sums.{anyBelow}
 use Rattle.shard.specs.Index.{entryStart, entryEnd, entryCount, idSteps, startSteps, sizes}
 use Rattle.shard.specs.Faults.{badEntry, badLength, badId, foreignAt, outside}
-use Rattle.shard.specs.File.{mostShardBytes, indexPart, dataPart, noSuchShard, badFileLength}
+use Rattle.shard.specs.File.{mostShardBytes, indexPart, dataPart, badFileLength}
 use Rattle.shard.specs.Find.{isId, listedCount}
 use Rattle.settle.specs.Content.{formLength}
 use Rattle.settle.specs.Answers.{tooLong}
@@ -84,7 +84,7 @@ chunkNameChecks v c out = check (noCell v c) 2 ∷ room (chunkName v c) out ∷ 
 unfoldable pub shardNameChecks : Sharding → ℕ → List ℕ → List Check
 shardNameChecks spec shard out =
     check (not (allowed spec)) 1
-    ∷ check (not (ltb shard (shardCount spec))) 5
+    ∷ check (noSuchShard spec shard) 5
     ∷ room (shardName spec shard) out
     ∷ []
 

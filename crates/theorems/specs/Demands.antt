@@ -19,14 +19,14 @@ use Rattle.grid.specs.Grid.{gridOf, InU32}
 use Rattle.grid.specs.Key.{keyBits, keyOf}
 use Rattle.grid.specs.Answers.{noCell, gridAnswer, keyAnswer, cellAnswer, boundsAnswer}
 use Rattle.sharding.specs.declared.Sharding.{Sharding}
-use Rattle.sharding.specs.Specification.{allowed, minishardCount}
+use Rattle.sharding.specs.Specification.{allowed, minishardCount, noSuchShard}
 use Rattle.sharding.specs.Place.{shardOf, minishardOf, placeAnswer}
 use Rattle.names.specs.Chunks.{chunkNameAnswer, chunkNameLeft}
 use Rattle.names.specs.Shards.{shardNameAnswer, shardNameLeft}
 use Rattle.shard.specs.declared.CheckAnswer.the-variants.{Sound, Faulty, Refused as CheckRefused}
 use Rattle.shard.specs.declared.LookupAnswer.the-variants.{Found, Refused as NotFound}
 use Rattle.shard.specs.declared.CountAnswer.the-variants.{Refused as NoCount}
-use Rattle.shard.specs.File.{mostShardBytes, indexLength, indexPart, dataPart, noSuchShard, checkAnswer}
+use Rattle.shard.specs.File.{mostShardBytes, indexLength, indexPart, dataPart, checkAnswer}
 use Rattle.shard.specs.Find.{lookupAnswer, partBytes, listingRefusal, listingOf, countAnswer, listed, leftListed}
 use Rattle.shard.specs.Sound.{SoundMinishard, SoundShard}
 use Rattle.shard.specs.Lists.{ListsIn, SameListing}
@@ -115,11 +115,11 @@ pub record Demand2 : Type 0 where
       → (keyAnswer v c ≡ Key (keyOf (gridOf v) c)) × (cellAnswer v (keyOf (gridOf v) c) ≡ At c)
   -- Nor is a key answered with a cell that has another key.
   pub celled : (v : Volume) (k : ℕ) (c : Cell) → cellAnswer v k ≡ At c → keyAnswer v c ≡ Key k
-  -- Where the chosen minishard is sound and lists the id, a lookup finds a part of the file, and the part handed out is the listed bytes.
+  -- Where the chosen minishard is sound and lists the id, a lookup finds a part of the file, as long as the listed bytes, and hands these out.
   pub found : (spec : Sharding) (shard : ℕ) (file : List ℕ) (id : ℕ) (bytes : List ℕ) → Asked spec shard file id
       → ChosenSound spec shard file id → ChosenLists spec file id bytes
-      → (start : ℕ) × (n : ℕ) × (lookupAnswer spec shard file id ≡ Found start n) × (take n (drop start file) ≡ bytes)
-      × (partBytes (lookupAnswer spec shard file id) file ≡ bytes)
+      → (start : ℕ) × (n : ℕ) × (lookupAnswer spec shard file id ≡ Found start n) × (n ≡ length bytes)
+      × (take n (drop start file) ≡ bytes) × (partBytes (lookupAnswer spec shard file id) file ≡ bytes)
   -- It says absent, 12, exactly when the chosen minishard is sound and lists the id with no bytes.
   pub absent : (spec : Sharding) (shard : ℕ) (file : List ℕ) (id : ℕ) → Asked spec shard file id
       → (lookupAnswer spec shard file id ≡ NotFound 12)

@@ -11,6 +11,7 @@ fn copying(name: &str, length: usize, times: usize) {
     let measure = Measure {
         name,
         operations: times,
+        bar: None,
     };
     measure.run(
         || {

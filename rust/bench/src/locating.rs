@@ -63,7 +63,8 @@ pub fn run() {
     Measure {
         name: "locate, a cell, murmur",
         operations: CELLS,
+        bar: Some(1.0),
     }
-    .run_by(children_time, || length(&ours), || length(&theirs));
+    .run_by(children_time, || length(&ours), || length(&theirs), None);
     fs::remove_file(&file).expect("the input is removed");
 }

@@ -1,31 +1,46 @@
 //! Times the proved library, through its C archive, against plain Rust.
 //!
-//! Prints a line for each measure: the median processor time of one operation
-//! on each side, and the ratio library / plain over alternating runs, its
-//! median and its middle half. Both sides do the same work with the same
-//! tests, and must give the same answers.
+//! Prints a table with a line for each measure: the median processor time of
+//! one operation on each side, the ratio library / plain over alternating
+//! runs, its median and its middle half, and, where the memory sets one, the
+//! limit. Both sides do the same work with the same tests, and must give the
+//! same answers. Words on the command line choose the measures whose group has
+//! one of them: copy, key, place, shard, card, manifest, locate, desk.
 
+mod cards;
 mod clock;
 mod copying;
-#[cfg(feature = "locate")]
+mod desk;
 mod locating;
-#[cfg(feature = "manifest")]
 mod manifests;
-#[cfg(feature = "places")]
 mod places;
 mod runner;
-#[cfg(feature = "shards")]
 mod shards;
 
+/// The groups of measures, by the word that chooses them.
+const GROUPS: [(&str, fn()); 8] = [
+    ("copy", copying::run),
+    ("key", places::run_keys),
+    ("place", places::run_places),
+    ("shard", shards::run),
+    ("card", cards::run),
+    ("manifest", manifests::run),
+    ("locate", locating::run),
+    ("desk", desk::run),
+];
+
 fn main() {
+    let words: Vec<String> = std::env::args().skip(1).collect();
+    let known = |word: &String| GROUPS.iter().any(|(name, _)| name == word);
+    if let Some(word) = words.iter().find(|word| !known(word)) {
+        let names = GROUPS.map(|(name, _)| name).join(" ");
+        eprintln!("bench: no group of measures is named {word}; there are: {names}");
+        std::process::exit(2);
+    }
     runner::print_head();
-    copying::run();
-    #[cfg(feature = "places")]
-    places::run();
-    #[cfg(feature = "shards")]
-    shards::run();
-    #[cfg(feature = "manifest")]
-    manifests::run();
-    #[cfg(feature = "locate")]
-    locating::run();
+    for (name, run) in GROUPS {
+        if words.is_empty() || words.iter().any(|word| word == name) {
+            run();
+        }
+    }
 }

@@ -10,12 +10,15 @@ const LEAST_RUNS: usize = 9;
 /// How long the runs of a measure take at least, so that short ones are many.
 const LEAST_TIME: Duration = Duration::from_millis(400);
 
-/// One line of the output: what is timed and how many of them a run has.
+/// One line of the output: what is timed, how many of them a run has, and the
+/// ratio library / plain that it should not pass.
 pub struct Measure<'a> {
     /// What is timed.
     pub name: &'a str,
     /// How many operations a run has.
     pub operations: usize,
+    /// The bar, where there is one.
+    pub bar: Option<f64>,
 }
 
 /// The time of one operation in nanoseconds.
@@ -27,17 +30,30 @@ fn timed(clock: fn() -> Duration, operations: usize, run: &mut dyn FnMut() -> u6
 }
 
 /// The lower quartile, the median and the upper quartile.
-fn quartiles(mut values: Vec<f64>) -> [f64; 3] {
+pub fn quartiles(mut values: Vec<f64>) -> [f64; 3] {
     values.sort_by(f64::total_cmp);
     [1, 2, 3].map(|quarters| values[quarters * values.len() / 4])
 }
 
-/// Prints what the columns of the lines are.
+/// The median.
+fn median(values: Vec<f64>) -> f64 {
+    let [_, middle, _] = quartiles(values);
+    middle
+}
+
+/// Prints the head of the table.
 pub fn print_head() {
-    println!(
-        "{:<38} {:>14} {:>14}   ratio (middle half)",
-        "", "library ns", "plain Rust ns"
-    );
+    println!("| measure | library ns | plain Rust ns | ratio (middle half) | bar | limit ns | library / limit |");
+    println!("|---|---|---|---|---|---|---|");
+}
+
+/// What the bar's column says.
+fn bar_text(bar: Option<f64>, ratio: f64) -> String {
+    match bar {
+        Some(bar) if ratio <= bar => format!("{bar}"),
+        Some(bar) => format!("{bar} (not met)"),
+        None => String::new(),
+    }
 }
 
 impl Measure<'_> {
@@ -45,7 +61,18 @@ impl Measure<'_> {
     /// not give the same answer. The first run of each side, which has the
     /// caches and the pages to fill, is not timed.
     pub fn run(&self, library: impl FnMut() -> u64, plain: impl FnMut() -> u64) {
-        self.run_by(thread_time, library, plain);
+        self.run_by(thread_time, library, plain, None);
+    }
+
+    /// The same beside the least that the memory allows: a pass of loads, a
+    /// copy.
+    pub fn run_beside(
+        &self,
+        library: impl FnMut() -> u64,
+        plain: impl FnMut() -> u64,
+        mut limit: impl FnMut() -> u64,
+    ) {
+        self.run_by(thread_time, library, plain, Some(&mut limit));
     }
 
     /// The same by another clock.
@@ -54,23 +81,37 @@ impl Measure<'_> {
         clock: fn() -> Duration,
         mut library: impl FnMut() -> u64,
         mut plain: impl FnMut() -> u64,
+        mut limit: Option<&mut dyn FnMut() -> u64>,
     ) {
         assert_eq!(library(), plain(), "{}: the answers", self.name);
-        let (mut ours, mut theirs, mut ratios) = (Vec::new(), Vec::new(), Vec::new());
+        let (mut ours, mut theirs, mut least) = (Vec::new(), Vec::new(), Vec::new());
         let start = clock();
-        while ratios.len() < LEAST_RUNS || clock() - start < LEAST_TIME {
-            let our_time = timed(clock, self.operations, &mut library);
-            let their_time = timed(clock, self.operations, &mut plain);
-            ours.push(our_time);
-            theirs.push(their_time);
-            ratios.push(our_time / their_time);
+        while ours.len() < LEAST_RUNS || clock() - start < LEAST_TIME {
+            ours.push(timed(clock, self.operations, &mut library));
+            theirs.push(timed(clock, self.operations, &mut plain));
+            if let Some(limit) = &mut limit {
+                least.push(timed(clock, self.operations, limit));
+            }
         }
-        let [_, our_time, _] = quartiles(ours);
-        let [_, their_time, _] = quartiles(theirs);
-        let [low, ratio, high] = quartiles(ratios);
+        self.print(ours, theirs, least);
+    }
+
+    /// Prints the line.
+    fn print(&self, ours: Vec<f64>, theirs: Vec<f64>, least: Vec<f64>) {
+        let ratios = |others: &[f64]| ours.iter().zip(others).map(|(a, b)| a / b).collect();
+        let [low, ratio, high] = quartiles(ratios(&theirs));
+        let bar = bar_text(self.bar, ratio);
+        let limit = if least.is_empty() {
+            " | ".to_string()
+        } else {
+            let times = median(ratios(&least));
+            format!("{:.2} | {times:.2}", median(least))
+        };
         println!(
-            "{:<38} {our_time:>14.2} {their_time:>14.2}   {ratio:.2} ({low:.2} to {high:.2})",
+            "| {} | {:.2} | {:.2} | {ratio:.2} ({low:.2} to {high:.2}) | {bar} | {limit} |",
             self.name,
+            median(ours),
+            median(theirs),
         );
     }
 }
@@ -103,4 +144,12 @@ pub fn bytes(length: usize) -> Vec<u8> {
 /// out zeroed ones only when they are first written.
 pub fn touched(length: usize) -> Vec<u8> {
     vec![0xa5; length]
+}
+
+/// One pass of loads over the bytes.
+pub fn pass(bytes: &[u8]) -> u64 {
+    let word = |word: &[u8]| u64::from_le_bytes(word.try_into().expect("8 bytes"));
+    black_box(bytes)
+        .chunks_exact(8)
+        .fold(0, |all, bytes| all ^ word(bytes))
 }

@@ -1,12 +1,25 @@
 //! The deposit card.
 
 use crate::ffi;
-use crate::grid::{Extents, Offset, Volume};
-use crate::refusal::{answer, Refusal};
+use crate::grid::Volume;
+use crate::refusal::{given, written, Refusal};
 use crate::sharding::Sharding;
 
-/// What a deposit card says.
-#[derive(Clone, Copy, Debug, Default, PartialEq, Eq, Hash)]
+/// What a deposit card says. One meaning has one card.
+///
+/// ```
+/// use coronagamba::{Card, Sharding, Volume};
+///
+/// let card = Card {
+///     sharding: Sharding { preshift: 0, hash: 0, minishard_bits: 1, shard_bits: 2 },
+///     volume: Volume::new([100; 3], [64; 3], [0; 3]),
+/// };
+/// let bytes = card.to_bytes()?;
+/// assert_eq!(bytes.len(), 46);
+/// assert_eq!(Card::read(&bytes)?, card);
+/// # Ok::<(), coronagamba::Refusal>(())
+/// ```
+#[derive(Clone, Copy, Debug, PartialEq, Eq, Hash)]
 pub struct Card {
     /// The sharding specification.
     pub sharding: Sharding,
@@ -17,60 +30,78 @@ pub struct Card {
 /// The most bytes that a card has.
 const MOST_CARD_BYTES: usize = 61;
 
+/// A card's numbers as the library gives them: the four of the specification,
+/// then volume size, chunk size and offset along x, y, z.
+type Numbers = ([u8; 4], [u32; 3], [u32; 3], [i32; 3]);
+
+/// The card of these numbers.
+fn of_numbers((sharding, size, chunk, offset): Numbers) -> Card {
+    let [preshift, hash, minishard_bits, shard_bits] = sharding;
+    Card {
+        sharding: Sharding {
+            preshift,
+            hash,
+            minishard_bits,
+            shard_bits,
+        },
+        volume: Volume::new(size, chunk, offset),
+    }
+}
+
 impl Card {
     /// Reads a card, or refusal 14, 1, 2 or 3.
+    ///
+    /// ```
+    /// use coronagamba::Card;
+    ///
+    /// let bytes = [
+    ///     1, 1, 0, 0, // preshift
+    ///     2, 1, 0, 1, // hash
+    ///     3, 1, 0, 3, // minishard bits
+    ///     4, 1, 0, 9, // shard bits
+    ///     5, 12, 0, 100, 0, 0, 0, 1, 0, 0, 0, 1, 0, 0, 0, // volume size
+    ///     6, 12, 0, 64, 0, 0, 0, 1, 0, 0, 0, 1, 0, 0, 0, // chunk size
+    /// ];
+    /// let card = Card::read(&bytes)?;
+    /// assert_eq!(card.sharding.shard_bits, 9);
+    /// assert_eq!(card.volume.size, [100, 1, 1].into());
+    /// assert_eq!(Card::read(&bytes[1..]).unwrap_err().number, 14);
+    /// # Ok::<(), coronagamba::Refusal>(())
+    /// ```
     pub fn read(bytes: &[u8]) -> Result<Card, Refusal> {
-        let (mut sharding, mut size, mut chunk) = ([0; 4], [0; 3], [0; 3]);
-        let mut offset = [0; 3];
-        // SAFETY: pointer and length are those of one live slice, and the
-        // results go to live values.
-        answer(unsafe {
-            ffi::coronagamba_card_read(
-                bytes.as_ptr(),
-                bytes.len(),
-                &mut sharding,
-                &mut size,
-                &mut chunk,
-                &mut offset,
-            )
-        })?;
-        let [preshift, hash, minishard_bits, shard_bits] = sharding;
-        let extents = |[x, y, z]: [u32; 3]| Extents { x, y, z };
-        let [x, y, z] = offset;
-        Ok(Card {
-            sharding: Sharding {
-                preshift,
-                hash,
-                minishard_bits,
-                shard_bits,
-            },
-            volume: Volume {
-                size: extents(size),
-                chunk: extents(chunk),
-                offset: Offset { x, y, z },
-            },
+        // SAFETY: pointer and count are those of one live slice; the results
+        // are four live arrays, lent to this call alone.
+        let numbers = given(|(sharding, size, chunk, offset): &mut Numbers| unsafe {
+            ffi::coronagamba_card_read(bytes.as_ptr(), bytes.len(), sharding, size, chunk, offset)
+        });
+        numbers.map(of_numbers)
+    }
+
+    /// Writes the card to the front of `out` and gives its length, 46 or 61;
+    /// or refusal 1, 2, 3 or 13.
+    pub fn write(&self, out: &mut [u8]) -> Result<usize, Refusal> {
+        let Card { sharding, volume } = *self;
+        // SAFETY: pointer and count are those of one live slice, which is lent
+        // to this call alone, as is the result.
+        written(|length| unsafe {
+            ffi::coronagamba_card_write(sharding, volume, out.as_mut_ptr(), out.len(), length)
         })
     }
 
-    /// Writes the card to the front of `out` and gives its length, or refusal
-    /// 1, 2, 3 or 13.
-    pub fn write(&self, out: &mut [u8]) -> Result<usize, Refusal> {
-        let mut length = 0;
-        // SAFETY: pointer and length are those of one slice, lent alone, and
-        // the result goes to a live value.
-        answer(unsafe {
-            ffi::coronagamba_card_write(
-                self.sharding,
-                self.volume,
-                out.as_mut_ptr(),
-                out.len(),
-                &mut length,
-            )
-        })?;
-        Ok(length as usize)
-    }
-
     /// The bytes of the card, or refusal 1, 2 or 3.
+    ///
+    /// ```
+    /// use coronagamba::{Card, Sharding, Volume};
+    ///
+    /// let card = Card {
+    ///     sharding: Sharding { preshift: 0, hash: 0, minishard_bits: 1, shard_bits: 2 },
+    ///     volume: Volume::new([100, 1, 1], [64, 1, 1], [-64, 0, 0]),
+    /// };
+    /// assert_eq!(card.to_bytes()?.len(), 61);
+    /// let empty = Card { volume: Volume::default(), ..card };
+    /// assert_eq!(empty.to_bytes().unwrap_err().number, 2);
+    /// # Ok::<(), coronagamba::Refusal>(())
+    /// ```
     pub fn to_bytes(&self) -> Result<Vec<u8>, Refusal> {
         let mut out = vec![0; MOST_CARD_BYTES];
         let length = self.write(&mut out)?;

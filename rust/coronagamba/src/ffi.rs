@@ -3,11 +3,20 @@
 //! Each that can refuse answers a word: 0 for success, else the refusal's
 //! number + 2^8 times the minishard + 2^32 times the position. Results go
 //! through pointers; a refusal leaves everything behind them as it was.
+//!
+//! What may be passed: a pointer and a count of one live slice, results that
+//! are live, and nothing that is written overlaps anything else. An empty
+//! slice's pointer is never followed. All that crosses is numbers, in structs
+//! without padding, and any bits make a number.
 
-#[cfg(feature = "grid")]
 use crate::grid::{Cell, Volume};
-#[cfg(feature = "sharding")]
 use crate::sharding::Sharding;
+use std::mem::size_of;
+
+// No padding: a struct is as large as its numbers together.
+const _: () = assert!(size_of::<Volume>() == 9 * size_of::<u32>());
+const _: () = assert!(size_of::<Cell>() == 3 * size_of::<u32>());
+const _: () = assert!(size_of::<Sharding>() == 4);
 
 extern "C" {
     pub fn coronagamba_read_u16(bytes: *const u8, count: usize) -> u16;
@@ -19,10 +28,17 @@ extern "C" {
     pub fn coronagamba_copy(bytes: *const u8, count: usize, out: *mut u8, out_count: usize) -> u64;
 }
 
-#[cfg(feature = "grid")]
 extern "C" {
     pub fn coronagamba_grid_of(volume: Volume, grid: *mut [u32; 3]) -> u64;
     pub fn coronagamba_key_of(volume: Volume, cell: Cell, key: *mut u64) -> u64;
+    pub fn coronagamba_keys_of(
+        volume: Volume,
+        cells: *const u32,
+        count: usize,
+        keys: *mut u64,
+        keys_count: usize,
+        length: *mut u64,
+    ) -> u64;
     pub fn coronagamba_cell_of(volume: Volume, key: u64, cell: *mut [u32; 3]) -> u64;
     pub fn coronagamba_bounds_of(
         volume: Volume,
@@ -32,7 +48,6 @@ extern "C" {
     ) -> u64;
 }
 
-#[cfg(feature = "sharding")]
 extern "C" {
     pub fn coronagamba_place_of(
         sharding: Sharding,
@@ -48,10 +63,10 @@ extern "C" {
         shards_count: usize,
         minishards: *mut u64,
         minishards_count: usize,
+        length: *mut u64,
     ) -> u64;
 }
 
-#[cfg(feature = "names")]
 extern "C" {
     pub fn coronagamba_chunk_name(
         volume: Volume,
@@ -69,7 +84,6 @@ extern "C" {
     ) -> u64;
 }
 
-#[cfg(feature = "shards")]
 extern "C" {
     pub fn coronagamba_lookup(
         sharding: Sharding,
@@ -101,7 +115,6 @@ extern "C" {
     ) -> u64;
 }
 
-#[cfg(feature = "settle")]
 extern "C" {
     pub fn coronagamba_settled_length(
         sharding: Sharding,
@@ -121,7 +134,6 @@ extern "C" {
     ) -> u64;
 }
 
-#[cfg(feature = "card")]
 extern "C" {
     pub fn coronagamba_card_read(
         bytes: *const u8,
@@ -140,7 +152,6 @@ extern "C" {
     ) -> u64;
 }
 
-#[cfg(feature = "manifest")]
 extern "C" {
     pub fn coronagamba_manifest_check(bytes: *const u8, count: usize) -> u64;
     pub fn coronagamba_manifest_header(
@@ -170,8 +181,24 @@ extern "C" {
         count: usize,
         level: u32,
         node: u32,
-        near: *mut [f32; 3],
-        far: *mut [f32; 3],
+        near_corner: *mut [f32; 3],
+        far_corner: *mut [f32; 3],
+    ) -> u64;
+    pub fn coronagamba_manifest_walk_begin(
+        bytes: *const u8,
+        count: usize,
+        at: *mut [u32; 2],
+        places: *mut [u64; 2],
+    ) -> u64;
+    pub fn coronagamba_manifest_walk_step(
+        bytes: *const u8,
+        count: usize,
+        at: *mut [u32; 2],
+        places: *mut [u64; 2],
+        kind: *mut u32,
+        position: *mut [u32; 3],
+        start: *mut u64,
+        size: *mut u32,
     ) -> u64;
 }
 
@@ -179,9 +206,6 @@ extern "C" {
 /// leaves everything behind the result pointers as it was.
 #[cfg(test)]
 mod tests {
-    // Which of these are used depends on the parts.
-    #![allow(dead_code, unused_imports)]
-
     use super::*;
 
     const KEPT: u64 = 0x0123_4567_89ab_cdef;
@@ -202,7 +226,6 @@ mod tests {
         assert_eq!(out, [7; 8]);
     }
 
-    #[cfg(feature = "grid")]
     #[test]
     fn grid() {
         let (volume, cell) = (Volume::default(), Cell::default());
@@ -218,8 +241,41 @@ mod tests {
         assert_eq!((numbers, key, begin, end), ([7; 3], KEPT, [7; 3], [7; 3]));
     }
 
+    #[test]
+    fn keys() {
+        let extents = |x| crate::Extents { x, y: 1, z: 1 };
+        let volume = Volume {
+            size: extents(8),
+            chunk: extents(1),
+            ..Volume::default()
+        };
+        let (cells, mut keys, mut length) = ([5, 0, 0, 8, 0, 0], [KEPT; 2], KEPT);
+        let (from, to) = (cells.as_ptr(), keys.as_mut_ptr());
+        // SAFETY: each pointer and count are those of one array or of its
+        // front.
+        unsafe {
+            assert_eq!(coronagamba_keys_of(volume, from, 6, to, 2, &mut length), 2);
+            assert_eq!(coronagamba_keys_of(volume, from, 3, to, 0, &mut length), 13);
+        }
+        assert_eq!((keys, length), ([KEPT; 2], KEPT));
+        // The two numbers left over are no cell.
+        // SAFETY: as before.
+        unsafe {
+            let to = keys.as_mut_ptr();
+            assert_eq!(coronagamba_keys_of(volume, from, 5, to, 2, &mut length), 0);
+        }
+        assert_eq!((keys, length), ([5, KEPT], 1));
+    }
+
+    /// The specification of one shard with one minishard.
+    const NO_BITS: Sharding = Sharding {
+        preshift: 0,
+        hash: 0,
+        minishard_bits: 0,
+        shard_bits: 0,
+    };
+
     /// A specification that is refused with 1.
-    #[cfg(feature = "sharding")]
     const REFUSED: Sharding = Sharding {
         preshift: 64,
         hash: 0,
@@ -227,7 +283,6 @@ mod tests {
         shard_bits: 0,
     };
 
-    #[cfg(feature = "sharding")]
     #[test]
     fn sharding() {
         let (mut shard, mut minishard) = (KEPT, KEPT);
@@ -241,7 +296,6 @@ mod tests {
         assert_eq!((shard, minishard), (KEPT, KEPT));
     }
 
-    #[cfg(feature = "names")]
     #[test]
     fn names() {
         let (volume, cell) = (Volume::default(), Cell::default());
@@ -258,7 +312,7 @@ mod tests {
                 coronagamba_shard_name(REFUSED, 0, place, 20, &mut length),
                 1
             );
-            let allowed = Sharding::default();
+            let allowed = NO_BITS;
             assert_eq!(
                 coronagamba_shard_name(allowed, 1, place, 20, &mut length),
                 5
@@ -272,7 +326,6 @@ mod tests {
     }
 
     /// A shard of two minishards: the first is empty, the second reversed.
-    #[cfg(feature = "shards")]
     const REVERSED: (Sharding, [u8; 32]) = (
         Sharding {
             preshift: 0,
@@ -287,7 +340,6 @@ mod tests {
         },
     );
 
-    #[cfg(feature = "shards")]
     #[test]
     fn shards() {
         let (sharding, file) = REVERSED;
@@ -319,7 +371,6 @@ mod tests {
         assert_eq!((start, length, out), (KEPT, KEPT, [KEPT; 3]));
     }
 
-    #[cfg(feature = "settle")]
     #[test]
     fn settle() {
         let (sharding, file) = REVERSED;
@@ -337,12 +388,42 @@ mod tests {
                 coronagamba_settle(sharding, 0, file, count, place, 40, &mut length),
                 7
             );
-            let sound = Sharding::default();
+            let sound = NO_BITS;
             assert_eq!(
                 coronagamba_settle(sound, 0, file, count, place, 15, &mut length),
                 13
             );
         }
         assert_eq!((out, length), ([7; 40], KEPT));
+    }
+    #[test]
+    fn walks() {
+        let bytes = [0; 28];
+        let (from, count) = (bytes.as_ptr(), bytes.len());
+        let (mut at, mut places) = ([0, 7], [KEPT; 2]);
+        let (mut kind, mut position, mut start, mut size) = (7, [7; 3], KEPT, 7);
+        // SAFETY: pointer and count are those of one array or of its front,
+        // and the results go to live values.
+        unsafe {
+            assert_eq!(
+                coronagamba_manifest_walk_begin(from, count, &mut at, &mut places),
+                16
+            );
+            assert_eq!(
+                coronagamba_manifest_walk_step(
+                    from,
+                    count - 1,
+                    &mut at,
+                    &mut places,
+                    &mut kind,
+                    &mut position,
+                    &mut start,
+                    &mut size
+                ),
+                18
+            );
+        }
+        assert_eq!((at, places), ([0, 7], [KEPT; 2]));
+        assert_eq!((kind, position, start, size), (7, [7; 3], KEPT, 7));
     }
 }

@@ -1,7 +1,8 @@
 //! The multi-resolution mesh manifest.
 
 use crate::ffi;
-use crate::refusal::{answer, Refusal};
+use crate::refusal::{answer, given, Refusal};
+use std::iter::FusedIterator;
 
 /// The shape of the finest nodes and the origin of the grid.
 #[derive(Clone, Copy, Debug, Default, PartialEq)]
@@ -21,6 +22,35 @@ pub enum Field {
     Whole(u32),
 }
 
+impl Field {
+    /// The number, where it is a real.
+    pub fn real(self) -> Option<f32> {
+        match self {
+            Field::Real(real) => Some(real),
+            Field::Whole(_) => None,
+        }
+    }
+
+    /// The number, where it is a whole one.
+    pub fn whole(self) -> Option<u32> {
+        match self {
+            Field::Real(_) => None,
+            Field::Whole(number) => Some(number),
+        }
+    }
+}
+
+/// A level of a manifest.
+#[derive(Clone, Copy, Debug, Default, PartialEq)]
+pub struct Level {
+    /// Its scale.
+    pub scale: f32,
+    /// Its vertex offset along x, y, z.
+    pub vertex_offset: [f32; 3],
+    /// How many nodes it has.
+    pub nodes: u32,
+}
+
 /// A node of a level.
 #[derive(Clone, Copy, Debug, Default, PartialEq, Eq, Hash)]
 pub struct Node {
@@ -30,6 +60,17 @@ pub struct Node {
     pub size: u32,
     /// Where its fragment starts: the sum of all earlier sizes.
     pub start: u64,
+}
+
+/// A node that [`Nodes`] comes to.
+#[derive(Clone, Copy, Debug, Default, PartialEq, Eq, Hash)]
+pub struct Visit {
+    /// Its level, counted from 0.
+    pub level: u32,
+    /// Its number in the level, counted from 0.
+    pub index: u32,
+    /// The node.
+    pub node: Node,
 }
 
 /// The corners of a node.
@@ -42,6 +83,28 @@ pub struct Corners {
 }
 
 /// A manifest's bytes. Opening judges nothing; each call checks them.
+///
+/// The example has a shape of 8 and an origin of 10 on each axis, and three
+/// levels with a node in the last, at position 3, 3, 3.
+///
+/// ```
+/// use coronagamba::Manifest;
+///
+/// let (shape, origin) = (8f32.to_bits(), 10f32.to_bits());
+/// let mut items = vec![shape, shape, shape, origin, origin, origin, 3];
+/// items.extend([0; 3 + 9]); // level scales and vertex offsets, all 0.0
+/// items.extend([0, 0, 1]); // node counts
+/// items.extend([3, 3, 3, 700]); // the node: x, y, z and the fragment's size
+/// let bytes: Vec<u8> = items.iter().flat_map(|item| item.to_le_bytes()).collect();
+///
+/// let manifest = Manifest::open(&bytes);
+/// manifest.check()?;
+/// assert_eq!(manifest.header()?.origin, [10.0; 3]);
+/// let corners = manifest.corners(2, 0)?;
+/// assert_eq!((corners.near, corners.far), ([106.0; 3], [138.0; 3]));
+/// assert_eq!(manifest.node(2, 1).unwrap_err().number, 18);
+/// # Ok::<(), coronagamba::Refusal>(())
+/// ```
 #[derive(Clone, Copy, Debug)]
 pub struct Manifest<'a> {
     bytes: &'a [u8],
@@ -53,56 +116,151 @@ impl<'a> Manifest<'a> {
         Manifest { bytes }
     }
 
+    /// The manifest's bytes.
+    pub fn bytes(&self) -> &'a [u8] {
+        self.bytes
+    }
+
     /// Passes exactly the sound manifests, else refusal 15, 16 or 17.
+    ///
+    /// ```
+    /// use coronagamba::Manifest;
+    ///
+    /// // No levels: shape 1, 1, 1, origin 0, 0, 0, level count 0.
+    /// let one = 1f32.to_le_bytes();
+    /// let bytes = [&one[..], &one, &one, &[0; 16]].concat();
+    /// assert_eq!(bytes.len(), 28);
+    /// assert_eq!(Manifest::open(&bytes).check(), Ok(()));
+    /// assert_eq!(Manifest::open(&bytes[1..]).check().unwrap_err().number, 15);
+    /// assert_eq!(Manifest::open(&[0; 28]).check().unwrap_err().number, 16);
+    /// ```
     pub fn check(&self) -> Result<(), Refusal> {
-        // SAFETY: pointer and length are those of one live slice.
+        // SAFETY: pointer and count are those of one live slice.
         answer(unsafe { ffi::coronagamba_manifest_check(self.bytes.as_ptr(), self.bytes.len()) })
     }
 
     /// The shape and origin, or refusal 15, 16 or 17.
     pub fn header(&self) -> Result<Header, Refusal> {
-        let mut reals = [0.0; 6];
-        // SAFETY: pointer and length are those of one live slice, and the
-        // result goes to a live value.
-        answer(unsafe {
-            ffi::coronagamba_manifest_header(self.bytes.as_ptr(), self.bytes.len(), &mut reals)
-        })?;
-        let [x, y, z, u, v, w] = reals;
-        Ok(Header {
+        // SAFETY: pointer and count are those of one live slice; the result is
+        // a live array, lent to this call alone.
+        let reals = given(|reals| unsafe {
+            ffi::coronagamba_manifest_header(self.bytes.as_ptr(), self.bytes.len(), reals)
+        });
+        reals.map(|[x, y, z, u, v, w]: [f32; 6]| Header {
             shape: [x, y, z],
             origin: [u, v, w],
         })
     }
 
-    /// The field of this number, or refusal 15 to 18.
+    /// The field of this number, counted from 0 in file order, or refusal 15
+    /// to 18.
+    ///
+    /// ```
+    /// use coronagamba::manifest::{Field, Manifest};
+    ///
+    /// let one = 1f32.to_le_bytes();
+    /// let bytes = [&one[..], &one, &one, &[0; 16]].concat();
+    /// let manifest = Manifest::open(&bytes);
+    /// assert_eq!(manifest.field(0)?, Field::Real(1.0));
+    /// assert_eq!(manifest.field(6)?, Field::Whole(0));
+    /// assert_eq!(manifest.field(7).unwrap_err().number, 18);
+    /// # Ok::<(), coronagamba::Refusal>(())
+    /// ```
     pub fn field(&self, number: u64) -> Result<Field, Refusal> {
-        let (mut kind, mut real, mut whole) = (0, 0.0, 0);
-        // SAFETY: pointer and length are those of one live slice, and the
-        // results go to live values.
-        answer(unsafe {
+        // SAFETY: pointer and count are those of one live slice; the results
+        // are three live numbers, lent to this call alone.
+        let field = given(|(kind, real, whole)| unsafe {
             ffi::coronagamba_manifest_field(
                 self.bytes.as_ptr(),
                 self.bytes.len(),
                 narrowed(number),
-                &mut kind,
-                &mut real,
-                &mut whole,
+                kind,
+                real,
+                whole,
             )
-        })?;
-        Ok(if kind == 1 {
-            Field::Real(real)
-        } else {
-            Field::Whole(whole)
+        });
+        field.map(|(kind, real, whole)| {
+            if kind == 1 {
+                Field::Real(real)
+            } else {
+                Field::Whole(whole)
+            }
         })
+    }
+
+    /// The levels, that of the finest nodes first, or refusal 15, 16 or 17.
+    /// Each number is asked for as a field, and each of these calls checks the
+    /// bytes.
+    ///
+    /// ```
+    /// use coronagamba::Manifest;
+    ///
+    /// let real = f32::to_bits;
+    /// let mut items = vec![real(1.0); 6]; // shape and origin
+    /// items.push(1); // level count
+    /// items.extend([real(2.5), real(0.0), real(0.5), real(-1.0)]); // scale, vertex offset
+    /// items.extend([1, 0, 0, 0, 9]); // node count, and the node
+    /// let bytes: Vec<u8> = items.iter().flat_map(|item| item.to_le_bytes()).collect();
+    ///
+    /// let levels = Manifest::open(&bytes).levels()?;
+    /// assert_eq!(levels.len(), 1);
+    /// assert_eq!(levels[0].scale, 2.5);
+    /// assert_eq!(levels[0].vertex_offset, [0.0, 0.5, -1.0]);
+    /// assert_eq!(levels[0].nodes, 1);
+    /// # Ok::<(), coronagamba::Refusal>(())
+    /// ```
+    pub fn levels(&self) -> Result<Vec<Level>, Refusal> {
+        let count = u64::from(self.whole(6)?);
+        (0..count).map(|level| self.level(level, count)).collect()
+    }
+
+    /// A level of a manifest with that many, its fields counted as in the
+    /// scope's order: 7 items, level scales, vertex offsets, node counts.
+    fn level(&self, level: u64, count: u64) -> Result<Level, Refusal> {
+        let offset = 7 + count + 3 * level;
+        Ok(Level {
+            scale: self.real(7 + level)?,
+            vertex_offset: [
+                self.real(offset)?,
+                self.real(offset + 1)?,
+                self.real(offset + 2)?,
+            ],
+            nodes: self.whole(7 + 4 * count + level)?,
+        })
+    }
+
+    /// The field of this number, which the layout says is a real.
+    fn real(&self, number: u64) -> Result<f32, Refusal> {
+        let field = self.field(number)?;
+        Ok(field.real().expect("the layout has a real here"))
+    }
+
+    /// The field of this number, which the layout says is a whole number.
+    fn whole(&self, number: u64) -> Result<u32, Refusal> {
+        let field = self.field(number)?;
+        Ok(field.whole().expect("the layout has a whole number here"))
     }
 
     /// A node's position, fragment size and fragment start, or refusal 15 to
     /// 18.
+    ///
+    /// ```
+    /// use coronagamba::Manifest;
+    ///
+    /// let real = f32::to_bits;
+    /// let mut items = vec![real(1.0); 6]; // shape and origin
+    /// items.extend([1, 0, 0, 0, 0, 2]); // level count, scale, vertex offset, node count
+    /// items.extend([0, 1, 0, 0, 0, 0, 500, 80]); // two nodes: all x, y, z, all sizes
+    /// let bytes: Vec<u8> = items.iter().flat_map(|item| item.to_le_bytes()).collect();
+    ///
+    /// let node = Manifest::open(&bytes).node(0, 1)?;
+    /// assert_eq!((node.position, node.start, node.size), ([1, 0, 0], 500, 80));
+    /// # Ok::<(), coronagamba::Refusal>(())
+    /// ```
     pub fn node(&self, level: u64, node: u64) -> Result<Node, Refusal> {
-        let mut found = Node::default();
-        // SAFETY: pointer and length are those of one live slice, and the
-        // results go to live values.
-        answer(unsafe {
+        // SAFETY: pointer and count are those of one live slice; the results
+        // are fields of a live node, lent to this call alone.
+        given(|found: &mut Node| unsafe {
             ffi::coronagamba_manifest_node(
                 self.bytes.as_ptr(),
                 self.bytes.len(),
@@ -112,28 +270,112 @@ impl<'a> Manifest<'a> {
                 &mut found.start,
                 &mut found.size,
             )
-        })?;
-        Ok(found)
+        })
     }
 
-    /// A node's corners, or refusal 15 to 18.
+    /// All nodes, level by level, or refusal 15, 16 or 17. The bytes are
+    /// checked once, where [`node`](Manifest::node) checks them each time.
+    ///
+    /// ```
+    /// use coronagamba::Manifest;
+    ///
+    /// let real = f32::to_bits;
+    /// let mut items = vec![real(1.0); 6]; // shape and origin
+    /// items.extend([2, 0, 0, 0, 0, 0, 0, 0, 0]); // level count, scales, vertex offsets
+    /// items.extend([2, 1]); // node counts
+    /// items.extend([0, 1, 0, 0, 0, 0, 500, 80]); // two nodes: all x, y, z, all sizes
+    /// items.extend([0, 0, 0, 90]); // one node
+    /// let bytes: Vec<u8> = items.iter().flat_map(|item| item.to_le_bytes()).collect();
+    ///
+    /// let mut fragments = Vec::new();
+    /// for visit in Manifest::open(&bytes).nodes()? {
+    ///     fragments.push((visit.level, visit.index, visit.node.start, visit.node.size));
+    /// }
+    /// assert_eq!(fragments, [(0, 0, 0, 500), (0, 1, 500, 80), (1, 0, 580, 90)]);
+    /// # Ok::<(), coronagamba::Refusal>(())
+    /// ```
+    pub fn nodes(&self) -> Result<Nodes<'a>, Refusal> {
+        let bytes = self.bytes;
+        // SAFETY: pointer and count are those of one live slice; the results
+        // are two live arrays, lent to this call alone.
+        let walk = given(|(at, places)| unsafe {
+            ffi::coronagamba_manifest_walk_begin(bytes.as_ptr(), bytes.len(), at, places)
+        });
+        walk.map(|(at, places)| Nodes { bytes, at, places })
+    }
+
+    /// A node's corners, or refusal 15 to 18; 18 also where a position is 2^24
+    /// or more or a corner is not finite.
     pub fn corners(&self, level: u64, node: u64) -> Result<Corners, Refusal> {
-        let mut corners = Corners::default();
-        // SAFETY: pointer and length are those of one live slice, and the
-        // results go to live values.
-        answer(unsafe {
+        // SAFETY: pointer and count are those of one live slice; the results
+        // are two live arrays, lent to this call alone.
+        given(|Corners { near, far }| unsafe {
             ffi::coronagamba_manifest_corners(
                 self.bytes.as_ptr(),
                 self.bytes.len(),
                 narrowed(level),
                 narrowed(node),
-                &mut corners.near,
-                &mut corners.far,
+                near,
+                far,
             )
-        })?;
-        Ok(corners)
+        })
     }
 }
+
+/// The nodes of a manifest, level by level, from [`Manifest::nodes`].
+#[derive(Clone, Debug)]
+pub struct Nodes<'a> {
+    bytes: &'a [u8],
+    /// The level and the node that come next.
+    at: [u32; 2],
+    /// The item where that level begins, and where that node's fragment
+    /// starts.
+    places: [u64; 2],
+}
+
+/// A step that came to a node.
+const NODE: u32 = 1;
+/// A step that came to the end of a level.
+const LEVEL: u32 = 2;
+
+impl Nodes<'_> {
+    /// One step of the walk: its kind and, where that is `NODE`, the node.
+    fn step(&mut self) -> (u32, Node) {
+        let Nodes { bytes, at, places } = self;
+        // SAFETY: pointer and count are those of one live slice; the walk's
+        // two arrays and the results are live and lent to this call alone.
+        let step = given(|(kind, node): &mut (u32, Node)| unsafe {
+            ffi::coronagamba_manifest_walk_step(
+                bytes.as_ptr(),
+                bytes.len(),
+                at,
+                places,
+                kind,
+                &mut node.position,
+                &mut node.start,
+                &mut node.size,
+            )
+        });
+        step.expect("a walk stays within the bytes on which it began")
+    }
+}
+
+impl Iterator for Nodes<'_> {
+    type Item = Visit;
+
+    fn next(&mut self) -> Option<Visit> {
+        loop {
+            let [level, index] = self.at;
+            match self.step() {
+                (NODE, node) => return Some(Visit { level, index, node }),
+                (LEVEL, _) => {}
+                _ => return None,
+            }
+        }
+    }
+}
+
+impl FusedIterator for Nodes<'_> {}
 
 /// A number as the library takes it. No manifest of at most 16 MiB has a
 /// level, node or field of the greatest one, so what does not fit is refused

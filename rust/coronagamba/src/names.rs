@@ -2,7 +2,7 @@
 
 use crate::ffi;
 use crate::grid::{Cell, Volume};
-use crate::refusal::{answer, Refusal};
+use crate::refusal::{written, Refusal};
 use crate::sharding::Sharding;
 
 /// The most bytes that a chunk name has: six numbers of at most 11 characters
@@ -21,16 +21,23 @@ impl Volume {
     /// Writes the unsharded name of a cell to the front of `out` and gives its
     /// length, or refusal 2 or 13.
     pub fn write_chunk_name(&self, cell: Cell, out: &mut [u8]) -> Result<usize, Refusal> {
-        let mut length = 0;
-        // SAFETY: pointer and length are those of one slice, lent alone, and
-        // the result goes to a live value.
-        answer(unsafe {
-            ffi::coronagamba_chunk_name(*self, cell, out.as_mut_ptr(), out.len(), &mut length)
-        })?;
-        Ok(length as usize)
+        // SAFETY: pointer and count are those of one live slice, which is lent
+        // to this call alone, as is the result.
+        written(|length| unsafe {
+            ffi::coronagamba_chunk_name(*self, cell, out.as_mut_ptr(), out.len(), length)
+        })
     }
 
     /// The unsharded name of a cell, or refusal 2.
+    ///
+    /// ```
+    /// use coronagamba::Volume;
+    ///
+    /// let volume = Volume::new([100, 1, 1], [64, 1, 1], [-64, 0, 0]);
+    /// assert_eq!(volume.chunk_name([0, 0, 0].into())?, "-64-0_0-1_0-1");
+    /// assert_eq!(volume.chunk_name([1, 0, 0].into())?, "0-36_0-1_0-1");
+    /// # Ok::<(), coronagamba::Refusal>(())
+    /// ```
     pub fn chunk_name(&self, cell: Cell) -> Result<String, Refusal> {
         let mut out = [0; MOST_CHUNK_NAME_BYTES];
         let length = self.write_chunk_name(cell, &mut out)?;
@@ -42,16 +49,25 @@ impl Sharding {
     /// Writes the file name of a shard to the front of `out` and gives its
     /// length, or refusal 1, 5 or 13.
     pub fn write_shard_name(&self, shard: u64, out: &mut [u8]) -> Result<usize, Refusal> {
-        let mut length = 0;
-        // SAFETY: pointer and length are those of one slice, lent alone, and
-        // the result goes to a live value.
-        answer(unsafe {
-            ffi::coronagamba_shard_name(*self, shard, out.as_mut_ptr(), out.len(), &mut length)
-        })?;
-        Ok(length as usize)
+        // SAFETY: pointer and count are those of one live slice, which is lent
+        // to this call alone, as is the result.
+        written(|length| unsafe {
+            ffi::coronagamba_shard_name(*self, shard, out.as_mut_ptr(), out.len(), length)
+        })
     }
 
     /// The file name of a shard, or refusal 1 or 5.
+    ///
+    /// ```
+    /// use coronagamba::Sharding;
+    ///
+    /// let of_bits = |shard_bits| Sharding { preshift: 0, hash: 0, minishard_bits: 0, shard_bits };
+    /// assert_eq!(of_bits(4).shard_name(10)?, "a.shard");
+    /// assert_eq!(of_bits(5).shard_name(10)?, "0a.shard");
+    /// assert_eq!(of_bits(0).shard_name(0)?, "0.shard");
+    /// assert_eq!(of_bits(0).shard_name(1).unwrap_err().number, 5);
+    /// # Ok::<(), coronagamba::Refusal>(())
+    /// ```
     pub fn shard_name(&self, shard: u64) -> Result<String, Refusal> {
         let mut out = [0; MOST_SHARD_NAME_BYTES];
         let length = self.write_shard_name(shard, &mut out)?;

@@ -3,8 +3,41 @@
 use std::error::Error;
 use std::fmt;
 
+/// The table's sentences, that of number 1 first.
+const SENTENCES: [&str; 18] = [
+    "The sharding specification has a field that is not allowed.",
+    "An extent is zero, or the cell is outside the grid.",
+    "The grid needs more than 64 key bits.",
+    "The key is no cell of the grid.",
+    "There is no such shard or minishard, or the id belongs to another shard.",
+    "The shard is shorter than its index or longer than 1 GiB.",
+    "An entry of the shard index is reversed or ends past the file.",
+    "A minishard index has a length that is no multiple of 24.",
+    "The ids of a minishard do not rise, or one is too large.",
+    "A listed id belongs to another shard or minishard.",
+    "A chunk ends past the file.",
+    "The id is not listed.",
+    "The output is too short, or the settled form is longer than 1 GiB.",
+    "The card is malformed.",
+    "The manifest has a wrong length or level count.",
+    "A real in the manifest is not finite, or a chunk shape is not above zero.",
+    "The nodes of a level are not in strictly rising Z-curve order.",
+    "There is no such level, node or field, the node has no corners, or a walk leaves the bytes.",
+];
+
 /// Why a call refused: a number from the archive's table and, where the
 /// whole-shard check names one, the minishard with the fault.
+///
+/// ```
+/// use coronagamba::Refusal;
+///
+/// let refusal = Refusal { number: 9, minishard: Some(3) };
+/// assert_eq!(
+///     refusal.to_string(),
+///     "refused 9: The ids of a minishard do not rise, or one is too large. \
+///      The fault is in minishard 3."
+/// );
+/// ```
 #[derive(Clone, Copy, Debug, PartialEq, Eq, Hash)]
 pub struct Refusal {
     /// The number in the table, from 1 to 18.
@@ -14,29 +47,30 @@ pub struct Refusal {
 }
 
 impl Refusal {
+    /// What the table says about a number, as one sentence; `None` for a
+    /// number that the table does not have.
+    ///
+    /// ```
+    /// use coronagamba::Refusal;
+    ///
+    /// assert_eq!(Refusal::meaning(12), Some("The id is not listed."));
+    /// assert_eq!(Refusal::meaning(99), None);
+    /// ```
+    pub fn meaning(number: u8) -> Option<&'static str> {
+        let place = usize::from(number).checked_sub(1)?;
+        SENTENCES.get(place).copied()
+    }
+
     /// What the table says about this number, as one sentence.
+    ///
+    /// ```
+    /// use coronagamba::Refusal;
+    ///
+    /// let refusal = Refusal { number: 14, minishard: None };
+    /// assert_eq!(refusal.sentence(), "The card is malformed.");
+    /// ```
     pub fn sentence(&self) -> &'static str {
-        match self.number {
-            1 => "The sharding specification has a field that is not allowed.",
-            2 => "An extent is zero, or the cell is outside the grid.",
-            3 => "The grid needs more than 64 key bits.",
-            4 => "The key is no cell of the grid.",
-            5 => "There is no such shard or minishard, or the id belongs to another shard.",
-            6 => "The shard is shorter than its index or longer than 1 GiB.",
-            7 => "An entry of the shard index is reversed or ends past the file.",
-            8 => "A minishard index has a length that is no multiple of 24.",
-            9 => "The ids of a minishard do not rise, or one is too large.",
-            10 => "A listed id belongs to another shard or minishard.",
-            11 => "A chunk ends past the file.",
-            12 => "The id is not listed.",
-            13 => "The output is too short, or the settled form is longer than 1 GiB.",
-            14 => "The card is malformed.",
-            15 => "The manifest has a wrong length or level count.",
-            16 => "A real in the manifest is not finite, or a chunk shape is not above zero.",
-            17 => "The nodes of a level are not in strictly rising Z-curve order.",
-            18 => "There is no such level, node or field, or the node has no corners.",
-            _ => "The number is not in the table.",
-        }
+        Refusal::meaning(self.number).unwrap_or("The number is not in the table.")
     }
 }
 
@@ -68,7 +102,6 @@ pub(crate) fn answer(word: u64) -> Result<(), Refusal> {
 
 /// The meaning of the whole-shard check's answer word, in which 7 to 11 always
 /// name a minishard.
-#[cfg(any(feature = "shards", test))]
 pub(crate) fn checked(word: u64) -> Result<(), Refusal> {
     answer(word).map_err(|refusal| match refusal.number {
         7..=11 => Refusal {
@@ -77,6 +110,19 @@ pub(crate) fn checked(word: u64) -> Result<(), Refusal> {
         },
         _ => refusal,
     })
+}
+
+/// What a call leaves behind its result pointers, or its refusal.
+pub(crate) fn given<T: Default>(call: impl FnOnce(&mut T) -> u64) -> Result<T, Refusal> {
+    let mut results = T::default();
+    answer(call(&mut results))?;
+    Ok(results)
+}
+
+/// The length that a writing call reports, or its refusal. What was written
+/// fits a slice, so its length fits.
+pub(crate) fn written(call: impl FnOnce(&mut u64) -> u64) -> Result<usize, Refusal> {
+    given(call).map(|length| length as usize)
 }
 
 #[cfg(test)]
@@ -117,6 +163,13 @@ mod tests {
         for number in 1..=18 {
             assert_ne!(sentence(number), sentence(0));
             assert!((1..number).all(|other| sentence(other) != sentence(number)));
+        }
+    }
+
+    #[test]
+    fn numbers_outside_the_table_have_no_meaning() {
+        for number in [0, 19, 20, 255] {
+            assert_eq!(Refusal::meaning(number), None);
         }
     }
 

@@ -1,29 +1,54 @@
 //! Settling.
 
 use crate::ffi;
-use crate::refusal::{answer, Refusal};
+use crate::refusal::{given, written, Refusal};
 use crate::shard::Shard;
 
 impl Shard<'_> {
     /// The length of the settled form, or refusal 1, 5 to 11, or 13 where it
     /// would pass 1 GiB.
     pub fn settled_length(&self) -> Result<u64, Refusal> {
-        let mut length = 0;
-        // SAFETY: pointer and count are those of one live slice, and the
-        // result goes to a live value.
-        answer(unsafe {
+        // SAFETY: pointer and count are those of one live slice; the result is
+        // a live number, lent to this call alone.
+        given(|length| unsafe {
             ffi::coronagamba_settled_length(
                 self.sharding,
                 self.number,
                 self.file.as_ptr(),
                 self.file.len(),
-                &mut length,
+                length,
             )
-        })?;
-        Ok(length)
+        })
     }
 
-    /// The settled form, or refusal 1, 5 to 11, or 13.
+    /// The settled form, or refusal 1, 5 to 11, or 13 where it would pass
+    /// 1 GiB.
+    ///
+    /// Two sound shards of one specification and number have the same settled
+    /// form exactly when they list the same ids with the same bytes:
+    ///
+    /// ```
+    /// use coronagamba::{Shard, Sharding};
+    ///
+    /// let rows = |numbers: &[u64]| -> Vec<u8> {
+    ///     numbers.iter().flat_map(|number| number.to_le_bytes()).collect()
+    /// };
+    /// let sharding = Sharding { preshift: 0, hash: 0, minishard_bits: 1, shard_bits: 0 };
+    /// // The same two chunks, first behind their minishard index.
+    /// let one = [rows(&[0, 48, 7, 7]), rows(&[4, 6, 48, 1, 2, 3]), b"ab-cde".to_vec()].concat();
+    /// let other = [rows(&[5, 53, 0, 0]), b"abcde".to_vec(), rows(&[4, 6, 0, 0, 2, 3])].concat();
+    ///
+    /// let form = Shard::open(sharding, 0, &one).settled()?;
+    /// assert_eq!(form.len(), 85);
+    /// assert_eq!(form, Shard::open(sharding, 0, &other).settled()?);
+    /// assert_eq!(form, other);
+    /// # Ok::<(), coronagamba::Refusal>(())
+    /// ```
+    ///
+    /// The form is a new `Vec`, and where there is no memory for it the
+    /// program ends, as with any `Vec`. A program that must go on asks for
+    /// [`settled_length`](Shard::settled_length), reserves that much in its
+    /// own way and calls [`settle`](Shard::settle).
     pub fn settled(&self) -> Result<Vec<u8>, Refusal> {
         let mut form = vec![0; self.settled_length()? as usize];
         self.settle(&mut form)?;
@@ -31,12 +56,27 @@ impl Shard<'_> {
     }
 
     /// Writes the settled form to the front of `out` and gives its length, or
-    /// refusal 1, 5 to 11 or 13.
+    /// refusal 1, 5 to 11 or 13. Nothing past that length is touched, and
+    /// nothing at all where it refuses.
+    ///
+    /// ```
+    /// use coronagamba::{Shard, Sharding};
+    ///
+    /// // A shard of no chunks, with 4 bytes that no entry lists.
+    /// let file = [0; 16 + 4];
+    /// let sharding = Sharding { preshift: 0, hash: 0, minishard_bits: 0, shard_bits: 0 };
+    /// let shard = Shard::open(sharding, 0, &file);
+    /// let mut out = [7; 18];
+    /// assert_eq!(shard.settle(&mut out[..15]).unwrap_err().number, 13);
+    /// assert_eq!(out, [7; 18]);
+    /// assert_eq!(shard.settle(&mut out)?, 16);
+    /// assert_eq!(out[15..], [0, 7, 7]);
+    /// # Ok::<(), coronagamba::Refusal>(())
+    /// ```
     pub fn settle(&self, out: &mut [u8]) -> Result<usize, Refusal> {
-        let mut length = 0;
-        // SAFETY: each pointer and length are those of one slice, `out` lent
-        // alone, and the result goes to a live value.
-        answer(unsafe {
+        // SAFETY: each pointer and count are those of one live slice; `out`
+        // and the result are lent to this call alone.
+        written(|length| unsafe {
             ffi::coronagamba_settle(
                 self.sharding,
                 self.number,
@@ -44,9 +84,8 @@ impl Shard<'_> {
                 self.file.len(),
                 out.as_mut_ptr(),
                 out.len(),
-                &mut length,
+                length,
             )
-        })?;
-        Ok(length as usize)
+        })
     }
 }

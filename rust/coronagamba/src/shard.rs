@@ -1,8 +1,10 @@
 //! Lookup, the whole-shard check and listings.
 
 use crate::ffi;
-use crate::refusal::{answer, checked, Refusal};
+use crate::refusal::{checked, given, written, Refusal};
 use crate::sharding::Sharding;
+use std::iter::FusedIterator;
+use std::vec;
 
 /// The place of a chunk in a shard file.
 #[derive(Clone, Copy, Debug, Default, PartialEq, Eq, Hash)]
@@ -22,8 +24,42 @@ pub struct Listed {
     pub span: Span,
 }
 
+/// A chunk of a sound shard.
+#[derive(Clone, Copy, Debug, Default, PartialEq, Eq, Hash)]
+pub struct Chunk<'a> {
+    /// The minishard that lists it.
+    pub minishard: u64,
+    /// Its id.
+    pub id: u64,
+    /// Its place in the file.
+    pub span: Span,
+    /// Its bytes, as the part of the file.
+    pub bytes: &'a [u8],
+}
+
 /// A shard file with its specification and number, to be asked many times.
 /// Opening it judges nothing.
+///
+/// The example is a shard of two minishards. Its shard index has the entries
+/// 5 up to 53 and 0 up to 0, so the second minishard is empty. The first
+/// lists ids 4 and 10.
+///
+/// ```
+/// use coronagamba::{Shard, Sharding};
+///
+/// let rows = |numbers: &[u64]| -> Vec<u8> {
+///     numbers.iter().flat_map(|number| number.to_le_bytes()).collect()
+/// };
+/// let file = [rows(&[5, 53, 0, 0]), b"abcde".to_vec(), rows(&[4, 6, 0, 0, 2, 3])].concat();
+/// let sharding = Sharding { preshift: 0, hash: 0, minishard_bits: 1, shard_bits: 0 };
+///
+/// let shard = Shard::open(sharding, 0, &file);
+/// shard.check()?;
+/// assert_eq!(shard.chunk(4)?, b"ab");
+/// assert_eq!(shard.chunk(10)?, b"cde");
+/// assert_eq!(shard.chunk(6).unwrap_err().number, 12);
+/// # Ok::<(), coronagamba::Refusal>(())
+/// ```
 #[derive(Clone, Copy, Debug)]
 pub struct Shard<'a> {
     pub(crate) sharding: Sharding,
@@ -41,35 +77,78 @@ impl<'a> Shard<'a> {
         }
     }
 
-    /// The place and length of an id's chunk, or refusal 1 or 5 to 12.
+    /// The specification.
+    pub fn sharding(&self) -> Sharding {
+        self.sharding
+    }
+
+    /// The shard number.
+    pub fn number(&self) -> u64 {
+        self.number
+    }
+
+    /// The file's bytes.
+    pub fn file(&self) -> &'a [u8] {
+        self.file
+    }
+
+    /// The place and length of an id's chunk, or refusal 1 or 5 to 12. Of the
+    /// minishards it judges the id's own alone.
+    ///
+    /// ```
+    /// # use coronagamba::{Shard, Sharding, Span};
+    /// # let rows = |numbers: &[u64]| -> Vec<u8> {
+    /// #     numbers.iter().flat_map(|number| number.to_le_bytes()).collect()
+    /// # };
+    /// # let file = [rows(&[5, 53, 0, 0]), b"abcde".to_vec(), rows(&[4, 6, 0, 0, 2, 3])].concat();
+    /// # let sharding = Sharding { preshift: 0, hash: 0, minishard_bits: 1, shard_bits: 0 };
+    /// let shard = Shard::open(sharding, 0, &file);
+    /// assert_eq!(shard.lookup(10)?, Span { start: 34, length: 3 });
+    /// # Ok::<(), coronagamba::Refusal>(())
+    /// ```
     pub fn lookup(&self, id: u64) -> Result<Span, Refusal> {
-        let mut span = Span::default();
-        // SAFETY: pointer and length are those of one live slice, and the
-        // results go to live values.
-        answer(unsafe {
+        // SAFETY: pointer and count are those of one live slice; the results
+        // are two live numbers, lent to this call alone.
+        given(|Span { start, length }| unsafe {
             ffi::coronagamba_lookup(
                 self.sharding,
                 self.number,
                 self.file.as_ptr(),
                 self.file.len(),
                 id,
-                &mut span.start,
-                &mut span.length,
+                start,
+                length,
             )
-        })?;
-        Ok(span)
+        })
     }
 
     /// An id's chunk, as the part of the file, or refusal 1 or 5 to 12.
     pub fn chunk(&self, id: u64) -> Result<&'a [u8], Refusal> {
-        let span = self.lookup(id)?;
-        Ok(&self.file[span.start as usize..][..span.length as usize])
+        Ok(self.part(self.lookup(id)?))
+    }
+
+    /// The bytes of a chunk that the library has placed in the file.
+    fn part(&self, span: Span) -> &'a [u8] {
+        &self.file[span.start as usize..][..span.length as usize]
     }
 
     /// Passes exactly the sound shards, else refusal 1 or 5 to 11; 7 to 11
     /// name the first minishard with a fault.
+    ///
+    /// ```
+    /// use coronagamba::{Refusal, Shard, Sharding};
+    ///
+    /// let sharding = Sharding { preshift: 0, hash: 0, minishard_bits: 1, shard_bits: 0 };
+    /// let mut file = [0; 32];
+    /// assert_eq!(Shard::open(sharding, 0, &file).check(), Ok(()));
+    ///
+    /// // The second entry of the shard index starts after its end.
+    /// file[16] = 1;
+    /// let refusal = Refusal { number: 7, minishard: Some(1) };
+    /// assert_eq!(Shard::open(sharding, 0, &file).check(), Err(refusal));
+    /// ```
     pub fn check(&self) -> Result<(), Refusal> {
-        // SAFETY: pointer and length are those of one live slice.
+        // SAFETY: pointer and count are those of one live slice.
         checked(unsafe {
             ffi::coronagamba_check(
                 self.sharding,
@@ -83,20 +162,18 @@ impl<'a> Shard<'a> {
     /// How many chunks a minishard lists, or refusal 1, 5 (also for a minishard
     /// that is not there), 6, or 7 to 11 of that minishard.
     pub fn listed_count(&self, minishard: u64) -> Result<u64, Refusal> {
-        let mut chunks = 0;
-        // SAFETY: pointer and count are those of one live slice, and the
-        // result goes to a live value.
-        answer(unsafe {
+        // SAFETY: pointer and count are those of one live slice; the result is
+        // a live number, lent to this call alone.
+        given(|chunks| unsafe {
             ffi::coronagamba_listed_count(
                 self.sharding,
                 self.number,
                 self.file.as_ptr(),
                 self.file.len(),
                 minishard,
-                &mut chunks,
+                chunks,
             )
-        })?;
-        Ok(chunks)
+        })
     }
 
     /// Writes id, start and length of each chunk that a minishard lists, in
@@ -104,10 +181,9 @@ impl<'a> Shard<'a> {
     /// are; or refusal 1, 5 (also for a minishard that is not there), 6, 7 to
     /// 11 of that minishard, or 13.
     pub fn write_listing(&self, minishard: u64, out: &mut [u64]) -> Result<usize, Refusal> {
-        let mut length = 0;
-        // SAFETY: each pointer and count are those of one slice, `out` lent
-        // alone, and the result goes to a live value.
-        answer(unsafe {
+        // SAFETY: each pointer and count are those of one live slice; `out`
+        // and the result are lent to this call alone.
+        written(|length| unsafe {
             ffi::coronagamba_listing(
                 self.sharding,
                 self.number,
@@ -116,25 +192,110 @@ impl<'a> Shard<'a> {
                 minishard,
                 out.as_mut_ptr(),
                 out.len(),
-                &mut length,
+                length,
             )
-        })?;
-        Ok(length as usize)
+        })
     }
 
     /// The chunks that a minishard lists, in stored order, or refusal 1, 5
     /// (also for a minishard that is not there), 6, or 7 to 11 of that
     /// minishard.
+    ///
+    /// ```
+    /// # use coronagamba::{Shard, Sharding, Span};
+    /// # let rows = |numbers: &[u64]| -> Vec<u8> {
+    /// #     numbers.iter().flat_map(|number| number.to_le_bytes()).collect()
+    /// # };
+    /// # let file = [rows(&[5, 53, 0, 0]), b"abcde".to_vec(), rows(&[4, 6, 0, 0, 2, 3])].concat();
+    /// # let sharding = Sharding { preshift: 0, hash: 0, minishard_bits: 1, shard_bits: 0 };
+    /// let shard = Shard::open(sharding, 0, &file);
+    /// let listed = shard.listing(0)?;
+    /// assert_eq!((listed[0].id, listed[1].id), (4, 10));
+    /// assert_eq!(listed[1].span, Span { start: 34, length: 3 });
+    /// assert!(shard.listing(1)?.is_empty());
+    /// assert_eq!(shard.listing(2).unwrap_err().number, 5);
+    /// # Ok::<(), coronagamba::Refusal>(())
+    /// ```
     pub fn listing(&self, minishard: u64) -> Result<Vec<Listed>, Refusal> {
-        let mut numbers = vec![0; 3 * self.listed_count(minishard)? as usize];
-        self.write_listing(minishard, &mut numbers)?;
-        let listed = |entry: &[u64]| Listed {
-            id: entry[0],
-            span: Span {
-                start: entry[1],
-                length: entry[2],
-            },
+        let mut numbers = vec![[0; 3]; self.listed_count(minishard)? as usize];
+        self.write_listing(minishard, numbers.as_flattened_mut())?;
+        let listed = |[id, start, length]: [u64; 3]| Listed {
+            id,
+            span: Span { start, length },
         };
-        Ok(numbers.chunks_exact(3).map(listed).collect())
+        Ok(numbers.into_iter().map(listed).collect())
+    }
+
+    /// All chunks of a sound shard: the minishards in number order, the chunks
+    /// of each in stored order. The check comes first, and refuses a shard
+    /// that is not sound with 1 or 5 to 11.
+    ///
+    /// ```
+    /// # use coronagamba::{Shard, Sharding};
+    /// # let rows = |numbers: &[u64]| -> Vec<u8> {
+    /// #     numbers.iter().flat_map(|number| number.to_le_bytes()).collect()
+    /// # };
+    /// # let file = [rows(&[5, 53, 0, 0]), b"abcde".to_vec(), rows(&[4, 6, 0, 0, 2, 3])].concat();
+    /// # let sharding = Sharding { preshift: 0, hash: 0, minishard_bits: 1, shard_bits: 0 };
+    /// let shard = Shard::open(sharding, 0, &file);
+    /// let mut all = Vec::new();
+    /// for chunk in shard.chunks()? {
+    ///     all.push((chunk.id, chunk.bytes));
+    /// }
+    /// assert_eq!(all, [(4, &b"ab"[..]), (10, &b"cde"[..])]);
+    /// # Ok::<(), coronagamba::Refusal>(())
+    /// ```
+    pub fn chunks(&self) -> Result<Chunks<'a>, Refusal> {
+        self.check()?;
+        Ok(Chunks {
+            shard: *self,
+            minishard: 0,
+            listed: self.listing(0)?.into_iter(),
+        })
     }
 }
+
+/// The chunks of a sound shard, from [`Shard::chunks`]. It holds the listing of
+/// one minishard at a time, 24 bytes for each of its chunks.
+#[derive(Clone, Debug)]
+pub struct Chunks<'a> {
+    shard: Shard<'a>,
+    minishard: u64,
+    listed: vec::IntoIter<Listed>,
+}
+
+impl<'a> Chunks<'a> {
+    /// Goes on to the next minishard; `None` where there are no more.
+    fn advance(&mut self) -> Option<()> {
+        let next = self.minishard + 1;
+        let listed = match self.shard.listing(next) {
+            // The shard number has passed the check, so 5 speaks of the
+            // minishard.
+            Err(refusal) if refusal.number == 5 => return None,
+            listed => listed.expect("the minishards of a sound shard are sound"),
+        };
+        self.minishard = next;
+        self.listed = listed.into_iter();
+        Some(())
+    }
+}
+
+impl<'a> Iterator for Chunks<'a> {
+    type Item = Chunk<'a>;
+
+    fn next(&mut self) -> Option<Chunk<'a>> {
+        loop {
+            if let Some(Listed { id, span }) = self.listed.next() {
+                return Some(Chunk {
+                    minishard: self.minishard,
+                    id,
+                    span,
+                    bytes: self.shard.part(span),
+                });
+            }
+            self.advance()?;
+        }
+    }
+}
+
+impl FusedIterator for Chunks<'_> {}

@@ -1,15 +1,33 @@
 //! From an id to its shard and minishard.
 
 use crate::ffi;
-use crate::refusal::{answer, Refusal};
+use crate::refusal::{given, written, Refusal};
 
 /// A sharding specification, its fields as in a deposit card.
+///
+/// Any numbers may stand here; each call judges them. There is no default
+/// worth assuming for a deposit: name all four, or read its card.
+///
+/// ```
+/// use coronagamba::Sharding;
+///
+/// let sharding = Sharding {
+///     preshift: 1,
+///     hash: Sharding::IDENTITY,
+///     minishard_bits: 1,
+///     shard_bits: 0,
+/// };
+/// assert_eq!(sharding.place(2)?.minishard, 1);
+/// assert_eq!(sharding.place(3)?.minishard, 1);
+/// assert_eq!(sharding.place(4)?.minishard, 0);
+/// # Ok::<(), coronagamba::Refusal>(())
+/// ```
 #[repr(C)]
-#[derive(Clone, Copy, Debug, Default, PartialEq, Eq, Hash)]
+#[derive(Clone, Copy, Debug, PartialEq, Eq, Hash)]
 pub struct Sharding {
     /// Low bits of an id that do not count, at most 63.
     pub preshift: u8,
-    /// 0 identity, 1 MurmurHash3_x86_128.
+    /// [`IDENTITY`](Sharding::IDENTITY) or [`MURMUR`](Sharding::MURMUR).
     pub hash: u8,
     /// Low bits of the hashed id that give the minishard, at most 12.
     pub minishard_bits: u8,
@@ -27,28 +45,84 @@ pub struct Place {
 }
 
 impl Sharding {
-    /// The shard and minishard of an id, or refusal 1.
-    pub fn place(&self, id: u64) -> Result<Place, Refusal> {
-        let mut place = Place::default();
-        // SAFETY: the results go to live values.
-        answer(unsafe {
-            ffi::coronagamba_place_of(*self, id, &mut place.shard, &mut place.minishard)
-        })?;
-        Ok(place)
+    /// The hash that leaves an id as it is.
+    pub const IDENTITY: u8 = 0;
+
+    /// MurmurHash3_x86_128, its first 8 bytes.
+    pub const MURMUR: u8 = 1;
+
+    /// Passes exactly the allowed specifications, else refusal 1.
+    ///
+    /// ```
+    /// use coronagamba::Sharding;
+    ///
+    /// let most = Sharding { preshift: 63, hash: 1, minishard_bits: 12, shard_bits: 32 };
+    /// assert_eq!(most.allowed(), Ok(()));
+    /// let more = Sharding { minishard_bits: 13, ..most };
+    /// assert_eq!(more.allowed().unwrap_err().number, 1);
+    /// ```
+    pub fn allowed(&self) -> Result<(), Refusal> {
+        // Asking for the place of an id refuses with 1 and with nothing else.
+        self.place(0).map(|_| ())
     }
 
-    /// The shards and minishards of many ids, in their order, at the front of
-    /// the two buffers. Refusal 1, or 13 where one of them is shorter than
-    /// `ids`; both are then as they were.
-    pub fn places(
+    /// The shard and minishard of an id, or refusal 1.
+    ///
+    /// ```
+    /// use coronagamba::{Place, Sharding};
+    ///
+    /// let sharding = Sharding { preshift: 0, hash: 0, minishard_bits: 1, shard_bits: 2 };
+    /// assert_eq!(sharding.place(5)?, Place { shard: 2, minishard: 1 });
+    /// # Ok::<(), coronagamba::Refusal>(())
+    /// ```
+    pub fn place(&self, id: u64) -> Result<Place, Refusal> {
+        // SAFETY: the results are two live numbers, lent to this call alone.
+        given(|Place { shard, minishard }| unsafe {
+            ffi::coronagamba_place_of(*self, id, shard, minishard)
+        })
+    }
+
+    /// The shards and minishards of many ids, in their order, or refusal 1.
+    ///
+    /// ```
+    /// use coronagamba::{Place, Sharding};
+    ///
+    /// let sharding = Sharding { preshift: 0, hash: 0, minishard_bits: 1, shard_bits: 2 };
+    /// let places = sharding.places(&[5, 3])?;
+    /// assert_eq!(places, [Place { shard: 2, minishard: 1 }, Place { shard: 1, minishard: 1 }]);
+    /// # Ok::<(), coronagamba::Refusal>(())
+    /// ```
+    pub fn places(&self, ids: &[u64]) -> Result<Vec<Place>, Refusal> {
+        let (mut shards, mut minishards) = (vec![0; ids.len()], vec![0; ids.len()]);
+        self.write_places(ids, &mut shards, &mut minishards)?;
+        let both = shards.into_iter().zip(minishards);
+        Ok(both
+            .map(|(shard, minishard)| Place { shard, minishard })
+            .collect())
+    }
+
+    /// Writes the shards and minishards of many ids, in their order, to the
+    /// front of the two buffers, and gives how many these are. Refusal 1, or 13
+    /// where one of them is shorter than `ids`; both are then as they were.
+    ///
+    /// ```
+    /// use coronagamba::Sharding;
+    ///
+    /// let sharding = Sharding { preshift: 0, hash: 0, minishard_bits: 1, shard_bits: 2 };
+    /// let (mut shards, mut minishards) = ([9; 3], [9; 3]);
+    /// assert_eq!(sharding.write_places(&[5, 3], &mut shards, &mut minishards)?, 2);
+    /// assert_eq!((shards, minishards), ([2, 1, 9], [1, 1, 9]));
+    /// # Ok::<(), coronagamba::Refusal>(())
+    /// ```
+    pub fn write_places(
         &self,
         ids: &[u64],
         shards: &mut [u64],
         minishards: &mut [u64],
-    ) -> Result<(), Refusal> {
-        // SAFETY: each pointer and count are those of one slice, the buffers
-        // lent alone.
-        answer(unsafe {
+    ) -> Result<usize, Refusal> {
+        // SAFETY: each pointer and count are those of one live slice, the two
+        // buffers and the result lent to this call alone.
+        written(|length| unsafe {
             ffi::coronagamba_places_of(
                 *self,
                 ids.as_ptr(),
@@ -57,6 +131,7 @@ impl Sharding {
                 shards.len(),
                 minishards.as_mut_ptr(),
                 minishards.len(),
+                length,
             )
         })
     }

@@ -5,7 +5,6 @@ mod common;
 
 use common::answer;
 use coronagamba::endian as library;
-use coronagamba::Refusal;
 use reference::endian as expected;
 use testkit::{same_writing, Lent, Met, Rng};
 
@@ -42,55 +41,6 @@ fn reading() {
     same_reading(&[]);
     for value in [0, 1, 255, 256, u64::MAX, 1 << 63, u64::MAX - 1] {
         same_reading(&value.to_le_bytes());
-    }
-}
-
-/// Lets both put a number at this place of the buffer.
-fn same_putting(
-    lent: &Lent,
-    at: usize,
-    library: impl FnOnce(&mut [u8]) -> Result<(), Refusal>,
-    expected: impl FnOnce(&mut [u8]) -> Result<(), u8>,
-) -> Result<(), u8> {
-    same_writing(
-        lent,
-        |out| library(&mut out[at..]).map_err(|refusal| refusal.number),
-        |out| expected(&mut out[at..]),
-    )
-}
-
-#[test]
-fn putting() {
-    let mut rng = Rng::new(2);
-    let mut met = [Met::new(); 3];
-    for round in 0..40 * 200 {
-        let length = round % 40;
-        let lent = Lent::new(&mut rng, length);
-        for at in [0, rng.index(length + 1)] {
-            let value = rng.edge_u64();
-            let (short, middle) = (value as u16, value as u32);
-            met[0].note(&same_putting(
-                &lent,
-                at,
-                |out| library::put_u16(out, short),
-                |out| expected::put_u16(out, 0, short),
-            ));
-            met[1].note(&same_putting(
-                &lent,
-                at,
-                |out| library::put_u32(out, middle),
-                |out| expected::put_u32(out, 0, middle),
-            ));
-            met[2].note(&same_putting(
-                &lent,
-                at,
-                |out| library::put_u64(out, value),
-                |out| expected::put_u64(out, 0, value),
-            ));
-        }
-    }
-    for met in met {
-        met.assert_exactly(&[0, 13]);
     }
 }
 

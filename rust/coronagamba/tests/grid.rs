@@ -1,14 +1,10 @@
-//! Grid sizes, keys, cells and bounds, against the reference.
+//! All keys of small grids, against the reference, and the cases of the paper.
 
 mod common;
 
 use common::answer;
-use common::grid::{cell, extents, point, volume};
-use coronagamba::Bounds;
+use common::grid::{cell, extents, volume};
 use reference::grid::{self, Volume};
-use testkit::{places, Met, Rng};
-
-const SAMPLES: usize = 300_000;
 
 /// A volume whose chunks are single voxels: its size is its grid.
 fn of_grid(size: [u32; 3]) -> Volume {
@@ -17,59 +13,6 @@ fn of_grid(size: [u32; 3]) -> Volume {
         chunk: [1; 3],
         offset: [0; 3],
     }
-}
-
-#[test]
-fn grid_sizes() {
-    let mut rng = Rng::new(1);
-    let mut met = Met::new();
-    for _ in 0..SAMPLES {
-        let sample = places::volume(&mut rng);
-        let expected = grid::grid_size(&sample);
-        assert_eq!(
-            volume(&sample).grid(),
-            answer(expected.map(extents)),
-            "{sample:?}"
-        );
-        met.note(&expected);
-    }
-    met.assert_exactly(&[0, 2]);
-}
-
-#[test]
-fn keys() {
-    let mut rng = Rng::new(2);
-    let mut met = Met::new();
-    for _ in 0..SAMPLES {
-        let sample = places::volume(&mut rng);
-        let at = places::cell(&mut rng, &sample);
-        let expected = grid::key_of(&sample, at);
-        assert_eq!(
-            volume(&sample).key(cell(at)),
-            answer(expected),
-            "{sample:?} {at:?}"
-        );
-        met.note(&expected);
-    }
-    met.assert_exactly(&[0, 2, 3]);
-}
-
-#[test]
-fn cells() {
-    let mut rng = Rng::new(3);
-    let mut met = Met::new();
-    for _ in 0..SAMPLES {
-        let sample = places::volume(&mut rng);
-        let key = places::key(&mut rng, &sample);
-        let expected = grid::cell_of(&sample, key);
-        assert_eq!(
-            volume(&sample).cell(key),
-            answer(expected.map(cell)),
-            "{sample:?} {key}"
-        );
-        met.note(&expected);
-    }
-    met.assert_exactly(&[0, 2, 3, 4]);
 }
 
 #[test]
@@ -88,28 +31,6 @@ fn every_key_of_small_grids() {
             }
         }
     }
-}
-
-#[test]
-fn bounds() {
-    let mut rng = Rng::new(4);
-    let mut met = Met::new();
-    for _ in 0..SAMPLES {
-        let sample = places::volume(&mut rng);
-        let at = places::cell(&mut rng, &sample);
-        let expected = grid::bounds_of(&sample, at);
-        let wanted = expected.map(|bounds| Bounds {
-            begin: point(bounds.begin),
-            end: point(bounds.end),
-        });
-        assert_eq!(
-            volume(&sample).bounds(cell(at)),
-            answer(wanted),
-            "{sample:?} {at:?}"
-        );
-        met.note(&expected);
-    }
-    met.assert_exactly(&[0, 2]);
 }
 
 #[test]

@@ -280,20 +280,3 @@ fn corners_at_the_ends_of_the_reals() {
         }
     }
 }
-
-#[test]
-fn corners_that_are_rounded() {
-    // Shapes and origins of like size, so that every operation rounds.
-    let mut rng = Rng::new(2);
-    for _ in 0..20_000 {
-        let mut real = |low, high| {
-            let exponent = rng.within(low, high) as u32;
-            f32::from_bits(exponent << 23 | rng.bits() as u32 & 0x807f_ffff)
-        };
-        let shape = std::array::from_fn(|_| real(110, 130).abs());
-        let origin = std::array::from_fn(|_| real(120, 160));
-        let position = std::array::from_fn(|_| rng.edge(24) as u32);
-        let level = rng.index(32);
-        assert!(corners(shape, origin, position, level).is_ok());
-    }
-}

@@ -1,4 +1,5 @@
-//! Settling, against the reference.
+//! Settling: contents known by construction, outputs of every length, forms
+//! around the limit, and the case of the paper.
 
 mod common;
 
@@ -8,12 +9,10 @@ use coronagamba::Shard;
 use reference::settle;
 use reference::sharding::Sharding;
 use testkit::shards::{self, Content, Difference, Sample};
-use testkit::{same_writing, Lent, Met, Rng};
-
-const SAMPLES: usize = 40_000;
+use testkit::{same_writing, Lent, Rng};
 
 /// Pairs of layouts or contents.
-const PAIRS: usize = 60_000;
+const PAIRS: usize = 10_000;
 
 /// Settles on both sides into an output of this length.
 fn same_settling(rng: &mut Rng, sample: &Sample, room: usize) -> Result<usize, u8> {
@@ -44,40 +43,6 @@ fn same_length(sample: &Sample) -> Result<u64, u8> {
     let shard = Shard::open(sharding(specification), *number, file);
     assert_eq!(shard.settled_length(), answer(expected), "{sample:?}");
     expected
-}
-
-#[test]
-fn sound_shards() {
-    let mut rng = Rng::new(1);
-    let mut met = Met::new();
-    for _ in 0..SAMPLES {
-        let sample = shards::sound(&mut rng, 12);
-        let length = same_length(&sample).expect("the sample is sound") as usize;
-        let rooms = [
-            length,
-            length - 1,
-            length + 1 + rng.index(50),
-            rng.index(length),
-        ];
-        for room in rooms {
-            met.note(&same_settling(&mut rng, &sample, room));
-        }
-    }
-    met.assert_exactly(&[0, 13]);
-}
-
-#[test]
-fn damaged_shards() {
-    let mut rng = Rng::new(2);
-    let (mut met, mut lengths) = (Met::new(), Met::new());
-    for _ in 0..SAMPLES {
-        let sample = shards::damaged(&mut rng, 8);
-        let room = sample.file.len() + rng.index(200);
-        met.note(&same_settling(&mut rng, &sample, room));
-        lengths.note(&same_length(&sample));
-    }
-    met.assert_exactly(&[0, 6, 7, 8, 9, 10, 11, 13]);
-    lengths.assert_exactly(&[0, 6, 7, 8, 9, 10, 11]);
 }
 
 /// The library's settled form of a layout, which is sound.
@@ -180,8 +145,10 @@ fn forms_around_a_gibibyte() {
     const CHUNKS: u64 = 128;
     let gibibyte = 1u64 << 30;
     let specification = coronagamba::Sharding {
+        preshift: 0,
+        hash: 0,
         minishard_bits: 7,
-        ..Default::default()
+        shard_bits: 0,
     };
     let index_end = 16 * CHUNKS;
     let whole = (gibibyte - index_end - 24 * CHUNKS) / CHUNKS;

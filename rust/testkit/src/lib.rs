@@ -6,6 +6,7 @@
 
 #![forbid(unsafe_code)]
 
+pub mod cards;
 pub mod lent;
 pub mod manifests;
 pub mod places;

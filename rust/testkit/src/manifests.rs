@@ -2,7 +2,19 @@
 
 use crate::Rng;
 use reference::endian::read_u32;
-use reference::manifest::z_curve;
+use reference::manifest::{z_curve, MOST_LEVELS};
+
+/// A real of usual size, in eighths.
+fn usual(rng: &mut Rng) -> f32 {
+    rng.within(0, 4_000) as f32 / 8.0 - 250.0
+}
+
+/// A real of one of 31 sizes, so that sums and products are mostly rounded and
+/// never overflow.
+fn rounding(rng: &mut Rng) -> f32 {
+    let exponent = rng.within(110, 140) as u32;
+    f32::from_bits(exponent << 23 | rng.bits() as u32 & 0x807f_ffff)
+}
 
 /// A finite real of any size; zeros and the smallest and largest are common.
 fn finite(rng: &mut Rng) -> f32 {
@@ -19,7 +31,7 @@ fn finite(rng: &mut Rng) -> f32 {
     match rng.below(4) {
         0 => *rng.pick(&SPECIAL),
         1 => f32::from_bits(rng.below(1 << 24) as u32),
-        2 => rng.within(0, 4_000) as f32 / 8.0 - 250.0,
+        2 => usual(rng),
         _ => {
             let real = f32::from_bits(rng.bits() as u32);
             if real.is_finite() {
@@ -31,13 +43,12 @@ fn finite(rng: &mut Rng) -> f32 {
     }
 }
 
-/// A finite real above zero.
-fn above_zero(rng: &mut Rng) -> f32 {
-    let real = finite(rng).abs();
-    if real > 0.0 {
-        real
-    } else {
+/// This real's size, or the smallest one above zero in place of zero.
+fn above_zero(real: f32) -> f32 {
+    if real == 0.0 {
         f32::from_bits(1)
+    } else {
+        real.abs()
     }
 }
 
@@ -96,7 +107,7 @@ fn positions(rng: &mut Rng, most: usize) -> Vec<[u32; 3]> {
     let mut positions: Vec<[u32; 3]> = (0..count)
         .map(|_| std::array::from_fn(|_| rng.edge(bits) as u32))
         .collect();
-    positions.sort_by_key(|position| z_curve(*position));
+    positions.sort_by_cached_key(|position| z_curve(*position));
     positions.dedup();
     positions
 }
@@ -116,15 +127,17 @@ fn level_count(rng: &mut Rng) -> usize {
     }
 }
 
-/// A sound manifest with up to `most` nodes on a level.
+/// A sound manifest with up to `most` nodes on a level. Its reals are of one
+/// kind, so that the corners of some manifests are all finite.
 pub fn sound(rng: &mut Rng, most: usize) -> Vec<u8> {
     let count = level_count(rng);
+    let real = rng.pick(&[usual, rounding, finite]);
     let parts = Parts {
-        shape: std::array::from_fn(|_| above_zero(rng)),
-        origin: std::array::from_fn(|_| finite(rng)),
-        scales: (0..count).map(|_| finite(rng)).collect(),
+        shape: std::array::from_fn(|_| above_zero(real(rng))),
+        origin: std::array::from_fn(|_| real(rng)),
+        scales: (0..count).map(|_| real(rng)).collect(),
         offsets: (0..count)
-            .map(|_| std::array::from_fn(|_| finite(rng)))
+            .map(|_| std::array::from_fn(|_| real(rng)))
             .collect(),
         levels: (0..count).map(|_| nodes(rng, most)).collect(),
     };
@@ -256,11 +269,52 @@ pub fn damaged(rng: &mut Rng, most: usize) -> Vec<u8> {
     bytes
 }
 
+/// A manifest of any kind: sound, damaged, of another length, or of random
+/// bytes.
+pub fn any(rng: &mut Rng) -> Vec<u8> {
+    let most = if rng.once_in(200) {
+        100
+    } else {
+        *rng.pick(&[1, 4, 8, 8, 20])
+    };
+    match rng.below(32) {
+        0 => {
+            let length = rng.index(200);
+            rng.bytes(length)
+        }
+        1 => truncated(rng, most),
+        2 => extended(rng, most),
+        3..12 => damaged(rng, most),
+        _ => sound(rng, most),
+    }
+}
+
+/// How many levels the manifest says that it has, as far as it may.
+pub fn levels_said(bytes: &[u8]) -> u32 {
+    read_u32(bytes, 24).min(MOST_LEVELS)
+}
+
+/// How many nodes the manifest says that a level has, 0 for no level of it.
+pub fn nodes_said(bytes: &[u8], level: u64) -> u32 {
+    let levels = levels_said(bytes);
+    if level >= u64::from(levels) {
+        return 0;
+    }
+    read_u32(bytes, 28 + 16 * levels as usize + 4 * level as usize)
+}
+
 /// A level and node to ask for: mostly ones that the manifest has.
 pub fn question(rng: &mut Rng, bytes: &[u8]) -> (u64, u64) {
-    let levels = read_u32(bytes, 24).min(32);
-    let level = rng.below(u64::from(levels) + 1);
-    let count = read_u32(bytes, 28 + 16 * levels as usize + 4 * level as usize);
+    let levels = u64::from(levels_said(bytes));
+    let filled: Vec<u64> = (0..levels)
+        .filter(|level| nodes_said(bytes, *level) > 0)
+        .collect();
+    let level = if filled.is_empty() || rng.once_in(4) {
+        rng.below(levels + 1)
+    } else {
+        *rng.pick(&filled)
+    };
+    let count = nodes_said(bytes, level);
     let node = rng.below(u64::from(count.min(1_000)) + 1);
     match rng.below(12) {
         0 => (rng.edge_u64(), node),

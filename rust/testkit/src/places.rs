@@ -1,7 +1,7 @@
 //! Random volumes, cells, keys, specifications and ids.
 
 use crate::Rng;
-use reference::grid::{cell_of, grid_size, key_bits, Cell, Volume};
+use reference::grid::{grid_size, key_bits, Cell, Volume};
 use reference::sharding::{Place, Sharding};
 
 /// A volume of any numbers: zeros and grids of up to 96 key bits occur.
@@ -98,13 +98,6 @@ pub fn key(rng: &mut Rng, volume: &Volume) -> u64 {
     }
 }
 
-/// A key of the volume, where one can be found.
-pub fn inside_key(rng: &mut Rng, volume: &Volume) -> Option<u64> {
-    (0..20)
-        .map(|_| key(rng, volume))
-        .find(|key| cell_of(volume, *key).is_ok())
-}
-
 /// An allowed specification.
 pub fn sharding(rng: &mut Rng) -> Sharding {
     Sharding {
@@ -185,6 +178,7 @@ fn low(bits: u8) -> u64 {
 mod tests {
     use super::*;
     use crate::Met;
+    use reference::grid::cell_of;
     use reference::grid::key_of;
 
     #[test]

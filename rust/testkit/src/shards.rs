@@ -1,9 +1,10 @@
 //! Random shards: sound ones in many layouts, and damaged ones.
 
-use crate::places::identity_id;
+use crate::places::{self, identity_id};
 use crate::Rng;
 use reference::endian::{put_u64, read_u64};
 use reference::sharding::{Place, Sharding, IDENTITY};
+use reference::MOST_SHARD_BYTES;
 use std::collections::BTreeMap;
 
 /// Chunks by id: what a shard lists.
@@ -79,9 +80,13 @@ fn ids(rng: &mut Rng, sharding: &Sharding, number: u64, most: usize) -> Vec<u64>
     ids
 }
 
-/// A few bytes; empty ones, runs of one byte and repetitions are common.
+/// Mostly a few bytes; empty ones, runs of one byte and repetitions are common.
 fn chunk(rng: &mut Rng) -> Vec<u8> {
-    let length = rng.index(9);
+    let length = if rng.once_in(20) {
+        rng.index(300)
+    } else {
+        rng.index(9)
+    };
     match rng.below(4) {
         0 => Vec::new(),
         1 => vec![0; length],
@@ -378,20 +383,22 @@ pub fn sound(rng: &mut Rng, most: usize) -> Sample {
     }
 }
 
-/// The places of the u64 numbers in some nonempty minishard index.
-fn index_numbers(rng: &mut Rng, sharding: &Sharding, file: &[u8]) -> Option<(usize, usize)> {
+/// The place and the count of the u64 numbers of each nonempty minishard index
+/// that lies inside the file.
+fn named_indexes(sharding: &Sharding, file: &[u8]) -> Vec<(usize, usize)> {
     let base = sharding.index_end() as usize;
-    let entries: Vec<(usize, usize)> = (0..sharding.minishard_count() as usize)
+    (0..sharding.minishard_count() as usize)
         .map(|m| (read_u64(file, 16 * m), read_u64(file, 16 * m + 8)))
         .filter(|(start, end)| start < end && *end <= (file.len().saturating_sub(base)) as u64)
         .map(|(start, end)| (base + start as usize, (end - start) as usize / 8))
         .filter(|(_, count)| *count > 0)
-        .collect();
-    if entries.is_empty() {
-        None
-    } else {
-        Some(*rng.pick(&entries))
-    }
+        .collect()
+}
+
+/// The place and the count of the u64 numbers in some nonempty minishard index.
+fn index_numbers(rng: &mut Rng, sharding: &Sharding, file: &[u8]) -> Option<(usize, usize)> {
+    let indexes = named_indexes(sharding, file);
+    (!indexes.is_empty()).then(|| *rng.pick(&indexes))
 }
 
 /// Another number in place of `old`: a near one, an edge, or one around the
@@ -462,6 +469,108 @@ pub fn damaged(rng: &mut Rng, most: usize) -> Sample {
     sample
 }
 
+/// Puts another specification, another number or both in place of the
+/// sample's; now and then it keeps its own.
+pub fn make_wild(rng: &mut Rng, sample: &mut Sample) {
+    if rng.once_in(2) {
+        sample.sharding = places::wild_sharding(rng);
+    }
+    sample.number = match rng.below(3) {
+        0 => sample.number,
+        1 => places::shard_number(rng, &sample.sharding),
+        _ => sample.number ^ 1 << rng.below(64),
+    };
+}
+
+/// Random bytes as the file of a small specification.
+pub fn random_bytes(rng: &mut Rng) -> Sample {
+    let length = rng.index(300);
+    Sample {
+        sharding: Sharding {
+            preshift: 0,
+            hash: rng.below(2) as u8,
+            minishard_bits: rng.below(4) as u8,
+            shard_bits: 0,
+        },
+        number: 0,
+        file: rng.bytes(length),
+    }
+}
+
+/// The whole data of a shard listed so often that the settled form has about
+/// a gibibyte: each of 4096 minishards lists one chunk over the same bytes.
+pub fn brimming(rng: &mut Rng) -> Sample {
+    const CHUNKS: u64 = 4096;
+    let sharding = Sharding {
+        preshift: 0,
+        hash: IDENTITY,
+        minishard_bits: 12,
+        shard_bits: 0,
+    };
+    let whole = (MOST_SHARD_BYTES - (16 + 24) * CHUNKS) / CHUNKS;
+    let data = whole + 2;
+    let mut file: Vec<u8> = (0..CHUNKS)
+        .flat_map(|m| [data + 24 * m, data + 24 * (m + 1)])
+        .flat_map(u64::to_le_bytes)
+        .collect();
+    file.resize(file.len() + data as usize, 0x5a);
+    // The form would be a gibibyte long where nothing is added or taken away.
+    let first = whole - 1 + rng.below(3);
+    for m in 0..CHUNKS {
+        let size = if m == 0 { first } else { whole };
+        file.extend([m, 0, size].into_iter().flat_map(u64::to_le_bytes));
+    }
+    Sample {
+        sharding,
+        number: 0,
+        file,
+    }
+}
+
+/// A shard of any kind: sound, damaged, under another specification or number,
+/// or of random bytes.
+pub fn any(rng: &mut Rng) -> Sample {
+    let most = if rng.once_in(200) {
+        300
+    } else {
+        *rng.pick(&[2, 8, 12, 12, 40])
+    };
+    let mut sample = match rng.below(32) {
+        0 => random_bytes(rng),
+        1..16 => sound(rng, most),
+        _ => damaged(rng, most),
+    };
+    if rng.once_in(8) {
+        make_wild(rng, &mut sample);
+    }
+    sample
+}
+
+/// The `choice`th, counted round, of the ids that the file's minishard indexes
+/// name, whether they are sound or not.
+pub fn listed_id(sharding: &Sharding, file: &[u8], choice: u64) -> Option<u64> {
+    if sharding.allowed().is_err() {
+        return None;
+    }
+    let indexes = named_indexes(sharding, file);
+    let total: u64 = indexes.iter().map(|(_, count)| *count as u64 / 3).sum();
+    let mut entry = choice.checked_rem(total)? as usize;
+    for (start, count) in indexes {
+        if entry < count / 3 {
+            return Some(id_at(file, start, entry));
+        }
+        entry -= count / 3;
+    }
+    None
+}
+
+/// The id of an entry of the minishard index that starts here, its sum wrapped.
+fn id_at(file: &[u8], start: usize, entry: usize) -> u64 {
+    (0..=entry).fold(0, |id: u64, i| {
+        id.wrapping_add(read_u64(file, start + 8 * i))
+    })
+}
+
 /// An id to ask a shard for: often one that it lists, or a neighbour of one.
 pub fn question(rng: &mut Rng, sample: &Sample) -> u64 {
     let Sample {
@@ -474,7 +583,7 @@ pub fn question(rng: &mut Rng, sample: &Sample) -> u64 {
     }
     let listed = index_numbers(rng, sharding, file).map(|(start, count)| {
         let entry = rng.index(count / 3 + 1);
-        (0..=entry).fold(0u64, |id, i| id.wrapping_add(read_u64(file, start + 8 * i)))
+        id_at(file, start, entry)
     });
     match rng.below(8) {
         0 => rng.edge_u64(),
@@ -488,8 +597,9 @@ pub fn question(rng: &mut Rng, sample: &Sample) -> u64 {
 mod tests {
     use super::*;
     use crate::Met;
-    use reference::settle::settled_form;
+    use reference::settle::{length_of, settled_form};
     use reference::shard::{check, list, list_minishard, lookup};
+    use std::collections::BTreeSet;
 
     #[test]
     fn layouts_are_sound_and_list_the_content() {
@@ -573,6 +683,48 @@ mod tests {
         }
         checks.assert_exactly(&[0, 6, 7, 8, 9, 10, 11]);
         lookups.assert_exactly(&[0, 5, 6, 7, 8, 9, 10, 11, 12]);
+    }
+
+    #[test]
+    fn damage_reaches_later_minishards() {
+        let mut rng = Rng::new(7);
+        let faults = (0..5_000).filter_map(|_| {
+            let sample = damaged(&mut rng, 8);
+            let checked = check(&sample.sharding, sample.number, &sample.file);
+            checked.err().and_then(|refusal| refusal.minishard)
+        });
+        assert!(faults.filter(|minishard| *minishard > 0).count() > 500);
+    }
+
+    #[test]
+    fn forms_on_each_side_of_a_gibibyte() {
+        let mut rng = Rng::new(8);
+        let mut lengths = BTreeSet::new();
+        for _ in 0..20 {
+            let sample = brimming(&mut rng);
+            assert_eq!(check(&sample.sharding, sample.number, &sample.file), Ok(()));
+            lengths.insert(length_of(&sample.sharding, sample.number, &sample.file));
+        }
+        let gibibyte = 1 << 30;
+        assert!(lengths
+            .into_iter()
+            .eq([Ok(gibibyte - 1), Ok(gibibyte), Err(13)]));
+    }
+
+    #[test]
+    fn listed_ids_go_round() {
+        let mut rng = Rng::new(9);
+        for _ in 0..1_000 {
+            let sample = sound(&mut rng, 8);
+            let entries = list(&sample.sharding, sample.number, &sample.file).expect("sound");
+            let listed = |choice| listed_id(&sample.sharding, &sample.file, choice);
+            if entries.is_empty() {
+                assert_eq!(listed(rng.bits()), None);
+            }
+            for (choice, entry) in (0..).zip(entries.iter().chain(&entries)) {
+                assert_eq!(listed(choice), Some(entry.id));
+            }
+        }
     }
 
     /// The exact sums of a minishard's rows: ids, and ends of chunks counted

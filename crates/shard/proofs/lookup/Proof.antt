@@ -1,6 +1,7 @@
 -- The lookup in a file: 1, 5, 6, then over its two parts.
 use borrow.Author.Needs.{needs}
-use Rattle.shard.proofs.Answers.{told-allowed, answer-spec, answer-shard, answer-other, answer-short, answer-long, answer-in}
+use Rattle.endian.proofs.Tests.{told-yes}
+use Rattle.shard.proofs.Answers.{answer-spec, answer-shard, answer-other, answer-short, answer-long, answer-in}
 use Rattle.shard.proofs.lookup.Statement.{statement}
 use Rattle.shard.proofs.lookup.Tie as tie
 
@@ -10,12 +11,12 @@ lookup-spec =
     (tie.spec
     (λ c κs. search needs)
     (λ c. search answer-spec)
-    (λ c κs. search told-allowed)
+    (λ c κs. search told-yes)
     (λ c. search answer-shard)
-    (λ c κs. search told-allowed)
+    (λ c κs. search told-yes)
     (λ c. search answer-other)
-    (λ c κs. search told-allowed)
+    (λ c κs. search told-yes)
     (λ c. search answer-short)
     (λ c. search answer-long)
-    (λ c κs. (search told-allowed, search needs))
+    (λ c κs. (search told-yes, search needs))
     (λ c. search answer-in))

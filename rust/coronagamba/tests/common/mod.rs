@@ -4,12 +4,10 @@
 
 use coronagamba::Refusal;
 
-#[cfg(feature = "manifest")]
 pub mod manifest;
 
-#[cfg(feature = "grid")]
 pub mod grid {
-    use coronagamba::{Cell, Extents, Offset, Point, Volume};
+    use coronagamba::{Cell, Extents, Offset, Volume};
 
     pub fn extents([x, y, z]: [u32; 3]) -> Extents {
         Extents { x, y, z }
@@ -27,13 +25,8 @@ pub mod grid {
             offset: Offset { x, y, z },
         }
     }
-
-    pub fn point(point: [i128; 3]) -> Point {
-        Point::from(point.map(|number| i64::try_from(number).expect("bounds fit i64")))
-    }
 }
 
-#[cfg(feature = "sharding")]
 pub mod sharding {
     use coronagamba::{Place, Sharding};
 

@@ -2,7 +2,8 @@
 use Prim.Native.Nat.{_-_, _*_, _≤_}
 use mathlib.Core.Path.{_≡_}
 use lib.ListN.{length}
-use Rattle.manifest.specs.Layout.{sumTo, levelItem}
+use Rattle.endian.specs.Range.{sumTo}
+use Rattle.manifest.specs.Layout.{levelItem}
 use Rattle.manifest.specs.Questions.{levelBytes}
 use Rattle.manifest.proofs.Sounds.{level-first, level-next, level-within, level-bytes}
 use Rattle.manifest.proofs.Loops.{loops}

@@ -2,7 +2,7 @@
 use Prim.Native.Nat.{_-_, _+_, _*_, _≤_}
 use mathlib.Core.Path.{_≡_}
 use mathlib.Core.Bool.{true}
-use Rattle.manifest.specs.Layout.{every}
+use Rattle.endian.specs.Range.{every}
 use Rattle.manifest.specs.Verdict.{realFits}
 use Rattle.manifest.proofs.Loops.{loops}
 use Rattle.manifest.proofs.inner.each_real_fits.Statement.{statement}

@@ -1,7 +1,8 @@
 -- The loop's invariant: the total is the sum of the counts so far, each below 2^32.
 use Prim.Native.Nat.{_-_, _*_, _≤_}
 use mathlib.Core.Path.{_≡_}
-use Rattle.manifest.specs.Layout.{sumTo, countOf}
+use Rattle.endian.specs.Range.{sumTo}
+use Rattle.manifest.specs.Layout.{countOf}
 use Rattle.manifest.proofs.Loops.{loops}
 use Rattle.manifest.proofs.inner.nodes_before.Statement.{statement}
 use Rattle.manifest.proofs.inner.nodes_before.Tie as tie

@@ -3,7 +3,8 @@ use Prim.Native.Nat.{_-_, _*_, _≤_}
 use mathlib.Core.Path.{_≡_}
 use mathlib.Core.Bool.{true}
 use lib.ListN.{length}
-use Rattle.manifest.specs.Layout.{every, levelItem}
+use Rattle.endian.specs.Range.{every}
+use Rattle.manifest.specs.Layout.{levelItem}
 use Rattle.manifest.specs.Verdict.{riseAt}
 use Rattle.manifest.proofs.Sounds.{level-first, level-next, level-fits}
 use Rattle.manifest.proofs.Loops.{loops}

@@ -1,6 +1,6 @@
 -- The whole-shard check: the refusals of a call, then the first fault.
 use borrow.Author.Needs.{needs}
-use Rattle.shard.proofs.Answers.{told-allowed}
+use Rattle.endian.proofs.Tests.{told-yes}
 use Rattle.shard.proofs.WholeAnswers.{check-disallowed, check-shard, check-short, check-long, check-sound, check-fault}
 use Rattle.shard.proofs.check.check.Statement.{statement}
 use Rattle.shard.proofs.check.check.Tie as tie
@@ -11,11 +11,11 @@ check-spec =
     (tie.spec
     (λ c κs. search needs)
     (λ c. search check-disallowed)
-    (λ c κs. search told-allowed)
+    (λ c κs. search told-yes)
     (λ c. search check-shard)
-    (λ c κs. search told-allowed)
+    (λ c κs. search told-yes)
     (λ c. search check-short)
     (λ c. search check-long)
-    (λ c κs. (search told-allowed, (search needs, search needs)))
+    (λ c κs. (search told-yes, (search needs, search needs)))
     (λ c. search check-sound)
     (λ c. search check-fault))

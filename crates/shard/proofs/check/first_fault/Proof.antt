@@ -6,9 +6,9 @@ use mathlib.Core.Logic.{⊎-elim}
 use native.Mathlib.Omega.{arith}
 use borrow.Author.Needs.{needs}
 use lib.ListN.{length}
-use Rattle.shard.specs.Sums.{anyBelow}
 use Rattle.shard.specs.Index.{idSteps}
 use Rattle.endian.specs.Little.{rowAt}
+use Rattle.endian.specs.Range.{anyBelow}
 use Rattle.shard.specs.Faults.{badId, foreignAt}
 use Rattle.shard.proofs.Walks.{Walk, walk-start, rising-same, rising-over, rising-first, rising-later, step-fits, ours-hit, ours-turn, Span, span-start, span-step, span-size, span-turn}
 use Rattle.shard.proofs.WholeLoops.{noFault, Searching, search-start, search-end, search-empty, search-next, end-before, end-past, end-ragged, Testing9, test-ids, Testing10, test-places, walk-none, Testing11, test-ends, end-entry}

@@ -3,7 +3,7 @@ use Prim.Native.Nat.{_-_}
 use mathlib.Core.Path.{_≡_}
 use mathlib.Core.Bool.{false}
 use native.Mathlib.Omega.{arith}
-use Rattle.shard.specs.Sums.{anyBelow}
+use Rattle.endian.specs.Range.{anyBelow}
 use Rattle.shard.specs.Index.{idSteps, startSteps, sizes}
 use Rattle.shard.specs.Find.{isId}
 use Rattle.shard.proofs.Seek.{Tally, tally-start, tally-id, tally-start-fits, tally-end-fits, tally-place-fits, tally-turn, seek-start, seek-hit, seek-turn, seek-end}

@@ -1,6 +1,6 @@
 -- The judge: one law for each way out.
 use borrow.Author.Needs.{needs}
-use Rattle.shard.proofs.First.{told-none}
+use Rattle.endian.proofs.Ranges.{told-none}
 use Rattle.shard.proofs.Faulted.{fault-before, fault-empty, fault-past, fault-ragged, fault-falling, fault-foreign, fault-outside, fault-none}
 use Rattle.shard.proofs.inner.judge_at.Statement.{statement}
 use Rattle.shard.proofs.inner.judge_at.Tie as tie

@@ -1,6 +1,6 @@
 -- The refusals 1, 5 and 6, then the fault.
 use borrow.Author.Needs.{needs}
-use Rattle.shard.proofs.Answers.{told-allowed}
+use Rattle.endian.proofs.Tests.{told-yes}
 use Rattle.shard.proofs.Listings.{refusal-spec, refusal-shard, refusal-minishard, refusal-short, refusal-long, refusal-fault}
 use Rattle.shard.proofs.inner.listing_refusal.Statement.{statement}
 use Rattle.shard.proofs.inner.listing_refusal.Tie as tie
@@ -11,12 +11,12 @@ listing-refusal-spec =
     (tie.spec
     (λ c κs. search needs)
     (λ c. search refusal-spec)
-    (λ c κs. search told-allowed)
+    (λ c κs. search told-yes)
     (λ c. search refusal-shard)
-    (λ c κs. search told-allowed)
+    (λ c κs. search told-yes)
     (λ c. search refusal-minishard)
-    (λ c κs. search told-allowed)
+    (λ c κs. search told-yes)
     (λ c. search refusal-short)
     (λ c. search refusal-long)
-    (λ c κs. (search told-allowed, (search needs, search needs)))
+    (λ c κs. (search told-yes, (search needs, search needs)))
     (λ c. search refusal-fault))

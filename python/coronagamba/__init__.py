@@ -1,0 +1,41 @@
+"""A proved library for archives of sharded volume scans.
+
+Every call takes any numbers and bytes and ends. A refusal is the exception
+`Refused`, with its number from the archive's table; it leaves each lent
+buffer as it was. An integer that the library's type cannot hold is an
+OverflowError, and never cut off.
+
+Bytes are taken from any C-contiguous bytes-like object without a copy. Other
+threads run during a call, and must not change the bytes that it was lent.
+"""
+
+from .card import Card
+from .grid import Bounds, Cell, Extents, Offset, Point, Volume
+from .manifest import Corners, Header, Manifest, Node, Visit
+from .refusal import Absent, Refused
+from .shard import Listed, Shard, Span
+from .sharding import IDENTITY, MURMUR, Place, Sharding
+
+__all__ = [
+    "IDENTITY",
+    "MURMUR",
+    "Absent",
+    "Bounds",
+    "Card",
+    "Cell",
+    "Corners",
+    "Extents",
+    "Header",
+    "Listed",
+    "Manifest",
+    "Node",
+    "Offset",
+    "Place",
+    "Point",
+    "Refused",
+    "Shard",
+    "Sharding",
+    "Span",
+    "Visit",
+    "Volume",
+]

@@ -1,0 +1,214 @@
+"""Bytes and numbers of other objects, lent to the library uncopied."""
+
+from __future__ import annotations
+
+import ctypes
+from array import array
+from ctypes import c_char_p, c_int, c_ssize_t, c_void_p
+from itertools import chain
+from types import TracebackType
+from typing import TYPE_CHECKING, Any, Optional, Type, TypeVar
+
+from ._numbers import three_u32, u64
+
+if TYPE_CHECKING:
+    from _typeshed import ReadableBuffer as ReadableBuffer
+    from _typeshed import WriteableBuffer as WriteableBuffer
+
+    Numbers = array[int]
+else:
+    ReadableBuffer = WriteableBuffer = object
+    Numbers = array
+
+_SIMPLE = 0
+_WRITABLE = 1
+
+
+class _PyBuffer(ctypes.Structure):
+    """Py_buffer of Python's C interface."""
+
+    _fields_ = [
+        ("buf", c_void_p),
+        ("obj", c_void_p),
+        ("len", c_ssize_t),
+        ("itemsize", c_ssize_t),
+        ("readonly", c_int),
+        ("ndim", c_int),
+        ("format", c_char_p),
+        ("shape", c_void_p),
+        ("strides", c_void_p),
+        ("suboffsets", c_void_p),
+        ("internal", c_void_p),
+    ]
+
+
+# Prototypes of our own: those of ctypes.pythonapi belong to the whole program.
+_get = ctypes.PYFUNCTYPE(
+    c_int, ctypes.py_object, ctypes.POINTER(_PyBuffer), c_int
+)(("PyObject_GetBuffer", ctypes.pythonapi))
+_release = ctypes.PYFUNCTYPE(None, ctypes.POINTER(_PyBuffer))(
+    ("PyBuffer_Release", ctypes.pythonapi)
+)
+
+
+class Lent:
+    """The bytes of an object while a `with` block runs. The object exports
+    its buffer for so long and cannot move or free it."""
+
+    __slots__ = ("_name", "_data", "_flags", "_buffer")
+
+    def __init__(self, name: str, data: Any, writable: bool = False) -> None:
+        self._name = name
+        self._data = data
+        self._flags = _WRITABLE if writable else _SIMPLE
+        self._buffer = _PyBuffer()
+
+    def __enter__(self) -> Lent:
+        try:
+            _get(self._data, self._buffer, self._flags)
+        except (BufferError, TypeError) as error:
+            raise TypeError(
+                f"{self._name} must be a C-contiguous"
+                f"{' writable' if self._flags else ''} bytes-like object: "
+                f"{error}"
+            ) from None
+        return self
+
+    def __exit__(self, *_: object) -> None:
+        _release(self._buffer)
+
+    @property
+    def address(self) -> int:
+        """Where the bytes are; 0 may stand for no bytes."""
+        return self._buffer.buf or 0
+
+    @property
+    def count(self) -> int:
+        """How many bytes there are."""
+        return int(self._buffer.len)
+
+    def pointer(self, item: Any) -> Any:
+        """A pointer to items of this ctypes type; NULL for no bytes."""
+        if self.count == 0:
+            return None
+        return ctypes.byref(item.from_address(self.address))
+
+    @property
+    def bytes(self) -> Any:
+        """A pointer to the bytes."""
+        return self.pointer(ctypes.c_uint8)
+
+    def overlaps(self, other: Lent) -> bool:
+        """Whether some byte belongs to both."""
+        begin = max(self.address, other.address)
+        return begin < min(
+            self.address + self.count, other.address + other.count
+        )
+
+
+Self = TypeVar("Self", bound="Held")
+
+
+class Held:
+    """A caller's bytes, held until `release` or the end of a `with` block."""
+
+    __slots__ = ("_view",)
+
+    def __init__(self, data: ReadableBuffer) -> None:
+        self._view = _byte_view(data)
+
+    def release(self) -> None:
+        """Lets the caller's buffer go. Every later call raises ValueError;
+        chunks handed out before hold the buffer for themselves."""
+        self._view.release()
+
+    def __enter__(self: Self) -> Self:
+        return self
+
+    def __exit__(
+        self,
+        kind: Optional[Type[BaseException]],
+        error: Optional[BaseException],
+        trace: Optional[TracebackType],
+    ) -> None:
+        self.release()
+
+    def _lent(self) -> Lent:
+        return Lent("data", self._view)
+
+
+def _byte_view(data: ReadableBuffer) -> memoryview:
+    """A read-only view of an object's bytes."""
+    try:
+        view = memoryview(data)
+    except TypeError:
+        raise TypeError(
+            f"data must be a bytes-like object, not {type(data).__name__}"
+        ) from None
+    if not view.c_contiguous:
+        raise TypeError("data must be a C-contiguous bytes-like object")
+    return view.toreadonly().cast("B")
+
+
+def own(item: Any, values: Numbers) -> Any:
+    """A pointer to the items of an array that nobody else has; NULL for an
+    empty one."""
+    address, count = values.buffer_info()
+    return ctypes.byref(item.from_address(address)) if count else None
+
+
+def zeros(code: str, count: int) -> Numbers:
+    """An array of that many zeros."""
+    return array(code, [0]) * count
+
+
+def u64s(name: str, values: Any) -> ReadableBuffer:
+    """A buffer of 64-bit numbers as it stands, or integers as an array."""
+    view = _number_view(name, "Q", values)
+    if view is not None:
+        return _aligned("Q", view)
+    return array("Q", (u64(f"{name}[{i}]", v) for i, v in enumerate(values)))
+
+
+def u32_triples(name: str, values: Any) -> ReadableBuffer:
+    """A buffer of 32-bit numbers, three for each item, as it stands, or
+    triples of integers as an array."""
+    view = _number_view(name, "I", values)
+    if view is None:
+        triples = (three_u32(f"{name}[{i}]", v) for i, v in enumerate(values))
+        return array("I", chain.from_iterable(triples))
+    if not _holds_triples(view):
+        raise ValueError(f"{name} must hold x, y, z of each item in turn")
+    return _aligned("I", view)
+
+
+def _holds_triples(view: memoryview) -> bool:
+    if view.ndim == 1:
+        return len(view) % 3 == 0
+    return (view.shape or ())[-1:] == (3,)
+
+
+def _number_view(name: str, code: str, values: Any) -> Optional[memoryview]:
+    """The numbers of a buffer, which must be unsigned and as wide as those of
+    an array of this code. None where there is no buffer."""
+    try:
+        view = memoryview(values)
+    except TypeError:
+        return None
+    width = array(code).itemsize
+    unsigned = view.format.lstrip("@=<") in ("I", "L", "Q", "N")
+    if not (unsigned and view.itemsize == width and view.c_contiguous):
+        raise TypeError(
+            f"{name} must be a C-contiguous buffer of unsigned {8 * width}-bit"
+            " numbers, or an iterable of integers"
+        )
+    return view
+
+
+def _aligned(code: str, view: memoryview) -> ReadableBuffer:
+    """The numbers where they stand, or a copy: C takes no number from an
+    address that is no multiple of its width."""
+    with Lent("numbers", view) as lent:
+        if lent.address % view.itemsize == 0:
+            return view
+    return array(code, view.tobytes())

@@ -1,0 +1,81 @@
+"""The deposit card."""
+
+from __future__ import annotations
+
+from ctypes import byref, c_int32, c_uint8, c_uint32, c_uint64
+from dataclasses import dataclass
+
+from ._buffers import Lent, ReadableBuffer
+from ._library import library
+from .grid import Volume
+from .refusal import answer
+from .sharding import Sharding
+
+_FourU8 = c_uint8 * 4
+_ThreeU32 = c_uint32 * 3
+_ThreeI32 = c_int32 * 3
+
+# The longer of the two lengths that a card can have.
+_Bytes = c_uint8 * 61
+
+
+@dataclass(frozen=True)
+class Card:
+    """What a deposit card says.
+
+    >>> from coronagamba import IDENTITY, Card, Sharding, Volume
+    >>> card = Card(
+    ...     Sharding(0, IDENTITY, 1, 2),
+    ...     Volume(size=(100, 100, 100), chunk=(64, 64, 64)),
+    ... )
+    >>> len(card.to_bytes())
+    46
+    >>> Card.read(card.to_bytes()) == card
+    True
+    """
+
+    sharding: Sharding
+    volume: Volume
+
+    def __post_init__(self) -> None:
+        _must_be("sharding", self.sharding, Sharding)
+        _must_be("volume", self.volume, Volume)
+
+    @classmethod
+    def read(cls, data: ReadableBuffer) -> Card:
+        """What the card of these bytes says. Refusals 14, 1, 2, 3."""
+        sharding, offset = _FourU8(), _ThreeI32()
+        size, chunk = _ThreeU32(), _ThreeU32()
+        with Lent("data", data) as lent:
+            answer(
+                library.coronagamba_card_read(
+                    lent.bytes,
+                    lent.count,
+                    byref(sharding),
+                    byref(size),
+                    byref(chunk),
+                    byref(offset),
+                )
+            )
+        return cls(Sharding(*sharding), Volume(size, chunk, offset))
+
+    def to_bytes(self) -> bytes:
+        """The card, of 46 or 61 bytes. Refusals 1, 2, 3."""
+        out, length = _Bytes(), c_uint64()
+        answer(
+            library.coronagamba_card_write(
+                self.sharding._struct(),
+                self.volume._struct(),
+                out,
+                len(out),
+                byref(length),
+            )
+        )
+        return bytes(out)[: length.value]
+
+
+def _must_be(name: str, value: object, kind: type) -> None:
+    if not isinstance(value, kind):
+        raise TypeError(
+            f"{name} must be a {kind.__name__}, not {type(value).__name__}"
+        )

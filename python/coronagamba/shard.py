@@ -1,0 +1,168 @@
+"""Shard files: lookup, the whole-shard check, listings and settling."""
+
+from __future__ import annotations
+
+from ctypes import byref, c_uint64
+from typing import Any, List, NamedTuple, Tuple
+
+from ._buffers import Held, Lent, ReadableBuffer, WriteableBuffer, own, zeros
+from ._library import library
+from ._numbers import u64
+from .refusal import answer, checked
+from .sharding import Sharding
+
+
+class Span(NamedTuple):
+    """The place of a chunk, counted from the start of the file."""
+
+    start: int
+    length: int
+
+
+class Listed(NamedTuple):
+    """A chunk that a minishard lists."""
+
+    id: int
+    span: Span
+
+
+class Shard(Held):
+    """A shard file with its specification and number, to be asked many times.
+
+    The bytes stay the caller's: they are not copied, and must not change
+    while a call runs. Opening judges nothing.
+
+    >>> from coronagamba import IDENTITY, Shard, Sharding
+    >>> index = b"".join(n.to_bytes(8, "little") for n in (2, 26, 7, 0, 2))
+    >>> data = index[:16] + b"ab" + index[16:]
+    >>> shard = Shard(Sharding(0, IDENTITY, 0, 0), 0, data)
+    >>> shard.check()
+    >>> shard.lookup(7)
+    Span(start=16, length=2)
+    >>> bytes(shard.chunk(7))
+    b'ab'
+    >>> shard.settled() == data
+    True
+    """
+
+    __slots__ = ("_sharding", "_number")
+
+    def __init__(
+        self, sharding: Sharding, number: int, data: ReadableBuffer
+    ) -> None:
+        if not isinstance(sharding, Sharding):
+            raise TypeError(
+                f"sharding must be a Sharding, not {type(sharding).__name__}"
+            )
+        self._sharding = sharding
+        self._number = u64("number", number)
+        super().__init__(data)
+
+    @property
+    def sharding(self) -> Sharding:
+        """The specification."""
+        return self._sharding
+
+    @property
+    def number(self) -> int:
+        """The shard number."""
+        return self._number
+
+    def _arguments(self, lent: Lent) -> Tuple[Any, ...]:
+        """What every call on a shard begins with."""
+        return self._sharding._struct(), self._number, lent.bytes, lent.count
+
+    def lookup(self, id: int) -> Span:
+        """The place of an id's chunk. Refusals 1, 5, 6, 7 to 11 of the id's
+        minishard, and 12, which is `Absent`."""
+        start, length = c_uint64(), c_uint64()
+        with self._lent() as lent:
+            answer(
+                library.coronagamba_lookup(
+                    *self._arguments(lent),
+                    u64("id", id),
+                    byref(start),
+                    byref(length),
+                )
+            )
+        return Span(start.value, length.value)
+
+    def chunk(self, id: int) -> memoryview:
+        """An id's chunk, as a read-only part of the caller's bytes, refused
+        as `lookup` is."""
+        start, length = self.lookup(id)
+        return self._view[start:start + length]
+
+    def check(self) -> None:
+        """Passes exactly the sound shards. Refusals 1, 5, 6, and 7 to 11 with
+        the first minishard that has a fault."""
+        with self._lent() as lent:
+            checked(library.coronagamba_check(*self._arguments(lent)))
+
+    def listed_count(self, minishard: int) -> int:
+        """How many chunks a minishard lists. Refusals 1, 5 (also for a
+        minishard that is not there), 6, 7 to 11 of that minishard."""
+        chunks = c_uint64()
+        with self._lent() as lent:
+            answer(
+                library.coronagamba_listed_count(
+                    *self._arguments(lent),
+                    u64("minishard", minishard),
+                    byref(chunks),
+                )
+            )
+        return chunks.value
+
+    def listing(self, minishard: int) -> List[Listed]:
+        """The chunks that a minishard lists, in stored order, refused as
+        `listed_count` is."""
+        out = zeros("Q", 3 * self.listed_count(minishard))
+        length = c_uint64()
+        with self._lent() as lent:
+            answer(
+                library.coronagamba_listing(
+                    *self._arguments(lent),
+                    u64("minishard", minishard),
+                    own(c_uint64, out),
+                    len(out),
+                    byref(length),
+                )
+            )
+        return [
+            Listed(id, Span(start, size))
+            for id, start, size in zip(out[::3], out[1::3], out[2::3])
+        ]
+
+    def settled_length(self) -> int:
+        """The length of the settled form. Refusals 1, 5, 6, 7 to 11, and 13
+        where it would pass 1 GiB."""
+        length = c_uint64()
+        with self._lent() as lent:
+            answer(
+                library.coronagamba_settled_length(
+                    *self._arguments(lent), byref(length)
+                )
+            )
+        return length.value
+
+    def settled(self) -> bytearray:
+        """The settled form, refused as `settled_length` is."""
+        form = bytearray(self.settled_length())
+        self.settle_into(form)
+        return form
+
+    def settle_into(self, buffer: WriteableBuffer) -> int:
+        """Writes the settled form to the front of a buffer and gives its
+        length. Refusals 1, 5, 6, 7 to 11, and 13 where the buffer is too
+        short or the form would pass 1 GiB. The buffer and the shard's bytes
+        must have no memory in common."""
+        length = c_uint64()
+        with self._lent() as lent, Lent("buffer", buffer, True) as out:
+            if out.overlaps(lent):
+                raise ValueError("buffer overlaps the bytes of the shard")
+            answer(
+                library.coronagamba_settle(
+                    *self._arguments(lent), out.bytes, out.count, byref(length)
+                )
+            )
+        return length.value

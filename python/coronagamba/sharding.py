@@ -1,0 +1,104 @@
+"""From an id to its shard and minishard, and the names of shard files."""
+
+from __future__ import annotations
+
+from ctypes import byref, c_uint8, c_uint64
+from dataclasses import dataclass
+from typing import Iterable, NamedTuple, Tuple, Union
+
+from . import _library
+from ._buffers import Lent, Numbers, ReadableBuffer, own, u64s, zeros
+from ._library import library
+from ._numbers import u8, u64
+from .refusal import answer
+
+# The hash that gives back the id, and MurmurHash3_x86_128.
+IDENTITY = 0
+MURMUR = 1
+
+# 8 digits and `.shard`.
+_Name = c_uint8 * (8 + 6)
+
+
+class Place(NamedTuple):
+    """Where an id belongs."""
+
+    shard: int
+    minishard: int
+
+
+@dataclass(frozen=True)
+class Sharding:
+    """A sharding specification, its fields as in a deposit card. None has a
+    default: a specification comes from the deposit.
+
+    >>> from coronagamba import IDENTITY, Sharding
+    >>> sharding = Sharding(
+    ...     preshift=1, hash=IDENTITY, minishard_bits=1, shard_bits=4
+    ... )
+    >>> sharding.place(42)
+    Place(shard=10, minishard=1)
+    >>> sharding.shard_name(10)
+    'a.shard'
+    """
+
+    preshift: int
+    hash: int
+    minishard_bits: int
+    shard_bits: int
+
+    def __post_init__(self) -> None:
+        for name in ("preshift", "hash", "minishard_bits", "shard_bits"):
+            object.__setattr__(self, name, u8(name, getattr(self, name)))
+
+    def _struct(self) -> _library.Sharding:
+        return _library.Sharding(
+            self.preshift, self.hash, self.minishard_bits, self.shard_bits
+        )
+
+    def place(self, id: int) -> Place:
+        """The shard and minishard of an id. Refusal 1."""
+        shard, minishard = c_uint64(), c_uint64()
+        answer(
+            library.coronagamba_place_of(
+                self._struct(), u64("id", id), byref(shard), byref(minishard)
+            )
+        )
+        return Place(shard.value, minishard.value)
+
+    def places(
+        self, ids: Union[Iterable[int], ReadableBuffer]
+    ) -> Tuple[Numbers, Numbers]:
+        """The shards and the minishards of many ids, in their order, as two
+        arrays of code Q. A buffer of unsigned 64-bit numbers is not copied.
+        Refusal 1."""
+        with Lent("ids", u64s("ids", ids)) as lent:
+            count = lent.count // 8
+            shards, minishards = zeros("Q", count), zeros("Q", count)
+            answer(
+                library.coronagamba_places_of(
+                    self._struct(),
+                    lent.pointer(c_uint64),
+                    count,
+                    own(c_uint64, shards),
+                    count,
+                    own(c_uint64, minishards),
+                    count,
+                    byref(c_uint64()),
+                )
+            )
+        return shards, minishards
+
+    def shard_name(self, shard: int) -> str:
+        """The file name of a shard. Refusals 1, 5."""
+        name, length = _Name(), c_uint64()
+        answer(
+            library.coronagamba_shard_name(
+                self._struct(),
+                u64("shard", shard),
+                name,
+                len(name),
+                byref(length),
+            )
+        )
+        return bytes(name)[: length.value].decode("ascii")

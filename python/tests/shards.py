@@ -1,0 +1,94 @@
+"""Shards as scope, "From id to shard" and "Settled form", lays them out."""
+
+import struct
+
+from . import murmur
+
+
+def u64s(*numbers):
+    """The numbers, little-endian, 8 bytes each."""
+    return struct.pack(f"<{len(numbers)}Q", *numbers)
+
+
+def place(sharding, id):
+    """The shard and the minishard of an id."""
+    hashed = id >> sharding.preshift
+    if sharding.hash == 1:
+        hashed, _ = struct.unpack("<2Q", murmur.x86_128(u64s(hashed)))
+    minishard = hashed % 2**sharding.minishard_bits
+    shard = (hashed >> sharding.minishard_bits) % 2**sharding.shard_bits
+    return shard, minishard
+
+
+def by_minishard(sharding, content):
+    """For each minishard its ids, rising."""
+    groups = [[] for _ in range(2**sharding.minishard_bits)]
+    for id in sorted(content):
+        groups[place(sharding, id)[1]].append(id)
+    return groups
+
+
+def steps(numbers):
+    """Each number less the one before."""
+    return [b - a for a, b in zip([0] + numbers, numbers)]
+
+
+def rows(ids, starts, sizes):
+    """A minishard index of chunks at these places, counted from the end of
+    the shard index."""
+    ends = [0] + [start + size for start, size in zip(starts, sizes)]
+    gaps = [start - end for start, end in zip(starts, ends)]
+    return u64s(*steps(ids), *gaps, *sizes)
+
+
+def settled(sharding, content):
+    """The settled form of this content."""
+    index, data = b"", b""
+    for ids in by_minishard(sharding, content):
+        if not ids:
+            index += u64s(0, 0)
+            continue
+        starts = []
+        for id in ids:
+            starts.append(len(data))
+            data += content[id]
+        table = rows(ids, starts, [len(content[id]) for id in ids])
+        index += u64s(len(data), len(data) + len(table))
+        data += table
+    return index + data
+
+
+def scattered(sharding, content, rng):
+    """A sound shard of this content with its minishards in any order, bytes
+    that nothing lists, and minishard indexes before or after their chunks.
+    Entries of empty minishards point anywhere."""
+    groups = by_minishard(sharding, content)
+    entries, data = [None] * len(groups), b""
+    for number in rng.sample(range(len(groups)), len(groups)):
+        ids = groups[number]
+        if not ids:
+            entries[number] = (rng.getrandbits(64),) * 2
+            continue
+        length = 24 * len(ids)
+        before = rng.random() < 0.5
+        at = len(data)
+        data += bytes(length) if before else b""
+        starts = []
+        for id in ids:
+            data += rng.randbytes(rng.randrange(4))
+            starts.append(len(data))
+            data += content[id]
+        table = rows(ids, starts, [len(content[id]) for id in ids])
+        if before:
+            data = data[:at] + table + data[at + length:]
+        else:
+            at = len(data)
+            data += table
+        entries[number] = (at, at + length)
+    data += rng.randbytes(rng.randrange(9))
+    return b"".join(u64s(*entry) for entry in entries) + data
+
+
+def one_minishard(table, data=b""):
+    """A shard of one minishard: its index at the front of the data."""
+    return u64s(0, len(table)) + table + data

@@ -1,0 +1,83 @@
+"""The ctypes declarations against include/coronagamba.h, both ways."""
+
+import ctypes
+import re
+import unittest
+from pathlib import Path
+
+from coronagamba import _library
+
+HEADER = Path(__file__).resolve().parents[2] / "include/coronagamba.h"
+
+STRUCTS = {
+    "coronagamba_extents": _library.Extents,
+    "coronagamba_offset": _library.Offset,
+    "coronagamba_cell": _library.Cell,
+    "coronagamba_volume": _library.Volume,
+    "coronagamba_sharding": _library.Sharding,
+}
+TYPES = {
+    "uint8_t": ctypes.c_uint8,
+    "uint16_t": ctypes.c_uint16,
+    "uint32_t": ctypes.c_uint32,
+    "uint64_t": ctypes.c_uint64,
+    "int32_t": ctypes.c_int32,
+    "int64_t": ctypes.c_int64,
+    "size_t": ctypes.c_size_t,
+    "float": ctypes.c_float,
+    **STRUCTS,
+}
+STRUCT = re.compile(r"typedef struct \{(.*?)\} (\w+);")
+FUNCTION = re.compile(r"(\w+) (coronagamba_\w+)\(([^()]*)\);")
+PARAMETER = re.compile(r"(?:const )?(\w+) (\*?)(\w+)(?:\[(\d+)\])?")
+
+
+def declarations():
+    """The header without comments and directives, on one line."""
+    text = re.sub(r"/\*.*?\*/", " ", HEADER.read_text(), flags=re.DOTALL)
+    text = re.sub(r"^#.*$", " ", text, flags=re.MULTILINE)
+    return re.sub(r"\s+", " ", text)
+
+
+def fields(body):
+    """The fields of a struct: lines of a type and names."""
+    found = []
+    for line in filter(None, map(str.strip, body.split(";"))):
+        kind, names = line.split(" ", 1)
+        found += [(name.strip(), TYPES[kind]) for name in names.split(",")]
+    return found
+
+
+def argument_type(parameter):
+    """The ctypes type of a parameter."""
+    kind, star, _, length = PARAMETER.fullmatch(parameter.strip()).groups()
+    if length:
+        return ctypes.POINTER(TYPES[kind] * int(length))
+    return ctypes.POINTER(TYPES[kind]) if star else TYPES[kind]
+
+
+class Header(unittest.TestCase):
+    def test_every_struct_is_declared_alike(self):
+        found = {name: body for body, name in STRUCT.findall(declarations())}
+        self.assertEqual(found.keys(), STRUCTS.keys())
+        for name, body in found.items():
+            self.assertEqual(fields(body), STRUCTS[name]._fields_, name)
+
+    def test_every_function_is_declared_alike(self):
+        found = {
+            name: (TYPES[result], tuple(map(argument_type, given.split(","))))
+            for result, name, given in FUNCTION.findall(declarations())
+        }
+        self.assertEqual(sorted(found), sorted(_library.FUNCTIONS))
+        for name, declared in found.items():
+            self.assertEqual(declared, _library.FUNCTIONS[name], name)
+
+    def test_nothing_of_the_header_was_passed_over(self):
+        named = set(re.findall(r"coronagamba_\w+", declarations()))
+        self.assertEqual(named, set(_library.FUNCTIONS) | set(STRUCTS))
+
+    def test_the_object_has_these_declarations(self):
+        for name, (result, arguments) in _library.FUNCTIONS.items():
+            function = getattr(_library.library, name)
+            self.assertIs(function.restype, result, name)
+            self.assertEqual(tuple(function.argtypes), arguments, name)

@@ -1,0 +1,181 @@
+"""Lookup, the check, listings and settling."""
+
+import mmap
+import random
+import unittest
+
+from coronagamba import IDENTITY, MURMUR, Absent, Listed, Refused
+from coronagamba import Shard, Sharding, Span
+
+from . import shards
+from .shards import u64s
+
+CASE = Sharding(0, IDENTITY, 1, 0)
+CONTENT = {4: b"ab", 10: b"cde"}
+# The scope's settled form, written out: entries, chunks, rows.
+SETTLED = (
+    u64s(5, 53, 0, 0) + b"abcde" + u64s(4, 6) + u64s(0, 0) + u64s(2, 3)
+)
+
+
+def listed(shard):
+    """What a shard lists: ids and bytes."""
+    found = {}
+    for minishard in range(2**shard.sharding.minishard_bits):
+        for id, _ in shard.listing(minishard):
+            found[id] = bytes(shard.chunk(id))
+    return found
+
+
+def samples(seed, count):
+    """Random specifications, shard numbers and contents."""
+    rng = random.Random(seed)
+    for _ in range(count):
+        sharding = Sharding(
+            rng.choice([0, 1, 9]),
+            rng.choice([IDENTITY, MURMUR]),
+            rng.randrange(4),
+            rng.randrange(3),
+        )
+        number = rng.randrange(2**sharding.shard_bits)
+        ids = [rng.getrandbits(rng.choice([8, 64])) for _ in range(40)]
+        content = {
+            id: rng.randbytes(rng.choice([0, 1, 5]))
+            for id in ids
+            if shards.place(sharding, id)[0] == number
+        }
+        yield rng, sharding, number, content
+
+
+class TheScopesCase(unittest.TestCase):
+    def setUp(self):
+        self.shard = Shard(CASE, 0, SETTLED)
+
+    def test_the_builder_makes_the_scopes_form(self):
+        self.assertEqual(len(SETTLED), 85)
+        self.assertEqual(shards.settled(CASE, CONTENT), SETTLED)
+
+    def test_lookup(self):
+        self.assertEqual(self.shard.lookup(10), Span(start=34, length=3))
+        self.assertEqual(self.shard.lookup(4), (32, 2))
+        for id in (6, 7):
+            with self.assertRaises(Absent):
+                self.shard.lookup(id)
+
+    def test_chunk(self):
+        self.assertEqual(self.shard.chunk(10), b"cde")
+        self.assertEqual(bytes(self.shard.chunk(4)), b"ab")
+
+    def test_check_and_listing(self):
+        self.shard.check()
+        self.assertEqual(self.shard.listed_count(0), 2)
+        self.assertEqual(
+            self.shard.listing(0),
+            [Listed(4, Span(32, 2)), Listed(10, Span(34, 3))],
+        )
+        self.assertEqual(self.shard.listing(1), [])
+
+    def test_settling(self):
+        self.assertEqual(self.shard.settled_length(), 85)
+        self.assertEqual(self.shard.settled(), SETTLED)
+
+    def test_attributes(self):
+        self.assertIs(self.shard.sharding, CASE)
+        self.assertEqual(self.shard.number, 0)
+        with self.assertRaises(AttributeError):
+            self.shard.number = 1
+
+
+class Soundness(unittest.TestCase):
+    def test_an_empty_entry_may_point_anywhere(self):
+        shard = Shard(CASE, 0, u64s(2**64 - 1, 2**64 - 1, 77, 77))
+        shard.check()
+        self.assertEqual(shard.settled(), bytes(32))
+
+    def test_a_chunk_without_bytes_is_there(self):
+        shard = Shard(CASE, 0, shards.settled(CASE, {2: b"", 4: b"x"}))
+        self.assertEqual(bytes(shard.chunk(2)), b"")
+        self.assertEqual(shard.lookup(2).length, 0)
+
+    def test_a_lookup_judges_only_its_minishard(self):
+        # The second entry is reversed.
+        damaged = bytearray(SETTLED)
+        damaged[16:32] = u64s(1, 0)
+        shard = Shard(CASE, 0, damaged)
+        self.assertEqual(shard.chunk(10), b"cde")
+        with self.assertRaises(Refused) as caught:
+            shard.check()
+        self.assertEqual(caught.exception.args, (7, 1))
+        with self.assertRaises(Refused) as caught:
+            shard.lookup(7)
+        self.assertEqual(caught.exception.args, (7, None))
+
+    def test_the_longest_file(self):
+        with mmap.mmap(-1, 2**30) as longest:
+            with Shard(CASE, 0, longest) as shard:
+                shard.check()
+                with self.assertRaises(Absent):
+                    shard.lookup(2)
+
+    def test_every_damaged_byte_of_an_index_keeps_answers_in_the_file(self):
+        for at in range(len(SETTLED)):
+            for flip in (1, 128, 255):
+                damaged = bytearray(SETTLED)
+                damaged[at] ^= flip
+                shard = Shard(CASE, 0, damaged)
+                try:
+                    start, length = shard.lookup(10)
+                except Refused as refusal:
+                    self.assertIn(refusal.number, range(7, 13))
+                else:
+                    self.assertLessEqual(start + length, len(damaged))
+                    self.assertEqual(
+                        shard.chunk(10), damaged[start:start + length]
+                    )
+
+
+class Layouts(unittest.TestCase):
+    def test_two_layouts_of_one_content_settle_alike(self):
+        different = 0
+        for rng, sharding, number, content in samples(4, 60):
+            one = shards.scattered(sharding, content, rng)
+            other = shards.scattered(sharding, content, rng)
+            different += one != other
+            expected = shards.settled(sharding, content)
+            for file in (one, other, expected):
+                shard = Shard(sharding, number, file)
+                shard.check()
+                self.assertEqual(shard.settled(), expected)
+                self.assertEqual(shard.settled_length(), len(expected))
+                self.assertEqual(listed(shard), content)
+        self.assertGreater(different, 50)
+
+    def test_other_content_settles_otherwise(self):
+        changed = 0
+        for rng, sharding, number, content in samples(5, 60):
+            filled = [id for id, chunk in content.items() if chunk]
+            if not filled:
+                continue
+            changed += 1
+            other = dict(content)
+            first = other[filled[0]]
+            other[filled[0]] = bytes([first[0] ^ 1]) + first[1:]
+            forms = [
+                Shard(
+                    sharding, number, shards.scattered(sharding, some, rng)
+                ).settled()
+                for some in (content, other)
+            ]
+            self.assertNotEqual(*forms)
+        self.assertGreater(changed, 30)
+
+    def test_stored_order_is_rising(self):
+        for rng, sharding, number, content in samples(6, 20):
+            shard = Shard(
+                sharding, number, shards.scattered(sharding, content, rng)
+            )
+            groups = shards.by_minishard(sharding, content)
+            for minishard, ids in enumerate(groups):
+                found = [entry.id for entry in shard.listing(minishard)]
+                self.assertEqual(found, ids)
+                self.assertEqual(shard.listed_count(minishard), len(ids))

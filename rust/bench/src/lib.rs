@@ -1,0 +1,4 @@
+//! What the proved library is timed against: plain Rust that does the same
+//! tests in the same order and gives the same answers.
+
+pub mod plain;

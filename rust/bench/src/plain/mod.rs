@@ -1,0 +1,6 @@
+//! The library's calls in plain Rust.
+
+pub mod cards;
+pub mod manifests;
+pub mod places;
+pub mod shards;

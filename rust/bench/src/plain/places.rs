@@ -1,0 +1,189 @@
+//! Keys and places of ids in plain Rust, with the same tests in the same order.
+//! What is short is marked for inlining, as it would be in its caller's crate.
+
+use coronagamba::{Cell, Sharding, Volume};
+
+/// The grid size, or 2.
+#[inline]
+pub fn grid(volume: &Volume) -> Result<[u32; 3], u8> {
+    let (size, chunk) = (volume.size, volume.chunk);
+    let size = [size.x, size.y, size.z];
+    let chunk = [chunk.x, chunk.y, chunk.z];
+    if size.contains(&0) || chunk.contains(&0) {
+        return Err(2);
+    }
+    Ok(std::array::from_fn(|axis| size[axis].div_ceil(chunk[axis])))
+}
+
+/// How many bits a coordinate below `size` needs.
+#[inline]
+pub fn bits(size: u32) -> u32 {
+    32 - (size - 1).leading_zeros()
+}
+
+/// Whether a cell lies in a grid.
+#[inline]
+pub fn inside(grid: [u32; 3], cell: Cell) -> bool {
+    let cell = <[u32; 3]>::from(cell);
+    (0..3).all(|axis| cell[axis] < grid[axis])
+}
+
+/// The key of a cell of a grid whose axes need these bits, bit by bit.
+#[inline]
+pub fn key_in(bits: [u32; 3], cell: Cell) -> u64 {
+    let cell = <[u32; 3]>::from(cell);
+    let (mut key, mut place) = (0, 0);
+    for bit in 0..bits[0].max(bits[1]).max(bits[2]) {
+        for axis in 0..3 {
+            if bit < bits[axis] {
+                key |= u64::from(cell[axis] >> bit & 1) << place;
+                place += 1;
+            }
+        }
+    }
+    key
+}
+
+/// The key of a cell, or 2 or 3.
+#[inline]
+pub fn key(volume: &Volume, cell: Cell) -> Result<u64, u8> {
+    let grid = grid(volume)?;
+    if !inside(grid, cell) {
+        return Err(2);
+    }
+    let bits = grid.map(bits);
+    if bits.iter().sum::<u32>() > 64 {
+        return Err(3);
+    }
+    Ok(key_in(bits, cell))
+}
+
+/// The keys of many cells, or 2, 3 or 13: the grid worked out once.
+pub fn keys(volume: &Volume, cells: &[Cell], keys: &mut [u64]) -> Result<(), u8> {
+    let grid = grid(volume)?;
+    if !cells.iter().all(|cell| inside(grid, *cell)) {
+        return Err(2);
+    }
+    let bits = grid.map(bits);
+    if bits.iter().sum::<u32>() > 64 {
+        return Err(3);
+    }
+    let keys = keys.get_mut(..cells.len()).ok_or(13)?;
+    for (key, cell) in keys.iter_mut().zip(cells) {
+        *key = key_in(bits, *cell);
+    }
+    Ok(())
+}
+
+/// Spreads every bit of `h` over all of them.
+#[inline]
+fn finish(mut h: u32) -> u32 {
+    h = (h ^ (h >> 16)).wrapping_mul(0x85eb_ca6b);
+    h = (h ^ (h >> 13)).wrapping_mul(0xc2b2_ae35);
+    h ^ (h >> 16)
+}
+
+/// The first 8 bytes of MurmurHash3_x86_128 of an 8-byte number, seed 0.
+#[inline]
+pub fn murmur(number: u64) -> u64 {
+    let (low, high) = (number as u32, (number >> 32) as u32);
+    let one = low
+        .wrapping_mul(0x239b_961b)
+        .rotate_left(15)
+        .wrapping_mul(0xab0e_9789);
+    let two = high
+        .wrapping_mul(0xab0e_9789)
+        .rotate_left(16)
+        .wrapping_mul(0x38b3_4ae5);
+    // Lanes three and four are equal throughout.
+    let (mut a, mut b, mut c) = (one ^ 8, two ^ 8, 8u32);
+    a = a.wrapping_add(b).wrapping_add(c).wrapping_add(c);
+    b = b.wrapping_add(a);
+    c = c.wrapping_add(a);
+    (a, b, c) = (finish(a), finish(b), finish(c));
+    a = a.wrapping_add(b).wrapping_add(c).wrapping_add(c);
+    b = b.wrapping_add(a);
+    u64::from(a) | u64::from(b) << 32
+}
+
+/// Refusal 1, or nothing.
+#[inline]
+pub fn judged(sharding: &Sharding) -> Result<(), u8> {
+    let allowed = sharding.preshift <= 63
+        && sharding.hash <= 1
+        && sharding.minishard_bits <= 12
+        && sharding.shard_bits <= 32;
+    if allowed {
+        Ok(())
+    } else {
+        Err(1)
+    }
+}
+
+/// The lowest bits of a number.
+#[inline]
+fn low(number: u64, bits: u8) -> u64 {
+    number & ((1 << bits) - 1)
+}
+
+/// The shard and minishard of a hashed id.
+#[inline]
+pub fn split(sharding: &Sharding, hashed: u64) -> (u64, u64) {
+    let shard = low(hashed >> sharding.minishard_bits, sharding.shard_bits);
+    (shard, low(hashed, sharding.minishard_bits))
+}
+
+/// The hashed id.
+#[inline]
+pub fn hashed(sharding: &Sharding, id: u64) -> u64 {
+    let shifted = id >> sharding.preshift;
+    if sharding.hash == 0 {
+        shifted
+    } else {
+        murmur(shifted)
+    }
+}
+
+/// The shard and minishard of an id, or 1.
+#[inline]
+pub fn place(sharding: &Sharding, id: u64) -> Result<(u64, u64), u8> {
+    judged(sharding)?;
+    Ok(split(sharding, hashed(sharding, id)))
+}
+
+/// The same as a call that is not inlined, with its results behind pointers, as
+/// the library's is.
+#[inline(never)]
+pub fn place_called(sharding: &Sharding, id: u64, shard: &mut u64, minishard: &mut u64) -> u64 {
+    match place(sharding, id) {
+        Ok(at) => {
+            (*shard, *minishard) = at;
+            0
+        }
+        Err(refusal) => u64::from(refusal),
+    }
+}
+
+/// The places of many ids, or 1 or 13: judged once, the hash chosen once.
+pub fn places(
+    sharding: &Sharding,
+    ids: &[u64],
+    shards: &mut [u64],
+    minishards: &mut [u64],
+) -> Result<(), u8> {
+    judged(sharding)?;
+    if shards.len() < ids.len() || minishards.len() < ids.len() {
+        return Err(13);
+    }
+    let all = ids.iter().zip(shards.iter_mut().zip(minishards));
+    if sharding.hash == 0 {
+        for (id, (shard, minishard)) in all {
+            (*shard, *minishard) = split(sharding, id >> sharding.preshift);
+        }
+    } else {
+        for (id, (shard, minishard)) in all {
+            (*shard, *minishard) = split(sharding, murmur(id >> sharding.preshift));
+        }
+    }
+    Ok(())
+}

@@ -1,0 +1,168 @@
+//! Lookup, the whole-shard check and settling.
+
+use crate::runner::{bytes, numbers, pass, touched, Measure};
+use bench::plain::shards as plain;
+use coronagamba::{Shard, Sharding};
+use reference::settle::settled_form;
+use std::hint::black_box;
+
+/// A settled shard of number 0, with the ids that it lists in random order.
+struct Sample {
+    sharding: Sharding,
+    ids: Vec<u64>,
+    file: Vec<u8>,
+}
+
+/// A shard of this many chunks of `length` bytes each.
+fn sample(hash: u8, minishard_bits: u8, chunks: usize, length: usize) -> Sample {
+    let sharding = reference::sharding::Sharding {
+        preshift: 0,
+        hash,
+        minishard_bits,
+        shard_bits: 0,
+    };
+    let ids = numbers(chunks);
+    let body = bytes(length);
+    let content: Vec<(u64, &[u8])> = ids.iter().map(|id| (*id, &body[..])).collect();
+    Sample {
+        sharding: Sharding {
+            preshift: 0,
+            hash,
+            minishard_bits,
+            shard_bits: 0,
+        },
+        file: settled_form(&sharding, &content),
+        ids,
+    }
+}
+
+impl Sample {
+    /// The library's view of it.
+    fn open(&self) -> Shard<'_> {
+        Shard::open(self.sharding, 0, black_box(&self.file))
+    }
+
+    /// The shard index.
+    fn shard_index(&self) -> &[u8] {
+        &self.file[..16 << self.sharding.minishard_bits]
+    }
+
+    /// The indexes of the minishards, as the shard index places them.
+    fn indexes(&self) -> Vec<&[u8]> {
+        let shard_index = self.shard_index();
+        let data = &self.file[shard_index.len()..];
+        let number = |bytes: &[u8]| u64::from_le_bytes(bytes.try_into().expect("8 bytes"));
+        shard_index
+            .chunks_exact(16)
+            .map(|entry| &data[number(&entry[..8]) as usize..number(&entry[8..]) as usize])
+            .collect()
+    }
+}
+
+/// Lookups of listed ids; the limit loads the index of each id's minishard.
+fn lookups(name: &str, sample: &Sample, count: usize, bar: Option<f64>) {
+    let shard = sample.open();
+    let ids: Vec<u64> = sample.ids.iter().cycle().take(count).copied().collect();
+    let measure = Measure {
+        name,
+        operations: ids.len(),
+        bar,
+    };
+    let indexes = sample.indexes();
+    let minishard = |id: &u64| sample.sharding.place(*id).unwrap_or_default().minishard;
+    let asked: Vec<&[u8]> = ids
+        .iter()
+        .map(|id| indexes[minishard(id) as usize])
+        .collect();
+    let library = |id: &u64| shard.lookup(*id).unwrap_or_default().start;
+    let plain = |id: &u64| {
+        let place = plain::lookup(&sample.sharding, 0, black_box(&sample.file), *id);
+        place.unwrap_or_default().0
+    };
+    measure.run_beside(
+        || ids.iter().fold(0, |all, id| all ^ library(id)),
+        || ids.iter().fold(0, |all, id| all ^ plain(id)),
+        || asked.iter().fold(0, |all, index| all ^ pass(index)),
+    );
+}
+
+/// The whole-shard check, timed by chunk; the limit loads all indexes.
+fn checks(name: &str, sample: &Sample, bar: Option<f64>) {
+    let measure = Measure {
+        name,
+        operations: sample.ids.len(),
+        bar,
+    };
+    let indexes = sample.indexes();
+    measure.run_beside(
+        || u64::from(sample.open().check().is_ok()),
+        || u64::from(plain::check(&sample.sharding, 0, black_box(&sample.file)).is_ok()),
+        || {
+            let all = pass(sample.shard_index());
+            indexes.iter().fold(all, |all, index| all ^ pass(index))
+        },
+    );
+}
+
+/// Settling, timed by KiB of output; the limit copies the file.
+fn settling(name: &str, sample: &Sample, bar: Option<f64>) {
+    let length = sample.file.len();
+    let (mut ours, mut theirs) = (touched(length), touched(length));
+    let measure = Measure {
+        name,
+        operations: length >> 10,
+        bar,
+    };
+    let mut copied = touched(length);
+    measure.run_beside(
+        || sample.open().settle(black_box(&mut ours)).unwrap_or(0) as u64,
+        || {
+            let file = black_box(&sample.file);
+            plain::settle(&sample.sharding, 0, file, black_box(&mut theirs)).unwrap_or(0) as u64
+        },
+        || {
+            black_box(&mut copied[..]).copy_from_slice(black_box(&sample.file));
+            u64::from(copied[length / 2])
+        },
+    );
+    // The sample is settled, so its form is itself.
+    assert!(ours == sample.file, "{name}: the library's bytes");
+    assert!(theirs == sample.file, "{name}: the plain bytes");
+}
+
+/// Two MiB of chunks, which fit the caches, in many minishards and in one.
+fn small_shards() {
+    let short = sample(1, 9, 1 << 15, 64);
+    lookups("lookup, 64 chunks in the minishard", &short, 1 << 12, None);
+    checks("check, 64 in a minishard, a chunk", &short, None);
+    settling("settling, 2 MiB of 64 bytes, a KiB", &short, None);
+    let long = sample(0, 0, 1 << 15, 64);
+    lookups("lookup, identity, 32768 chunks", &long, 10, None);
+    checks("check, identity, a chunk", &long, None);
+}
+
+/// 256 MiB in a million chunks.
+fn many_chunks() {
+    let many = sample(1, 10, 1 << 20, 256);
+    lookups(
+        "lookup, 2^20 chunks, 1024 in a minishard",
+        &many,
+        1 << 11,
+        Some(1.3),
+    );
+    checks("check, 2^20 chunks, a chunk", &many, Some(1.3));
+    settling("settling, 2^20 of 256 bytes, a KiB", &many, Some(1.5));
+}
+
+/// 512 MiB in chunks of 64 KiB.
+fn large_chunks() {
+    let large = sample(1, 6, 1 << 13, 1 << 16);
+    settling("settling, 512 MiB of 64 KiB, a KiB", &large, Some(1.25));
+}
+
+/// Prints the lines.
+pub fn run() {
+    small_shards();
+    many_chunks();
+    large_chunks();
+}

@@ -1,0 +1,10 @@
+//! The parts, by what they ask about.
+
+pub mod bytes;
+pub mod card;
+pub mod grid;
+pub mod manifest;
+pub mod names;
+pub mod settle;
+pub mod shard;
+pub mod sharding;

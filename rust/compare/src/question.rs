@@ -1,0 +1,459 @@
+//! Questions in front of an input: how they are decoded, and written for
+//! samples.
+//!
+//! What a question is made of is mostly preceded by a byte that says how it is
+//! meant: as it stands, or as a choice among what the other numbers or the file
+//! allow, so that any bytes ask deep questions as well. With that byte, a
+//! specification takes 5 bytes, a volume 37, a cell 13, a number 9 and the
+//! length of an output 3.
+
+use reference::grid::{grid_size, key_bits, key_of, Cell, Volume};
+use reference::sharding::Sharding;
+use testkit::{manifests, shards, Rng};
+
+/// The longest answer for which a whole output is lent.
+pub const LONGEST_ANSWER: usize = 1 << 20;
+
+/// The front of any bytes, taken number by number.
+pub struct Reader<'a> {
+    rest: &'a [u8],
+}
+
+impl<'a> Reader<'a> {
+    pub fn new(bytes: &'a [u8]) -> Self {
+        Reader { rest: bytes }
+    }
+
+    /// The next bytes; those that are not there count as 0.
+    fn take<const N: usize>(&mut self) -> [u8; N] {
+        let (front, rest) = self.rest.split_at(N.min(self.rest.len()));
+        self.rest = rest;
+        std::array::from_fn(|i| front.get(i).copied().unwrap_or(0))
+    }
+
+    pub fn byte(&mut self) -> u8 {
+        let [byte] = self.take();
+        byte
+    }
+
+    pub fn number(&mut self) -> u64 {
+        u64::from_le_bytes(self.take())
+    }
+
+    fn words(&mut self) -> [u32; 3] {
+        std::array::from_fn(|_| u32::from_le_bytes(self.take()))
+    }
+
+    /// A specification as it stands, or brought into its limits.
+    pub fn sharding(&mut self) -> Sharding {
+        let [kind, preshift, hash, minishard_bits, shard_bits] = self.take();
+        let within = |field: u8, limit: u8| match kind % 2 {
+            0 => field,
+            _ => field % (limit + 1),
+        };
+        Sharding {
+            preshift: within(preshift, 63),
+            hash: within(hash, 1),
+            minishard_bits: within(minishard_bits, 12),
+            shard_bits: within(shard_bits, 32),
+        }
+    }
+
+    /// A volume as it stands, or with no extent of 0.
+    pub fn volume(&mut self) -> Volume {
+        let least = u32::from(self.byte() % 2);
+        Volume {
+            size: self.words().map(|extent| extent.max(least)),
+            chunk: self.words().map(|extent| extent.max(least)),
+            offset: self.words().map(|number| number as i32),
+        }
+    }
+
+    pub fn spot(&mut self) -> Spot {
+        Spot {
+            kind: self.byte(),
+            cell: self.words(),
+        }
+    }
+
+    /// All spots that are left.
+    pub fn spots(mut self) -> impl Iterator<Item = Spot> + use<'a> {
+        std::iter::from_fn(move || (!self.rest.is_empty()).then(|| self.spot()))
+    }
+
+    pub fn choice(&mut self) -> Choice {
+        Choice {
+            kind: self.byte(),
+            number: self.number(),
+        }
+    }
+
+    pub fn room(&mut self) -> Room {
+        Room {
+            kind: self.byte(),
+            number: u16::from_le_bytes(self.take()),
+        }
+    }
+
+    /// What is left.
+    pub fn rest(self) -> &'a [u8] {
+        self.rest
+    }
+}
+
+/// A sample while it is written.
+#[derive(Default)]
+pub struct Writer {
+    bytes: Vec<u8>,
+}
+
+impl Writer {
+    pub fn new() -> Self {
+        Writer::default()
+    }
+
+    pub fn byte(mut self, byte: u8) -> Self {
+        self.bytes.push(byte);
+        self
+    }
+
+    pub fn number(self, number: u64) -> Self {
+        self.rest(&number.to_le_bytes())
+    }
+
+    fn words(self, words: [u32; 3]) -> Self {
+        self.rest(&words.map(u32::to_le_bytes).concat())
+    }
+
+    pub fn sharding(self, sharding: &Sharding) -> Self {
+        self.byte(0)
+            .byte(sharding.preshift)
+            .byte(sharding.hash)
+            .byte(sharding.minishard_bits)
+            .byte(sharding.shard_bits)
+    }
+
+    pub fn volume(self, volume: &Volume) -> Self {
+        self.byte(0)
+            .words(volume.size)
+            .words(volume.chunk)
+            .words(volume.offset.map(|number| number as u32))
+    }
+
+    pub fn spot(self, spot: Spot) -> Self {
+        self.byte(spot.kind).words(spot.cell)
+    }
+
+    pub fn choice(self, choice: Choice) -> Self {
+        self.byte(choice.kind).number(choice.number)
+    }
+
+    pub fn room(self, room: Room) -> Self {
+        self.byte(room.kind).rest(&room.number.to_le_bytes())
+    }
+
+    pub fn rest(mut self, bytes: &[u8]) -> Self {
+        self.bytes.extend(bytes);
+        self
+    }
+
+    pub fn finish(self) -> Vec<u8> {
+        self.bytes
+    }
+}
+
+/// A cell, to be chosen on each axis.
+pub struct Spot {
+    kind: u8,
+    cell: Cell,
+}
+
+impl Spot {
+    /// This cell, brought into the grid on each axis, or the last one there.
+    pub fn inside(rng: &mut Rng, cell: Cell) -> Self {
+        let kind = *rng.pick(&[0b010101, 0b010110, 0b011001, 0b100101]);
+        Spot { kind, cell }
+    }
+
+    /// This cell as it stands, or mostly inside the grid.
+    pub fn draw(rng: &mut Rng, cell: Cell) -> Self {
+        let mut kind = 0;
+        if rng.once_in(2) {
+            for _ in 0..3 {
+                kind = kind << 2 | rng.pick(&[0, 1, 1, 1, 1, 1, 2, 2, 2, 3]);
+            }
+        }
+        Spot { kind, cell }
+    }
+
+    /// On each axis the number as it stands, one inside the grid, the last
+    /// one, or the first beyond it.
+    pub fn cell(&self, volume: &Volume) -> Cell {
+        let Ok(grid) = grid_size(volume) else {
+            return self.cell;
+        };
+        std::array::from_fn(|axis| match self.kind >> (2 * axis) & 3 {
+            0 => self.cell[axis],
+            1 => self.cell[axis] % grid[axis],
+            2 => grid[axis] - 1,
+            _ => grid[axis],
+        })
+    }
+}
+
+/// A number, to be chosen among those that fit the rest of the question.
+#[derive(Clone, Copy)]
+pub struct Choice {
+    kind: u8,
+    number: u64,
+}
+
+impl Choice {
+    /// This number as it stands.
+    pub fn plain(number: u64) -> Self {
+        Choice { kind: 0, number }
+    }
+
+    /// This number as it stands, mostly.
+    pub fn draw_near(rng: &mut Rng, number: u64) -> Self {
+        if rng.once_in(8) {
+            Choice::draw(rng, number)
+        } else {
+            Choice::plain(number)
+        }
+    }
+
+    /// This number as it stands, half of the time, else another choice.
+    pub fn draw(rng: &mut Rng, number: u64) -> Self {
+        if rng.once_in(2) {
+            return Choice::plain(number);
+        }
+        Choice {
+            kind: *rng.pick(&[0, 1, 1, 2, 3, 3]),
+            number: rng.edge_u64(),
+        }
+    }
+
+    /// The number as it stands, one below the limit, the limit or a little
+    /// more, or the one that is made elsewhere.
+    fn below(&self, limit: u64, made: impl FnOnce() -> Option<u64>) -> u64 {
+        match self.kind % 4 {
+            1 => self.number % limit.max(1),
+            2 => limit.saturating_add(self.number % 4),
+            3 => made().unwrap_or(self.number),
+            _ => self.number,
+        }
+    }
+
+    /// A key: as it stands, one of the grid's bits, just beyond them, or that
+    /// of a cell.
+    pub fn key(&self, volume: &Volume) -> u64 {
+        let Ok(grid) = grid_size(volume) else {
+            return self.number;
+        };
+        let bits = key_bits(grid) as u32;
+        let limit = 1u64.checked_shl(bits).unwrap_or(u64::MAX);
+        self.below(limit, || {
+            let coordinate = |axis: usize| (self.number >> (21 * axis)) as u32 % grid[axis];
+            key_of(volume, std::array::from_fn(coordinate)).ok()
+        })
+    }
+
+    /// A shard number: as it stands, one of the specification's, just beyond
+    /// them, or that of an id that the file lists.
+    pub fn shard(&self, sharding: &Sharding, file: &[u8]) -> u64 {
+        if sharding.allowed().is_err() {
+            return self.number;
+        }
+        self.below(sharding.shard_count(), || {
+            let id = shards::listed_id(sharding, file, self.number)?;
+            Some(sharding.place(id).shard)
+        })
+    }
+
+    /// A minishard number, likewise.
+    pub fn minishard(&self, sharding: &Sharding, file: &[u8]) -> u64 {
+        if sharding.allowed().is_err() {
+            return self.number;
+        }
+        self.below(sharding.minishard_count(), || {
+            let id = shards::listed_id(sharding, file, self.number)?;
+            Some(sharding.place(id).minishard)
+        })
+    }
+
+    /// An id: as it stands, one that the file lists, or the next one to it.
+    pub fn id(&self, sharding: &Sharding, file: &[u8]) -> u64 {
+        let step = match self.kind % 4 {
+            0 => return self.number,
+            2 if self.number.count_ones().is_multiple_of(2) => 1,
+            2 => u64::MAX,
+            _ => 0,
+        };
+        let listed = shards::listed_id(sharding, file, self.number);
+        listed.map_or(self.number, |id| id.wrapping_add(step))
+    }
+
+    /// A number of this many: as it stands, one of them, or just beyond them.
+    pub fn of(&self, count: u64) -> u64 {
+        self.below(count, || count.checked_sub(1))
+    }
+
+    /// A level of the manifest.
+    pub fn level(&self, bytes: &[u8]) -> u64 {
+        self.of(u64::from(manifests::levels_said(bytes)))
+    }
+
+    /// A node of a level of the manifest.
+    pub fn node(&self, bytes: &[u8], level: u64) -> u64 {
+        self.of(u64::from(manifests::nodes_said(bytes, level)))
+    }
+}
+
+/// How long an output to lend is.
+#[derive(Clone, Copy)]
+pub struct Room {
+    kind: u8,
+    number: u16,
+}
+
+impl Room {
+    /// Any length, mostly around the needed one.
+    pub fn draw(rng: &mut Rng) -> Self {
+        Room {
+            kind: rng.below(4) as u8,
+            number: rng.edge(7) as u16,
+        }
+    }
+
+    /// A length for an answer of this length: any, just this one, a little
+    /// less, or more. Where the answer is very long, it is too short.
+    pub fn length(&self, needed: usize) -> usize {
+        let number = usize::from(self.number);
+        match self.kind % 4 {
+            _ if needed > LONGEST_ANSWER => number,
+            1 => needed,
+            2 => needed.saturating_sub(1 + number % 8),
+            3 => needed + number % 64,
+            _ => number,
+        }
+    }
+}
+
+#[cfg(test)]
+mod tests {
+    use super::*;
+    use testkit::places;
+
+    #[test]
+    fn missing_bytes_count_as_0() {
+        let mut reader = Reader::new(&[5, 1]);
+        assert_eq!(reader.number(), 0x0105);
+        assert_eq!((reader.byte(), reader.number()), (0, 0));
+        assert_eq!(reader.rest(), []);
+        assert_eq!(Reader::new(&[]).sharding().allowed(), Ok(()));
+    }
+
+    #[test]
+    fn what_is_written_is_read() {
+        let mut rng = Rng::new(1);
+        for _ in 0..10_000 {
+            let (sharding, volume) = (places::wild_sharding(&mut rng), places::volume(&mut rng));
+            let (cell, number) = (places::cell(&mut rng, &volume), rng.edge_u64());
+            let bytes = Writer::new()
+                .sharding(&sharding)
+                .volume(&volume)
+                .spot(Spot { kind: 0, cell })
+                .choice(Choice::plain(number))
+                .room(Room {
+                    kind: 1,
+                    number: 77,
+                })
+                .rest(b"file")
+                .finish();
+            assert_eq!(bytes.len(), 5 + 37 + 13 + 9 + 3 + 4);
+            let mut reader = Reader::new(&bytes);
+            assert_eq!(reader.sharding(), sharding);
+            assert_eq!(reader.volume(), volume);
+            assert_eq!(reader.spot().cell(&volume), cell);
+            assert_eq!(reader.choice().key(&volume), number);
+            assert_eq!(reader.room().length(9), 9);
+            assert_eq!(reader.rest(), b"file");
+        }
+    }
+
+    #[test]
+    fn specifications_and_volumes_brought_into_limits() {
+        let mut rng = Rng::new(2);
+        for _ in 0..10_000 {
+            let mut bytes = rng.bytes(5);
+            bytes[0] = 1;
+            assert_eq!(Reader::new(&bytes).sharding().allowed(), Ok(()));
+        }
+        assert!(grid_size(&Reader::new(&[1]).volume()).is_ok());
+    }
+
+    /// Grid 5, 3, 1 has five key bits; its keys are those of the scope's cases.
+    const SMALL: Volume = Volume {
+        size: [5, 3, 1],
+        chunk: [1; 3],
+        offset: [0; 3],
+    };
+
+    #[test]
+    fn cells_and_keys_are_chosen() {
+        let spot = |kind| Spot {
+            kind,
+            cell: [14, 14, 14],
+        };
+        assert_eq!(spot(0).cell(&SMALL), [14, 14, 14]);
+        assert_eq!(spot(0b010101).cell(&SMALL), [4, 2, 0]);
+        assert_eq!(spot(0b101010).cell(&SMALL), [4, 2, 0]);
+        assert_eq!(spot(0b111111).cell(&SMALL), [5, 3, 1]);
+        let key = |kind, number| Choice { kind, number }.key(&SMALL);
+        assert_eq!(key(0, 70), 70);
+        assert_eq!(key(1, 70), 6);
+        assert_eq!(key(2, 70), 34);
+        assert_eq!(key(3, 9 | 5 << 21), 24);
+    }
+
+    #[test]
+    fn ids_shards_and_minishards_are_chosen() {
+        let sharding = Sharding {
+            preshift: 0,
+            hash: 0,
+            minishard_bits: 1,
+            shard_bits: 2,
+        };
+        // Minishard 1 lists ids 13 and 21, which belong to shard 2.
+        let rows = [0, 0, 0, 48, 13, 8, 0, 0, 0, 0u64];
+        let file: Vec<u8> = rows.into_iter().flat_map(u64::to_le_bytes).collect();
+        let choice = |kind, number| Choice { kind, number };
+        let ids = [(0, 6), (1, 6), (1, 7), (3, 7), (2, 3), (2, 1)];
+        let ids = ids.map(|(kind, number)| choice(kind, number).id(&sharding, &file));
+        assert_eq!(ids, [6, 13, 21, 21, 22, 20]);
+        let shards = [(0, 9), (1, 9), (2, 9), (3, 9)];
+        let shards = shards.map(|(kind, number)| choice(kind, number).shard(&sharding, &file));
+        assert_eq!(shards, [9, 1, 5, 2]);
+        let minishards = [(0, 9), (1, 9), (2, 9), (3, 9)];
+        let minishards =
+            minishards.map(|(kind, number)| choice(kind, number).minishard(&sharding, &file));
+        assert_eq!(minishards, [9, 1, 3, 1]);
+    }
+
+    #[test]
+    fn rooms_are_around_the_need_and_never_large() {
+        let room = |kind, number| Room { kind, number };
+        assert_eq!(room(0, 500).length(20), 500);
+        assert_eq!(room(1, 500).length(20), 20);
+        assert_eq!(room(2, 0).length(20), 19);
+        assert_eq!(room(2, 500).length(2), 0);
+        assert_eq!(room(3, 65).length(20), 21);
+        for kind in 0..=u8::MAX {
+            for needed in [0, 1, LONGEST_ANSWER, LONGEST_ANSWER + 1, 1 << 30] {
+                let length = room(kind, u16::MAX).length(needed);
+                assert!(length <= LONGEST_ANSWER + 63, "{kind} {needed}");
+            }
+        }
+    }
+}

@@ -1,0 +1,40 @@
+//! Which sharding specifications are allowed.
+
+use coronagamba::Sharding;
+
+/// The limits of the scope's table, each field by itself.
+#[test]
+fn every_value_of_each_field() {
+    for value in 0..=u8::MAX {
+        let allowed = |sharding: Sharding| sharding.allowed().is_ok();
+        let zero = Sharding {
+            preshift: 0,
+            hash: 0,
+            minishard_bits: 0,
+            shard_bits: 0,
+        };
+        let preshift = Sharding {
+            preshift: value,
+            ..zero
+        };
+        let hash = Sharding {
+            hash: value,
+            ..zero
+        };
+        let minishard_bits = Sharding {
+            minishard_bits: value,
+            ..zero
+        };
+        let shard_bits = Sharding {
+            shard_bits: value,
+            ..zero
+        };
+        assert_eq!(allowed(preshift), value <= 63);
+        assert_eq!(
+            allowed(hash),
+            [Sharding::IDENTITY, Sharding::MURMUR].contains(&value)
+        );
+        assert_eq!(allowed(minishard_bits), value <= 12);
+        assert_eq!(allowed(shard_bits), value <= 32);
+    }
+}

@@ -1,0 +1,175 @@
+//! `check`.
+
+use std::ffi::OsString;
+use std::path::Path;
+
+use coronagamba::Sharding;
+
+use super::Command;
+use crate::args::{flag, Args};
+use crate::fault::Fault;
+use crate::folder::{is_folder, list, single, Input};
+use crate::help;
+use crate::json::Object;
+use crate::memory::Room;
+use crate::presence::Presence;
+use crate::report::{counted, shown, Report};
+use crate::round::{self, and, passed_over, Aside, Outcome, Verdict};
+use crate::settings;
+
+/// The command.
+pub const COMMAND: Command = Command {
+    name: "check",
+    help: help::CHECK,
+    options: &[settings::OPTIONS, round::OPTIONS, &[flag("--json")]],
+    run,
+};
+
+fn run(args: &Args, report: &mut Report) -> Result<(), Fault> {
+    let sharding = settings::of_shards(args)?.sharding;
+    let workers = round::workers(args, 1)?;
+    let paths = args.at_least_one("PATH")?;
+    if paths.len() > 1 && args.flag("--shard") {
+        return Err(Fault::wrong_use("--shard is for one file"));
+    }
+    let found = gather(args, &sharding, paths, report)?;
+    let mut summary = Summary {
+        others: found.others,
+        ..Summary::default()
+    };
+    let with_summary = !found.folders.is_empty() || found.inputs.len() > 1;
+    let work = |room: &mut Room, input| check(&sharding, room, input);
+    let tell = |outcome, report: &mut Report| summary.tell(&sharding, outcome, report);
+    round::go(workers, "checked", found.inputs, work, tell, report)?;
+    let mut known = found.folders.iter().flatten();
+    known.try_for_each(|presence| presence.tell(report))?;
+    match summary.total() {
+        0 => Ok(()),
+        _ if with_summary => summary.print(report),
+        _ => Ok(()),
+    }
+}
+
+/// What the paths lead to.
+#[derive(Default)]
+struct Found {
+    inputs: Vec<Input>,
+    others: u64,
+    /// Which shards each folder has, where that can be told.
+    folders: Vec<Option<Presence>>,
+}
+
+/// All shards that the paths lead to, in their order.
+fn gather(
+    args: &Args,
+    sharding: &Sharding,
+    paths: &[OsString],
+    report: &mut Report,
+) -> Result<Found, Fault> {
+    let mut found = Found::default();
+    for path in paths.iter().map(Path::new) {
+        if !is_folder(path) {
+            found.inputs.push(single(args, sharding, path));
+            continue;
+        }
+        round::no_shard_option(args, path)?;
+        let listing = list(sharding, path);
+        let others = listing.others;
+        let presence = Presence::of(sharding, path, &listing);
+        let inputs = listing.inputs(path);
+        if inputs.is_empty() {
+            round::tell_no_shards(path, others, report)?;
+        } else {
+            found.inputs.extend(inputs);
+            found.others += others;
+            found.folders.push(presence);
+        }
+    }
+    Ok(found)
+}
+
+/// What is told of a sound shard.
+struct Sound {
+    chunks: u64,
+    bytes: usize,
+}
+
+/// Checks one shard.
+fn check(sharding: &Sharding, room: &mut Room, input: Input) -> Outcome<Verdict<Sound>> {
+    let path = input.path;
+    let number = match input.number {
+        Ok(number) => number,
+        Err(trouble) => return Verdict::from(trouble).of(path, 0),
+    };
+    let checked = round::check(sharding, number, &path, room);
+    let bytes = room.file.len();
+    let answer = checked.map(|chunks| Sound { chunks, bytes });
+    Verdict::from(answer).of(path, bytes)
+}
+
+/// Counts over all shards.
+#[derive(Default)]
+struct Summary {
+    sound: u64,
+    aside: Aside,
+    others: u64,
+}
+
+impl Summary {
+    fn tell(
+        &mut self,
+        sharding: &Sharding,
+        outcome: Outcome<Verdict<Sound>>,
+        report: &mut Report,
+    ) -> Result<(), Fault> {
+        let path = outcome.path.clone();
+        let Some(Sound { chunks, bytes }) = self.aside.answer(sharding, outcome, report)? else {
+            return Ok(());
+        };
+        self.sound += 1;
+        if report.json() {
+            let object = Object::new().path(&path).text("result", "sound");
+            report.object(
+                object
+                    .number("chunks", chunks)
+                    .number("bytes", bytes as u64),
+            )
+        } else {
+            let path = shown(&path);
+            let chunks = counted(chunks, "chunk");
+            report.line(format_args!("{path}: sound, {chunks}, {bytes} bytes"))
+        }
+    }
+
+    fn total(&self) -> u64 {
+        self.sound + self.aside.total()
+    }
+
+    /// `200 shards: 196 sound, 4 refused`
+    fn print(&self, report: &mut Report) -> Result<(), Fault> {
+        let Aside {
+            refused,
+            failed,
+            misnamed,
+        } = self.aside;
+        if report.json() {
+            let object = Object::new().text("result", "summary");
+            let object = object.number("shards", self.total());
+            let object = object
+                .number("sound", self.sound)
+                .number("refused", refused);
+            let object = object
+                .number("not_read", failed)
+                .number("misnamed", misnamed);
+            return report.object(object.number("other_files", self.others));
+        }
+        report.line(format_args!(
+            "{}: {} sound, {refused} refused{}{}{}",
+            counted(self.total(), "shard"),
+            self.sound,
+            and(failed, "not read"),
+            and(misnamed, "misnamed"),
+            passed_over(self.others),
+        ))
+    }
+}

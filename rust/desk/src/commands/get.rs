@@ -1,0 +1,124 @@
+//! `get`: the bytes of one chunk.
+
+use std::fs;
+use std::io::ErrorKind;
+use std::path::{Path, PathBuf};
+
+use coronagamba::{Shard, Sharding};
+
+use super::{cell_of, Command};
+use crate::args::{flag, number, value, Args};
+use crate::diagnosis;
+use crate::fault::{Fault, Refused, Status};
+use crate::files::{read_whole, Inputs};
+use crate::help;
+use crate::naming::number_of_file;
+use crate::output::{remove_stale_parts_of, write_new};
+use crate::report::{complaint, shown, Report};
+use crate::settings;
+
+/// The command.
+pub const COMMAND: Command = Command {
+    name: "get",
+    help: help::GET,
+    options: &[
+        settings::OPTIONS,
+        &[
+            value("--cell"),
+            value("--shard"),
+            value("--out"),
+            flag("--force"),
+        ],
+    ],
+    run,
+};
+
+fn run(args: &Args, report: &mut Report) -> Result<(), Fault> {
+    let (asked, sharding, id) = asked(args)?;
+    let (path, number) = shard_file(args, &sharding, asked, id)?;
+    if asked.is_dir() && is_missing(&path) {
+        tell_missing(report, asked, &path, id);
+        return Ok(());
+    }
+    let out = args.value("--out").map(Path::new);
+    if let Some(out) = out {
+        let inputs = [Some(path.as_path()), args.value("--card").map(Path::new)];
+        let inputs = Inputs::of(inputs.into_iter().flatten());
+        inputs.spare(out)?;
+        remove_stale_parts_of(out, &inputs);
+    }
+    let file = read_whole(&path)?;
+    let chunk = Shard::open(sharding, number, &file).chunk(id);
+    let chunk = chunk.map_err(|refusal| {
+        let diagnosis = diagnosis::of_lookup(&sharding, number, &file, id, refusal);
+        Refused::file(&path, refusal, diagnosis)
+    })?;
+    match out {
+        Some(out) => write_new(out, args.flag("--force"), chunk),
+        None => report.bytes(chunk),
+    }
+}
+
+/// The path, the sharding and the id asked for: the id itself, or the key of a
+/// cell.
+fn asked(args: &Args) -> Result<(&Path, Sharding, u64), Fault> {
+    let Some(word) = args.value("--cell") else {
+        let [path, id] = args.exactly(["PATH", "ID (or --cell X,Y,Z)"])?;
+        let id = number(id, "ID")?;
+        return Ok((Path::new(path), settings::of_shards(args)?.sharding, id));
+    };
+    let [path] = args.exactly(["PATH"])?;
+    let cell = cell_of(word, "--cell")?;
+    let (sharding, volume) = settings::of_cells(args)?;
+    let key = volume.key(cell).map_err(|refusal| {
+        let diagnosis = diagnosis::of_cell(&volume, cell, refusal);
+        Refused::asked(
+            format!("cell {}", shown(Path::new(word))),
+            refusal,
+            diagnosis,
+        )
+    })?;
+    Ok((Path::new(path), sharding, key))
+}
+
+/// The shard file and its number. In a folder it is the id's own.
+fn shard_file(
+    args: &Args,
+    sharding: &Sharding,
+    path: &Path,
+    id: u64,
+) -> Result<(PathBuf, u64), Fault> {
+    if !path.is_dir() {
+        let number = number_of_file(args, sharding, path)?;
+        return Ok((path.to_path_buf(), number));
+    }
+    if args.flag("--shard") {
+        return Err(Fault::wrong_use(format!(
+            "--shard is for one file; {} is a folder, whose files say it by their names",
+            shown(path)
+        )));
+    }
+    let subject = || format!("id {id}");
+    let refused = |refusal| Refused::asked(subject(), refusal, diagnosis::of_sharding(sharding));
+    let number = sharding.place(id).map_err(refused)?.shard;
+    let name = sharding.shard_name(number).map_err(refused)?;
+    Ok((path.join(name), number))
+}
+
+/// Whether there is nothing under this name, not even a link that leads
+/// nowhere.
+fn is_missing(path: &Path) -> bool {
+    matches!(fs::symlink_metadata(path), Err(error) if error.kind() == ErrorKind::NotFound)
+}
+
+/// Tells that a deposit lacks an id's shard: to whoever asks for a chunk this
+/// is a plain no, and no error of the system.
+fn tell_missing(report: &mut Report, folder: &Path, file: &Path, id: u64) {
+    report.note(Status::No);
+    let name = file.file_name().unwrap_or_default();
+    complaint(format_args!(
+        "{}: the deposit has no {}, in which id {id} would stand",
+        shown(folder),
+        shown(Path::new(name))
+    ));
+}

@@ -1,0 +1,729 @@
+//! `same`.
+
+use std::collections::BTreeMap;
+use std::ffi::OsString;
+use std::fs;
+use std::path::{Path, PathBuf};
+
+use coronagamba::{Shard, Sharding};
+
+use super::Command;
+use crate::args::{flag, Args};
+use crate::difference::{first_difference, Difference, Kind, Side};
+use crate::fault::{Fault, Refused, Status, Subject};
+use crate::files::{length_to_read, one_place, read_into};
+use crate::folder::{is_folder, list, single, Input, Trouble};
+use crate::help;
+use crate::json::Object;
+use crate::memory::{front, Lengths, Room};
+use crate::report::{complaint, counted, refusal_members, shown, Report};
+use crate::round::{self, and, Outcome};
+use crate::settings;
+
+/// The command.
+pub const COMMAND: Command = Command {
+    name: "same",
+    help: help::SAME,
+    options: &[settings::OPTIONS, round::OPTIONS, &[flag("--json")]],
+    run,
+};
+
+fn run(args: &Args, report: &mut Report) -> Result<(), Fault> {
+    let sharding = settings::of_shards(args)?.sharding;
+    let workers = round::workers(args, 1)?;
+    let paths = args.exactly(["PATH1", "PATH2"])?.map(Path::new);
+    let mut summary = Summary::default();
+    let pairs = match paths.map(is_folder) {
+        [true, true] => {
+            round::no_shard_option(args, paths[0])?;
+            folders(&sharding, paths, &mut summary, report)?
+        }
+        [false, false] => vec![files(args, &sharding, paths)?],
+        _ => return Err(unlike(paths)),
+    };
+    if one_place(paths[0], paths[1]) {
+        complaint("note: the first and the second are one and the same on the disk");
+    }
+    let work = |room: &mut Room, pair: Pair| pair.compare(&sharding, room);
+    let tell = |outcome, report: &mut Report| summary.tell(&sharding, outcome, report);
+    round::go(workers, "compared", pairs, work, tell, report)?;
+    summary.print(report)
+}
+
+/// One path is that of a folder, the other is not, or leads nowhere.
+fn unlike(paths: [&Path; 2]) -> Fault {
+    for path in paths {
+        if let Err(error) = fs::metadata(path) {
+            return Fault::system(path, "read", error);
+        }
+    }
+    Fault::wrong_use("one is a folder, the other is not")
+}
+
+/// The files of one name in two folders, or the two files that were named.
+struct Pair {
+    name: OsString,
+    sides: Sides,
+}
+
+/// On which sides there is a file.
+enum Sides {
+    Both([Input; 2]),
+    Only(Side, Input),
+}
+
+/// All shards of either folder. The summary learns what else bears on the
+/// answer.
+fn folders(
+    sharding: &Sharding,
+    paths: [&Path; 2],
+    summary: &mut Summary,
+    report: &mut Report,
+) -> Result<Vec<Pair>, Fault> {
+    let mut union: BTreeMap<OsString, Sides> = BTreeMap::new();
+    for (side, path) in Side::BOTH.into_iter().zip(paths) {
+        let listing = list(sharding, path);
+        // Of a folder that is not known to its end, nothing can be said to be
+        // missing.
+        if let Some(fault) = listing.broken {
+            return Err(fault);
+        }
+        if listing.shards.is_empty() {
+            summary.bare += 1;
+            round::tell_no_shards(path, listing.others, report)?;
+        }
+        summary.strays[side as usize] = listing.numbers(sharding).len() < listing.shards.len();
+        for input in listing.shards {
+            let name = input.path.file_name().unwrap_or_default().to_os_string();
+            let sides = match union.remove(&name) {
+                Some(Sides::Only(Side::First, first)) => Sides::Both([first, input]),
+                _ => Sides::Only(side, input),
+            };
+            union.insert(name, sides);
+        }
+    }
+    let pair = |(name, sides)| Pair { name, sides };
+    Ok(union.into_iter().map(pair).collect())
+}
+
+/// Two files, which must be copies of one shard.
+fn files(args: &Args, sharding: &Sharding, paths: [&Path; 2]) -> Result<Pair, Fault> {
+    let sides = paths.map(|path| single(args, sharding, path));
+    let name = match (&sides[0].number, &sides[1].number) {
+        (Ok(first), Ok(second)) if first != second => {
+            return Err(Fault::wrong_use(format!(
+                "these are shards {first} and {second}; copies of one shard can be compared"
+            )))
+        }
+        (Ok(number), _) | (_, Ok(number)) => sharding.shard_name(*number).ok(),
+        _ => None,
+    };
+    let first = paths[0].file_name().unwrap_or_default();
+    Ok(Pair {
+        name: name.map_or_else(|| first.to_os_string(), OsString::from),
+        sides: Sides::Both(sides),
+    })
+}
+
+/// What came of a pair.
+enum Comparison {
+    Same,
+    /// The first difference, where there was memory to look for it.
+    Different(Option<Difference>),
+    /// Only this side has the shard; it is sound and lists so many chunks.
+    Only(Side, u64),
+    /// Refused, not read, misnamed.
+    Unknown(Vec<Unread>),
+}
+
+/// A file that could not be compared.
+struct Unread {
+    side: Side,
+    path: PathBuf,
+    trouble: Trouble,
+    /// Whether the other side has no file of the name.
+    only: bool,
+}
+
+impl Pair {
+    fn compare(self, sharding: &Sharding, room: &mut Room) -> Outcome<Comparison> {
+        let mut read = 0;
+        let verdict = match self.sides {
+            Sides::Both(inputs) => match [&inputs[0].number, &inputs[1].number] {
+                [&Ok(number), Ok(_)] => {
+                    let paths = inputs.map(|input| input.path);
+                    read = paths.iter().map(|path| length_to_read(path)).sum();
+                    Task {
+                        sharding: *sharding,
+                        number,
+                        paths,
+                    }
+                    .compare(room)
+                }
+                _ => Comparison::Unknown(unread(Side::BOTH.into_iter().zip(inputs), false)),
+            },
+            Sides::Only(side, mut input) => {
+                read = length_to_read(&input.path);
+                match judged(sharding, &mut input, room) {
+                    Some(chunks) => Comparison::Only(side, chunks),
+                    None => Comparison::Unknown(unread([(side, input)], true)),
+                }
+            }
+        };
+        Outcome {
+            path: self.name.into(),
+            refused: verdict.is_refused(),
+            verdict,
+            read,
+        }
+    }
+}
+
+/// How many chunks a shard lists that has no other to be compared with. Where
+/// it is refused or not read, its trouble is noted.
+fn judged(sharding: &Sharding, input: &mut Input, room: &mut Room) -> Option<u64> {
+    let number = *input.number.as_ref().ok()?;
+    match round::check(sharding, number, &input.path, room) {
+        Ok(chunks) => Some(chunks),
+        Err(fault) => {
+            input.number = Err(Trouble::Fault(fault));
+            None
+        }
+    }
+}
+
+/// Those inputs that are in trouble.
+fn unread(inputs: impl IntoIterator<Item = (Side, Input)>, only: bool) -> Vec<Unread> {
+    let mut unread = Vec::new();
+    for (side, input) in inputs {
+        let path = input.path;
+        if let Err(trouble) = input.number {
+            unread.push(Unread {
+                side,
+                path,
+                trouble,
+                only,
+            });
+        }
+    }
+    unread
+}
+
+impl Comparison {
+    fn is_refused(&self) -> bool {
+        matches!(self, Comparison::Unknown(unread) if unread.iter().any(Unread::is_refused))
+    }
+
+    fn lacks_memory(&self) -> bool {
+        matches!(self, Comparison::Unknown(unread) if unread.iter().any(Unread::lacks_memory))
+    }
+}
+
+impl Unread {
+    fn is_refused(&self) -> bool {
+        matches!(self.trouble, Trouble::Fault(Fault::Refused(_)))
+    }
+
+    fn is_misnamed(&self) -> bool {
+        matches!(self.trouble, Trouble::Misnamed { .. })
+    }
+
+    fn lacks_memory(&self) -> bool {
+        matches!(&self.trouble, Trouble::Fault(fault) if fault.lacks_memory())
+    }
+
+    /// The beginning of its object in JSON.
+    fn object(&self, name: &Path) -> Object {
+        let object = Object::new().path(name).text("side", self.side.name());
+        match self.only && !self.is_misnamed() {
+            true => object.text("missing_in", self.side.other().name()),
+            false => object,
+        }
+    }
+}
+
+/// Two copies of one shard.
+struct Task {
+    sharding: Sharding,
+    number: u64,
+    paths: [PathBuf; 2],
+}
+
+impl Task {
+    fn compare(&self, room: &mut Room) -> Comparison {
+        room.attempt(|room| self.try_compare(room), Comparison::lacks_memory)
+    }
+
+    /// Compares the settled forms. The second file takes the first one's
+    /// place in memory.
+    fn try_compare(&self, room: &mut Room) -> Comparison {
+        let [first, second] = [0, 1].map(|side| length_to_read(&self.paths[side]));
+        let mut lengths = [first.max(second), first, second];
+        loop {
+            room.wait_for(lengths);
+            let settled = Side::BOTH.map(|side| self.settle(room, side, &mut lengths));
+            match settled {
+                [Ok(Some(first)), Ok(Some(second))] => return self.judge(room, [first, second]),
+                [Ok(_), Ok(_)] => {}
+                settled => return self.unknown(settled.map(Result::err)),
+            }
+        }
+    }
+
+    /// Settles the file of one side and gives the form's length. `None` where
+    /// others hold the memory for it; `lengths` says then how much it takes.
+    fn settle(
+        &self,
+        room: &mut Room,
+        side: Side,
+        lengths: &mut Lengths,
+    ) -> Result<Option<usize>, Fault> {
+        let path = &self.paths[side as usize];
+        read_into(path, &mut room.file)?;
+        let length = match self.shard(&room.file).settled_length() {
+            Ok(length) => length,
+            Err(refusal) => {
+                return Err(round::refused(
+                    path,
+                    &self.sharding,
+                    self.number,
+                    &room.file,
+                    refusal,
+                ))
+            }
+        };
+        let wanted = &mut lengths[1 + side as usize];
+        *wanted = length.max(*wanted);
+        if !room.may_have(*lengths) {
+            return Ok(None);
+        }
+        let buffer = match side {
+            Side::First => &mut room.form,
+            Side::Second => &mut room.other,
+        };
+        let form = front(buffer, length as usize)
+            .map_err(|error| Fault::system(path, "settled", error))?;
+        match self.shard(&room.file).settle(form) {
+            Ok(length) => Ok(Some(length)),
+            Err(refusal) => Err(round::refused(
+                path,
+                &self.sharding,
+                self.number,
+                &room.file,
+                refusal,
+            )),
+        }
+    }
+
+    fn shard<'a>(&self, file: &'a [u8]) -> Shard<'a> {
+        Shard::open(self.sharding, self.number, file)
+    }
+
+    /// The answer over two settled forms of these lengths.
+    fn judge(&self, room: &mut Room, [first, second]: [usize; 2]) -> Comparison {
+        let forms = [&room.form[..first], &room.other[..second]];
+        if forms[0] == forms[1] {
+            return Comparison::Same;
+        }
+        // The listings take the place of the file.
+        room.file = Vec::new();
+        Comparison::Different(first_difference(&self.sharding, self.number, forms))
+    }
+
+    fn unknown(&self, faults: [Option<Fault>; 2]) -> Comparison {
+        let mut unread = Vec::new();
+        for (side, fault) in Side::BOTH.into_iter().zip(faults) {
+            unread.extend(fault.map(|fault| Unread {
+                side,
+                path: self.paths[side as usize].clone(),
+                trouble: Trouble::Fault(fault),
+                only: false,
+            }));
+        }
+        Comparison::Unknown(unread)
+    }
+}
+
+/// Counts over all shards.
+#[derive(Default)]
+struct Summary {
+    same: u64,
+    different: u64,
+    refused: u64,
+    /// Shards that list chunks on the other side.
+    missing: [u64; 2],
+    /// Shards that only one side has and that list no chunk.
+    empty: u64,
+    not_read: u64,
+    misnamed: u64,
+    /// Which folders have a file that has the name of no shard. It may be any
+    /// shard that is missing there.
+    strays: [bool; 2],
+    /// Folders without shards. They may be no deposits.
+    bare: u64,
+}
+
+impl Summary {
+    fn tell(
+        &mut self,
+        sharding: &Sharding,
+        outcome: Outcome<Comparison>,
+        report: &mut Report,
+    ) -> Result<(), Fault> {
+        let name = outcome.path;
+        match outcome.verdict {
+            Comparison::Same => {
+                self.same += 1;
+                say(
+                    &name,
+                    "same",
+                    |object| object.text("result", "same"),
+                    report,
+                )
+            }
+            Comparison::Different(difference) => {
+                self.different += 1;
+                report.note(Status::No);
+                tell_different(&name, difference, report)
+            }
+            Comparison::Only(side, 0) => {
+                self.empty += 1;
+                tell_only(&name, side, 0, report)
+            }
+            Comparison::Only(side, chunks) => {
+                self.missing[side.other() as usize] += 1;
+                report.note(Status::No);
+                tell_only(&name, side, chunks, report)
+            }
+            Comparison::Unknown(unread) => {
+                self.count_unread(&unread);
+                unread
+                    .into_iter()
+                    .try_for_each(|unread| tell_unread(sharding, &name, unread, report))
+            }
+        }
+    }
+
+    /// A pair counts once, by the worst that came of its files.
+    fn count_unread(&mut self, unread: &[Unread]) {
+        if unread.iter().all(Unread::is_misnamed) {
+            self.misnamed += 1;
+        } else if unread.iter().all(Unread::is_refused) {
+            self.refused += 1;
+        } else {
+            self.not_read += 1;
+        }
+    }
+
+    /// The answer for the two as a whole, in one sentence.
+    fn print(&self, report: &mut Report) -> Result<(), Fault> {
+        let (answer, sentence) = self.sentence();
+        if !report.json() {
+            return report.line(sentence);
+        }
+        report.object(
+            Object::new()
+                .text("result", "summary")
+                .text("answer", answer)
+                .number("same", self.same)
+                .number("different", self.different)
+                .number("refused", self.refused)
+                .number("missing_in_first", self.missing[0])
+                .number("missing_in_second", self.missing[1])
+                .number("empty_on_one_side", self.empty)
+                .number("not_read", self.not_read)
+                .number("misnamed", self.misnamed)
+                .number("folders_without_shards", self.bare)
+                .text("sentence", &sentence),
+        )
+    }
+
+    /// The answer in a word and in a sentence.
+    fn sentence(&self) -> (&'static str, String) {
+        let (answer, beginning) = if self.differs() {
+            ("different", "The two do not hold the same chunks")
+        } else if self.is_unknown() {
+            (
+                "unknown",
+                "It is not known whether the two hold the same chunks",
+            )
+        } else {
+            return ("same", self.sentence_of_same());
+        };
+        let bare = match self.bare {
+            0 => String::new(),
+            bare => format!(", {} without shards", counted(bare, "folder")),
+        };
+        let [first, second] = self.missing;
+        let sentence = format!(
+            "{beginning}: {} same, {} different, {} refused, {first} missing in the first, \
+             {second} missing in the second{}{}{}{bare}.",
+            counted(self.same, "shard"),
+            self.different,
+            self.refused,
+            and(self.empty, "on one side only without chunks"),
+            and(self.not_read, "not read"),
+            and(self.misnamed, "misnamed"),
+        );
+        (answer, sentence)
+    }
+
+    /// Whether one side surely lists a chunk that the other does not list with
+    /// the same bytes.
+    fn differs(&self) -> bool {
+        let lacks = |side: Side| self.missing[side as usize] > 0 && !self.strays[side as usize];
+        self.different > 0 || Side::BOTH.into_iter().any(lacks)
+    }
+
+    /// Whether something was left unjudged.
+    fn is_unknown(&self) -> bool {
+        let [first, second] = self.missing;
+        self.refused + self.not_read + self.misnamed + self.bare + first + second > 0
+    }
+
+    fn sentence_of_same(&self) -> String {
+        let empty = match self.empty {
+            0 => String::new(),
+            empty => format!("; shards on one side only that list no chunk: {empty}"),
+        };
+        let shards = counted(self.same, "shard");
+        format!("The two hold the same chunks: {shards} compared, all the same{empty}.")
+    }
+}
+
+/// A shard's answer: a line, or an object with these members.
+fn say(
+    name: &Path,
+    line: &str,
+    members: impl FnOnce(Object) -> Object,
+    report: &mut Report,
+) -> Result<(), Fault> {
+    if report.json() {
+        report.object(members(Object::new().path(name)))
+    } else {
+        report.line(format_args!("{}: {line}", shown(name)))
+    }
+}
+
+fn tell_different(
+    name: &Path,
+    difference: Option<Difference>,
+    report: &mut Report,
+) -> Result<(), Fault> {
+    let Some(difference) = difference else {
+        let line = "different; there is no memory to look for the first id";
+        let members = |object: Object| {
+            let object = object.text("result", "different");
+            object.text("error", "no memory to look for the first id")
+        };
+        return say(name, line, members, report);
+    };
+    let members = |object: Object| {
+        let object = object.text("result", "different");
+        let object = object.number("id", difference.id);
+        match difference.kind {
+            Kind::OnlyIn(side) => object.text("only_in", side.name()),
+            Kind::Bytes { at, lengths } => object
+                .number("first_difference", at as u64)
+                .numbers("lengths", lengths.map(|length| length as u64)),
+        }
+    };
+    say(name, &format!("different: {difference}"), members, report)
+}
+
+/// A sound shard that one side has and the other has not.
+fn tell_only(name: &Path, side: Side, chunks: u64, report: &mut Report) -> Result<(), Fault> {
+    let (result, what) = match chunks {
+        0 => ("empty", ", lists no chunk".to_string()),
+        _ => ("missing", format!(": {}", counted(chunks, "chunk"))),
+    };
+    let line = format!("only in the {}{what}", side.name());
+    let members = |object: Object| {
+        object
+            .text("result", result)
+            .text("missing_in", side.other().name())
+            .number("chunks", chunks)
+    };
+    say(name, &line, members, report)
+}
+
+/// Why a file could not be compared.
+fn tell_unread(
+    sharding: &Sharding,
+    name: &Path,
+    unread: Unread,
+    report: &mut Report,
+) -> Result<(), Fault> {
+    let object = unread.object(name);
+    match unread.trouble {
+        Trouble::Misnamed { alone } => {
+            round::tell_misnamed(sharding, &unread.path, alone, object, report)
+        }
+        Trouble::Fault(Fault::Refused(refused)) => {
+            report.note(Status::No);
+            if report.json() {
+                return report.object(refusal_members(object, &refused));
+            }
+            let only = if unread.only { "only " } else { "" };
+            let place = format!("{}: {only}in the {}", shown(name), unread.side.name());
+            report.line(Refused {
+                subject: Subject::Asked(place),
+                ..*refused
+            })
+        }
+        Trouble::Fault(fault) => round::tell_fault(object, &fault, report),
+    }
+}
+
+#[cfg(test)]
+mod tests {
+    use super::*;
+    use crate::memory::Gate;
+    use crate::trial::{twice_listed, Crowd, Folder, TWO_MINISHARDS};
+
+    #[test]
+    fn forms_that_are_longer_than_their_files_wait_for_memory() {
+        let folder = Folder::new("same-waits");
+        let file = twice_listed(1000);
+        let paths = ["a", "b"].map(|name| folder.write(name, &file));
+        let pair = || Pair {
+            name: "0.shard".into(),
+            sides: Sides::Both(paths.clone().map(|path| Input {
+                path,
+                number: Ok(0),
+            })),
+        };
+        let file = file.len() as u64;
+        let form = 32 + 2 * (1000 + 24);
+        // Two pairs fit by the lengths of their files, but not with their
+        // forms.
+        let gate = Gate::new(2 * (file + form + form) - 1);
+        assert!(2 * 3 * file < 2 * (file + form + form) - 1);
+        let work = |room: &mut Room, pair: Pair| {
+            let outcome = pair.compare(&TWO_MINISHARDS, room);
+            matches!(outcome.verdict, Comparison::Same)
+        };
+        let jobs = (0..100).map(|_| pair()).collect();
+        assert_eq!(Crowd::default().run(jobs, &gate, work), vec![true; 100]);
+    }
+
+    fn sentence(summary: Summary) -> String {
+        summary.sentence().1
+    }
+
+    #[test]
+    fn the_answer_for_the_whole() {
+        let same = || Summary {
+            same: 12,
+            ..Summary::default()
+        };
+        assert_eq!(
+            sentence(same()),
+            "The two hold the same chunks: 12 shards compared, all the same."
+        );
+        assert_eq!(
+            sentence(Summary {
+                same: 10,
+                different: 1,
+                refused: 1,
+                ..Summary::default()
+            }),
+            "The two do not hold the same chunks: 10 shards same, 1 different, 1 refused, \
+             0 missing in the first, 0 missing in the second."
+        );
+        assert_eq!(
+            sentence(Summary {
+                missing: [0, 1],
+                misnamed: 2,
+                ..same()
+            }),
+            "The two do not hold the same chunks: 12 shards same, 0 different, 0 refused, \
+             0 missing in the first, 1 missing in the second, 2 misnamed."
+        );
+        let unknown = "It is not known whether the two hold the same chunks: 12 shards same, \
+                       0 different,";
+        assert_eq!(
+            sentence(Summary {
+                refused: 1,
+                ..same()
+            }),
+            format!("{unknown} 1 refused, 0 missing in the first, 0 missing in the second.")
+        );
+        assert_eq!(
+            sentence(Summary {
+                not_read: 3,
+                ..same()
+            }),
+            format!(
+                "{unknown} 0 refused, 0 missing in the first, 0 missing in the second, \
+                 3 not read."
+            )
+        );
+        assert!(sentence(Summary {
+            misnamed: 1,
+            ..same()
+        })
+        .starts_with(unknown));
+    }
+
+    /// The answer for these counts; strays only where a name is no shard's.
+    fn answer(summary: &Summary) -> &'static str {
+        summary.sentence().0
+    }
+
+    #[test]
+    fn what_is_missing_is_different_unless_it_may_be_there_under_another_name() {
+        let missing = |missing, strays| Summary {
+            same: 3,
+            missing,
+            strays,
+            misnamed: u64::from(strays[0]) + u64::from(strays[1]),
+            ..Summary::default()
+        };
+        for (counts, strays, expected) in [
+            ([0, 1], [false, false], "different"),
+            ([1, 0], [false, false], "different"),
+            ([0, 1], [true, false], "different"),
+            ([1, 0], [false, true], "different"),
+            ([0, 1], [false, true], "unknown"),
+            ([1, 0], [true, false], "unknown"),
+            ([1, 1], [true, false], "different"),
+            ([1, 1], [true, true], "unknown"),
+            ([0, 0], [true, true], "unknown"),
+            ([0, 0], [false, false], "same"),
+        ] {
+            let summary = missing(counts, strays);
+            assert_eq!(answer(&summary), expected, "{counts:?} {strays:?}");
+            // A pair that differs decides, whatever else there is.
+            let summary = Summary {
+                different: 1,
+                ..summary
+            };
+            assert_eq!(answer(&summary), "different");
+        }
+    }
+
+    #[test]
+    fn what_lists_no_chunk_decides_nothing() {
+        let empty = || Summary {
+            empty: 2,
+            ..Summary::default()
+        };
+        assert_eq!(answer(&empty()), "same");
+        assert_eq!(
+            answer(&Summary {
+                refused: 1,
+                ..empty()
+            }),
+            "unknown"
+        );
+        assert_eq!(answer(&Summary { bare: 1, ..empty() }), "unknown");
+        assert_eq!(
+            answer(&Summary {
+                missing: [1, 0],
+                ..empty()
+            }),
+            "different"
+        );
+    }
+}

@@ -1,0 +1,363 @@
+//! `settle`.
+
+use std::fs;
+use std::io;
+use std::path::{Path, PathBuf};
+
+use coronagamba::{Shard, Sharding};
+
+use super::Command;
+use crate::args::{flag, value, Args};
+use crate::fault::{Fault, Status};
+use crate::files::{length_to_read, one_place, read_into, Inputs};
+use crate::folder::{is_folder, list, single, Input};
+use crate::help;
+use crate::json::Object;
+use crate::memory::{front, Room};
+use crate::naming::shard_number;
+use crate::output::{self, Placed};
+use crate::report::{counted, shown, Report};
+use crate::round::{self, and, chunk_count, passed_over, Aside, Outcome, Verdict};
+use crate::settings;
+
+/// The command.
+pub const COMMAND: Command = Command {
+    name: "settle",
+    help: help::SETTLE,
+    options: &[
+        settings::OPTIONS,
+        round::OPTIONS,
+        &[value("--out"), flag("--force"), flag("--json")],
+    ],
+    run,
+};
+
+fn run(args: &Args, report: &mut Report) -> Result<(), Fault> {
+    let sharding = settings::of_shards(args)?.sharding;
+    // One works while the other waits for its output to reach the disk.
+    let workers = round::workers(args, 2)?;
+    let [source] = args.exactly(["PATH"])?.map(Path::new);
+    let out = Path::new(args.needed("--out")?);
+    not_one_place(source, out)?;
+    let of_folder = is_folder(source);
+    let (shards, others) = if of_folder {
+        round::no_shard_option(args, source)?;
+        let listing = list(&sharding, source);
+        let others = listing.others;
+        (listing.inputs(source), others)
+    } else {
+        (vec![single(args, &sharding, source)], 0)
+    };
+    if shards.is_empty() {
+        return round::tell_no_shards(source, others, report);
+    }
+    let card = args.value("--card").map(Path::new);
+    let paths = shards.iter().map(|shard| shard.path.as_path());
+    let task = Task {
+        sharding,
+        force: args.flag("--force"),
+        inputs: Inputs::of(paths.chain(card)),
+    };
+    if of_folder {
+        let summary = task.folder(workers, shards, out, report)?;
+        summary.print(others, report)
+    } else {
+        task.file(shards, out, report)
+    }
+}
+
+/// An input is never written over, by whatever path.
+fn not_one_place(source: &Path, out: &Path) -> Result<(), Fault> {
+    if one_place(source, out) {
+        return Err(Fault::wrong_use(format!(
+            "{}: is the output {} itself; inputs are never written over",
+            shown(source),
+            shown(out)
+        )));
+    }
+    Ok(())
+}
+
+/// A shard and the place of its settled form.
+struct Job {
+    input: Input,
+    out: PathBuf,
+}
+
+/// What is told of a settled shard.
+struct Settled {
+    out: PathBuf,
+    placed: Placed,
+    chunks: u64,
+    from: usize,
+    to: usize,
+}
+
+/// What all shards are settled with.
+struct Task {
+    sharding: Sharding,
+    force: bool,
+    /// All shards and the card, as they were when the run began: the output of
+    /// one shard may be the input of another.
+    inputs: Inputs,
+}
+
+impl Task {
+    /// Settles one file.
+    fn file(&self, shard: Vec<Input>, out: &Path, report: &mut Report) -> Result<(), Fault> {
+        output::remove_stale_parts_of(out, &self.inputs);
+        let job = |input| Job {
+            out: out.to_path_buf(),
+            input,
+        };
+        let jobs = shard.into_iter().map(job).collect();
+        self.round(1, jobs, report).map(|_| ())
+    }
+
+    /// Settles all shards of a folder.
+    fn folder(
+        &self,
+        workers: usize,
+        shards: Vec<Input>,
+        out: &Path,
+        report: &mut Report,
+    ) -> Result<Summary, Fault> {
+        make_folder(out)?;
+        let is_shard = |name: &_| shard_number(&self.sharding, name).is_some();
+        output::remove_stale_parts(out, &self.inputs, is_shard);
+        let job = |input: Input| Job {
+            out: out.join(input.path.file_name().unwrap_or_default()),
+            input,
+        };
+        let jobs = shards.into_iter().map(job).collect();
+        self.round(workers, jobs, report)
+    }
+
+    /// Settles the shards and tells what came of each.
+    fn round(&self, workers: usize, jobs: Vec<Job>, report: &mut Report) -> Result<Summary, Fault> {
+        let mut summary = Summary::default();
+        let work = |room: &mut Room, job| self.work(room, job);
+        let tell = |outcome, report: &mut Report| summary.tell(&self.sharding, outcome, report);
+        round::go(workers, "settled", jobs, work, tell, report)?;
+        Ok(summary)
+    }
+
+    fn work(&self, room: &mut Room, job: Job) -> Outcome<Verdict<Settled>> {
+        room.file.clear();
+        let path = job.input.path;
+        match job.input.number {
+            Ok(number) => {
+                let settle = |room: &mut Room| self.settle(room, &path, number, &job.out);
+                let settled = room.attempt(settle, round::lacks_memory);
+                Verdict::from(settled).of(path, room.file.len())
+            }
+            Err(trouble) => Verdict::from(trouble).of(path, 0),
+        }
+    }
+
+    /// Settles one shard.
+    fn settle(
+        &self,
+        room: &mut Room,
+        path: &Path,
+        number: u64,
+        out: &Path,
+    ) -> Result<Settled, Fault> {
+        // Before the work, and again where a file is to be replaced.
+        self.inputs.spare(out)?;
+        output::is_taken(out)?;
+        let to = self.read(room, path, number)?;
+        let shard = Shard::open(self.sharding, number, &room.file);
+        let form =
+            front(&mut room.form, to).map_err(|error| Fault::system(path, "settled", error))?;
+        let explain = |refusal| round::refused(path, &self.sharding, number, &room.file, refusal);
+        shard.settle(form).map_err(explain)?;
+        let chunks = chunk_count(&self.sharding, &shard).map_err(explain)?;
+        Ok(Settled {
+            placed: output::place(out, self.force, form, &self.inputs)?,
+            out: out.to_path_buf(),
+            chunks,
+            from: room.file.len(),
+            to,
+        })
+    }
+
+    /// Reads the shard and gives the length of its settled form, for which
+    /// there is memory then. That length is known only when the file is read:
+    /// where the memory for it is held by others, the file is given back, waits
+    /// for both, and is read again.
+    fn read(&self, room: &mut Room, path: &Path, number: u64) -> Result<usize, Fault> {
+        let guess = length_to_read(path);
+        let mut lengths = [guess, guess, 0];
+        loop {
+            room.wait_for(lengths);
+            read_into(path, &mut room.file)?;
+            let shard = Shard::open(self.sharding, number, &room.file);
+            let length = shard.settled_length().map_err(|refusal| {
+                round::refused(path, &self.sharding, number, &room.file, refusal)
+            })?;
+            lengths = [guess, lengths[1].max(length), 0];
+            if room.may_have(lengths) {
+                return Ok(length as usize);
+            }
+        }
+    }
+}
+
+/// Makes the output folder where it is missing.
+fn make_folder(out: &Path) -> Result<(), Fault> {
+    match fs::create_dir(out) {
+        Ok(()) => output::sync_folder_of(out),
+        Err(error) if error.kind() == io::ErrorKind::AlreadyExists => match is_folder(out) {
+            true => Ok(()),
+            false => Err(Fault::wrong_use(format!(
+                "{}: is no folder, and a folder is settled into a folder",
+                shown(out)
+            ))),
+        },
+        Err(error) => Err(Fault::system(out, "made", error)),
+    }
+}
+
+/// Counts over all shards.
+#[derive(Default)]
+struct Summary {
+    settled: u64,
+    already_there: u64,
+    other_bytes: u64,
+    aside: Aside,
+}
+
+impl Summary {
+    fn tell(
+        &mut self,
+        sharding: &Sharding,
+        outcome: Outcome<Verdict<Settled>>,
+        report: &mut Report,
+    ) -> Result<(), Fault> {
+        let path = outcome.path.clone();
+        let Some(settled) = self.aside.answer(sharding, outcome, report)? else {
+            return Ok(());
+        };
+        match settled.placed {
+            Placed::Written => self.settled += 1,
+            Placed::AlreadyThere => self.already_there += 1,
+            Placed::OtherBytes => {
+                self.other_bytes += 1;
+                report.note(Status::Use);
+            }
+        }
+        if report.json() {
+            report.object(settled.object(&path))
+        } else {
+            report.line(settled.line(&path))
+        }
+    }
+
+    fn total(&self) -> u64 {
+        self.settled + self.already_there + self.other_bytes + self.aside.total()
+    }
+
+    /// `200 shards: 196 settled, 4 refused`
+    fn print(&self, others: u64, report: &mut Report) -> Result<(), Fault> {
+        let Aside {
+            refused,
+            failed,
+            misnamed,
+        } = self.aside;
+        if report.json() {
+            return report.object(
+                Object::new()
+                    .text("result", "summary")
+                    .number("shards", self.total())
+                    .number("settled", self.settled)
+                    .number("already_there", self.already_there)
+                    .number("other_bytes", self.other_bytes)
+                    .number("refused", refused)
+                    .number("not_settled", failed)
+                    .number("misnamed", misnamed)
+                    .number("other_files", others),
+            );
+        }
+        report.line(format_args!(
+            "{}: {} settled{}, {refused} refused{}{}{}{}",
+            counted(self.total(), "shard"),
+            self.settled,
+            and(self.already_there, "already there"),
+            and(self.other_bytes, "there with other bytes"),
+            and(failed, "not read or not written"),
+            and(misnamed, "misnamed"),
+            passed_over(others),
+        ))
+    }
+}
+
+impl Settled {
+    fn line(&self, path: &Path) -> String {
+        let (path, from, to) = (shown(path), self.from, self.to);
+        match self.placed {
+            Placed::Written => {
+                let chunks = counted(self.chunks, "chunk");
+                format!("{path}: settled, {chunks}, {from} -> {to} bytes")
+            }
+            Placed::AlreadyThere => format!("{path}: already there"),
+            Placed::OtherBytes => format!(
+                "{}: exists with other bytes (--force overwrites)",
+                shown(&self.out)
+            ),
+        }
+    }
+
+    fn object(&self, path: &Path) -> Object {
+        let result = match self.placed {
+            Placed::Written => "settled",
+            Placed::AlreadyThere => "already there",
+            Placed::OtherBytes => "exists with other bytes",
+        };
+        Object::new()
+            .path(path)
+            .text("result", result)
+            .named_path("out", &self.out)
+            .number("chunks", self.chunks)
+            .number("bytes", self.from as u64)
+            .number("settled_bytes", self.to as u64)
+    }
+}
+
+#[cfg(test)]
+mod tests {
+    use super::*;
+    use crate::memory::Gate;
+    use crate::trial::{twice_listed, Crowd, Folder, TWO_MINISHARDS};
+
+    #[test]
+    fn forms_that_are_longer_than_their_files_wait_for_memory() {
+        let folder = Folder::new("settle-waits");
+        let file = twice_listed(1000);
+        let path = folder.write("a", &file);
+        let job = |number| Job {
+            input: Input {
+                path: path.clone(),
+                number: Ok(0),
+            },
+            out: folder.at(format!("{number}")),
+        };
+        let file = file.len() as u64;
+        let form = 32 + 2 * (1000 + 24);
+        // Two shards fit by the lengths of their files, but not with their
+        // forms.
+        let gate = Gate::new(2 * (file + form) - 1);
+        assert!(2 * 2 * file < 2 * (file + form) - 1);
+        let task = Task {
+            sharding: TWO_MINISHARDS,
+            force: false,
+            inputs: Inputs::default(),
+        };
+        let work = |room: &mut Room, job| match task.work(room, job).verdict {
+            Verdict::Answer(settled) => (settled.placed, settled.to as u64),
+            _ => (Placed::OtherBytes, 0),
+        };
+        let told = Crowd::default().run((0..100).map(job).collect(), &gate, work);
+        assert_eq!(told, vec![(Placed::Written, form); 100]);
+    }
+}

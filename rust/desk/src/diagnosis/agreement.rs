@@ -1,0 +1,190 @@
+//! Both readings agree: whatever the library refuses, the diagnosis finds the
+//! place.
+
+use std::collections::BTreeSet;
+
+use coronagamba::{Card, Cell, Manifest, Refusal, Shard, Sharding, Volume};
+use testkit::shards::{self, Sample};
+use testkit::{manifests, places, Rng};
+
+use super::*;
+
+/// The numbers of the refusals that were explained.
+#[derive(Default)]
+struct Explained {
+    numbers: BTreeSet<u8>,
+}
+
+impl Explained {
+    /// Explains an answer where it is a refusal, and gives the explanation.
+    fn note<T>(
+        &mut self,
+        answer: Result<T, Refusal>,
+        explain: impl FnOnce(Refusal) -> Diagnosis,
+    ) -> Option<Diagnosis> {
+        let refusal = answer.err()?;
+        let told = explain(refusal);
+        assert_ne!(told, Diagnosis::not_found_again(), "{refusal:?}");
+        assert!(!told.found.is_empty() && !told.look_at.is_empty());
+        self.numbers.insert(refusal.number);
+        Some(told)
+    }
+
+    /// Panics unless exactly these numbers were explained.
+    fn assert_exactly(&self, numbers: impl IntoIterator<Item = u8>) {
+        assert_eq!(self.numbers, numbers.into_iter().collect());
+    }
+}
+
+fn sharding(from: &reference::sharding::Sharding) -> Sharding {
+    Sharding {
+        preshift: from.preshift,
+        hash: from.hash,
+        minishard_bits: from.minishard_bits,
+        shard_bits: from.shard_bits,
+    }
+}
+
+fn volume(from: &reference::grid::Volume) -> Volume {
+    Volume::new(from.size, from.chunk, from.offset)
+}
+
+/// A damaged shard, now and then under another specification or number.
+fn sample(rng: &mut Rng) -> Sample {
+    let mut sample = shards::damaged(rng, 12);
+    match rng.below(8) {
+        0 => sample.sharding = places::wild_sharding(rng),
+        1 => sample.number = places::shard_number(rng, &sample.sharding),
+        _ => {}
+    }
+    sample
+}
+
+#[test]
+fn of_shards() {
+    let mut rng = Rng::new(1_101);
+    let mut explained = Explained::default();
+    for _ in 0..20_000 {
+        let sample = sample(&mut rng);
+        let (sharding, number) = (sharding(&sample.sharding), sample.number);
+        let shard = Shard::open(sharding, number, &sample.file);
+        let explain = |refusal| of_shard(&sharding, number, &sample.file, refusal);
+        let checked = explained.note(shard.check(), explain);
+        let settled = explained.note(shard.settled_length(), explain);
+        assert_eq!(checked, settled);
+        let id = shards::question(&mut rng, &sample);
+        explained.note(shard.lookup(id), |refusal| {
+            of_lookup(&sharding, number, &sample.file, id, refusal)
+        });
+        let minishard = places::minishard_number(&mut rng, &sample.sharding);
+        explained.note(shard.listed_count(minishard), |refusal| {
+            of_listing(&sharding, number, &sample.file, minishard, refusal)
+        });
+    }
+    explained.assert_exactly([1].into_iter().chain(5..=12));
+}
+
+/// The bytes of a card of any meaning, allowed or not.
+fn card(rng: &mut Rng) -> Vec<u8> {
+    let sharding = places::wild_sharding(rng);
+    let mut volume = match rng.below(3) {
+        0 => places::wild_volume(rng),
+        1 => places::brim_volume(rng),
+        _ => places::volume(rng),
+    };
+    if rng.once_in(4) {
+        volume.offset = [0; 3];
+    }
+    let field = |tag: u8, body: &[u8]| [&[tag, body.len() as u8, 0], body].concat();
+    let three = |numbers: [u32; 3]| numbers.map(u32::to_le_bytes).concat();
+    let mut card = [
+        field(1, &[sharding.preshift]),
+        field(2, &[sharding.hash]),
+        field(3, &[sharding.minishard_bits]),
+        field(4, &[sharding.shard_bits]),
+        field(5, &three(volume.size)),
+        field(6, &three(volume.chunk)),
+    ]
+    .concat();
+    if rng.once_in(2) {
+        card.extend(field(7, &three(volume.offset.map(|number| number as u32))));
+    }
+    card
+}
+
+/// Damages a card in one place.
+fn damage_card(rng: &mut Rng, card: &mut Vec<u8>) {
+    match rng.below(4) {
+        0 => card.truncate(rng.index(card.len() + 1)),
+        1 => {
+            let more = rng.index(20);
+            card.extend(rng.bytes(more));
+        }
+        _ if card.is_empty() => {}
+        _ => {
+            let place = rng.index(card.len());
+            card[place] = rng.below(14) as u8;
+        }
+    }
+}
+
+#[test]
+fn of_cards() {
+    let mut rng = Rng::new(1_102);
+    let mut explained = Explained::default();
+    for _ in 0..40_000 {
+        let mut card = card(&mut rng);
+        for _ in 0..rng.below(3) {
+            damage_card(&mut rng, &mut card);
+        }
+        explained.note(Card::read(&card), |refusal| of_card(&card, refusal));
+    }
+    explained.assert_exactly([1, 2, 3, 14]);
+}
+
+#[test]
+fn of_manifests() {
+    let mut rng = Rng::new(1_103);
+    let mut explained = Explained::default();
+    for _ in 0..20_000 {
+        let bytes = match rng.below(4) {
+            0 => manifests::truncated(&mut rng, 12),
+            1 => manifests::extended(&mut rng, 12),
+            2 => manifests::sound(&mut rng, 12),
+            _ => manifests::damaged(&mut rng, 12),
+        };
+        let manifest = Manifest::open(&bytes);
+        explained.note(manifest.check(), |refusal| of_manifest(&bytes, refusal));
+        let (level, node) = if bytes.len() < 28 {
+            (0, 0)
+        } else {
+            manifests::question(&mut rng, &bytes)
+        };
+        let explain = |refusal| of_node(&bytes, level, node, refusal);
+        explained.note(manifest.node(level, node), explain);
+        explained.note(manifest.corners(level, node), explain);
+    }
+    explained.assert_exactly(15..=18);
+}
+
+#[test]
+fn of_cells_and_keys() {
+    let mut rng = Rng::new(1_104);
+    let mut explained = Explained::default();
+    for _ in 0..40_000 {
+        let drawn = match rng.below(3) {
+            0 => places::brim_volume(&mut rng),
+            _ => places::volume(&mut rng),
+        };
+        let volume = volume(&drawn);
+        let cell = Cell::from(places::cell(&mut rng, &drawn));
+        explained.note(volume.key(cell), |refusal| of_cell(&volume, cell, refusal));
+        explained.note(volume.chunk_name(cell), |refusal| {
+            of_cell(&volume, cell, refusal)
+        });
+        let key = places::key(&mut rng, &drawn);
+        explained.note(volume.cell(key), |refusal| of_key(&volume, key, refusal));
+        explained.note(volume.grid(), |refusal| of_volume(&volume, refusal));
+    }
+    explained.assert_exactly([2, 3, 4]);
+}

@@ -1,0 +1,323 @@
+//! Refusals of a deposit card: 14, and 1 to 3 of what it says.
+
+use coronagamba::{Extents, Offset, Refusal, Sharding, Volume};
+
+use super::places::{bad_fields, told_bits, told_fields, told_zeros, zero_extents};
+use super::{u32_at, Diagnosis, Place};
+use crate::report::counted;
+
+/// A field of a card.
+struct Field {
+    tag: u8,
+    name: &'static str,
+    /// The length of its body.
+    length: u16,
+}
+
+/// The fields of a card in their order (scope, 'Deposit card').
+const FIELDS: [Field; 7] = [
+    field(1, "preshift", 1),
+    field(2, "hash", 1),
+    field(3, "minishard bits", 1),
+    field(4, "shard bits", 1),
+    field(5, "volume size", 12),
+    field(6, "chunk size", 12),
+    field(7, "voxel offset", 12),
+];
+
+/// Bytes of tag and length before a body.
+const HEAD: usize = 3;
+/// Bytes of a card without voxel offset.
+const SHORT: usize = 46;
+/// Where the bodies of volume size, chunk size and voxel offset begin.
+const SIZE: usize = 19;
+const CHUNK: usize = 34;
+const OFFSET: usize = 49;
+
+const fn field(tag: u8, name: &'static str, length: u16) -> Field {
+    Field { tag, name, length }
+}
+
+/// A refusal of a card: 14, 1, 2 or 3.
+pub fn of_card(bytes: &[u8], refusal: Refusal) -> Diagnosis {
+    let told = match refusal.number {
+        14 => malformed(bytes),
+        1..=3 => of_meaning(bytes, refusal.number),
+        _ => None,
+    };
+    told.unwrap_or_else(Diagnosis::not_found_again)
+}
+
+/// A byte of the card and what stands there.
+fn byte(place: usize, what: &str) -> Place {
+    Place::byte(place as u64, "the card", what)
+}
+
+/// The first place at which a card is malformed.
+fn malformed(bytes: &[u8]) -> Option<Diagnosis> {
+    let mut place = 0;
+    for field in &FIELDS {
+        if field.tag == 7 && bytes.len() == place {
+            return None;
+        }
+        if let Some(told) = bad_field(bytes, place, field) {
+            return Some(told);
+        }
+        place += HEAD + usize::from(field.length);
+    }
+    if bytes.len() > place {
+        return Some(Diagnosis::new(
+            format!(
+                "{} behind the last field",
+                counted((bytes.len() - place) as u64, "byte")
+            ),
+            "a card of 46 bytes, or of 61 with a voxel offset",
+            byte(place, "the first byte too many"),
+        ));
+    }
+    zero_offset(bytes)
+}
+
+/// What is wrong with the field that should begin here.
+fn bad_field(bytes: &[u8], place: usize, field: &Field) -> Option<Diagnosis> {
+    let name = format!("{}, tag {}", field.name, field.tag);
+    let rest = bytes.get(place..)?;
+    let cut = || {
+        Diagnosis::new(
+            format!("the card ends at byte {}", bytes.len()),
+            format!(
+                "{name}: {} bytes from byte {place} on",
+                HEAD + usize::from(field.length)
+            ),
+            "the card's length: was it cut short?",
+        )
+    };
+    let Some(tag) = rest.first() else {
+        return Some(cut());
+    };
+    if *tag != field.tag {
+        let expected = match field.tag {
+            7 => format!("{name}, or the end of the card"),
+            _ => name,
+        };
+        return Some(Diagnosis::new(
+            format!("tag {tag}"),
+            expected,
+            byte(place, "a field's tag"),
+        ));
+    }
+    let Some(length) = rest.get(1..HEAD) else {
+        return Some(cut());
+    };
+    let length = u16::from_le_bytes([length[0], length[1]]);
+    if length != field.length {
+        return Some(Diagnosis::new(
+            format!("length {length} for {name}"),
+            format!("length {}", field.length),
+            byte(place + 1, "a field's length, two bytes"),
+        ));
+    }
+    let whole = rest.len() >= HEAD + usize::from(length);
+    (!whole).then(cut)
+}
+
+/// An offset of 0,0,0 that is written out.
+fn zero_offset(bytes: &[u8]) -> Option<Diagnosis> {
+    let offset = numbers(bytes, OFFSET)?;
+    (offset == [0; 3]).then(|| {
+        Diagnosis::new(
+            "voxel offset 0,0,0, written out",
+            "no tag 7: a card without it means 0,0,0, and one meaning has one card",
+            byte(SHORT, "tag 7"),
+        )
+    })
+}
+
+/// The three numbers at a place.
+fn numbers(bytes: &[u8], place: usize) -> Option<[u32; 3]> {
+    let number = |axis: u64| u32_at(bytes, place as u64 + 4 * axis);
+    Some([number(0)?, number(1)?, number(2)?])
+}
+
+/// Refusal 1, 2 or 3 of what a card of the right form says.
+fn of_meaning(bytes: &[u8], number: u8) -> Option<Diagnosis> {
+    let volume = volume(bytes)?;
+    Some(match number {
+        1 => {
+            let bad = bad_fields(&sharding(bytes)?);
+            let places = bad
+                .iter()
+                .map(|bad| byte(4 * bad.place + HEAD, FIELDS[bad.place].name))
+                .collect();
+            told_fields(&bad, Place::all(places))
+        }
+        2 => {
+            let zeros = zero_extents(&volume);
+            let places = zeros.iter().map(|zero| extent_place(*zero)).collect();
+            told_zeros(&zeros, Place::all(places))
+        }
+        _ => told_bits(
+            &volume,
+            Place::all(vec![byte(SIZE, "volume size"), byte(CHUNK, "chunk size")]),
+        ),
+    })
+}
+
+/// Where an extent stands, of the six.
+fn extent_place(place: usize) -> Place {
+    let (begin, name) = if place < 3 {
+        (SIZE, "volume size")
+    } else {
+        (CHUNK, "chunk size")
+    };
+    byte(begin + 4 * (place % 3), name)
+}
+
+/// The sharding of a card of the right form.
+fn sharding(bytes: &[u8]) -> Option<Sharding> {
+    Some(Sharding {
+        preshift: *bytes.get(3)?,
+        hash: *bytes.get(7)?,
+        minishard_bits: *bytes.get(11)?,
+        shard_bits: *bytes.get(15)?,
+    })
+}
+
+/// The extents of a card of the right form.
+fn volume(bytes: &[u8]) -> Option<Volume> {
+    let extents = |[x, y, z]: [u32; 3]| Extents { x, y, z };
+    Some(Volume {
+        size: extents(numbers(bytes, SIZE)?),
+        chunk: extents(numbers(bytes, CHUNK)?),
+        offset: Offset::default(),
+    })
+}
+
+#[cfg(test)]
+mod tests {
+    use super::*;
+    use coronagamba::Card;
+
+    /// Scope, cases: volume 100,100,100, chunk 64,64,64, identity, preshift 0,
+    /// minishard bits 1, shard bits 2, no offset.
+    fn sound() -> Vec<u8> {
+        let mut card = vec![1, 1, 0, 0, 2, 1, 0, 0, 3, 1, 0, 1, 4, 1, 0, 2];
+        card.extend([5, 12, 0, 100, 0, 0, 0, 100, 0, 0, 0, 100, 0, 0, 0]);
+        card.extend([6, 12, 0, 64, 0, 0, 0, 64, 0, 0, 0, 64, 0, 0, 0]);
+        card
+    }
+
+    fn with_offset(x: i32) -> Vec<u8> {
+        let mut card = sound();
+        card.extend([7, 12, 0]);
+        card.extend(x.to_le_bytes());
+        card.extend([0; 8]);
+        card
+    }
+
+    /// The library's refusal of these bytes, explained.
+    fn told(bytes: &[u8], number: u8) -> Diagnosis {
+        let refusal = Card::read(bytes).unwrap_err();
+        assert_eq!(refusal.number, number);
+        of_card(bytes, refusal)
+    }
+
+    fn changed(place: usize, byte: u8) -> Vec<u8> {
+        let mut card = sound();
+        card[place] = byte;
+        card
+    }
+
+    #[test]
+    fn the_sound_cards_are_sound() {
+        assert!(Card::read(&sound()).is_ok());
+        assert!(Card::read(&with_offset(-64)).is_ok());
+    }
+
+    #[test]
+    fn cards_cut_short() {
+        let empty = told(&[], 14);
+        assert_eq!(empty.found, "the card ends at byte 0");
+        assert_eq!(empty.expected, "preshift, tag 1: 4 bytes from byte 0 on");
+        let tag = told(&sound()[..31], 14);
+        assert_eq!(tag.found, "the card ends at byte 31");
+        assert_eq!(tag.expected, "chunk size, tag 6: 15 bytes from byte 31 on");
+        for length in [32, 33, 40] {
+            let inside = told(&sound()[..length], 14);
+            assert_eq!(inside.found, format!("the card ends at byte {length}"));
+            assert_eq!(inside.expected, tag.expected);
+        }
+        let offset = told(&with_offset(5)[..60], 14);
+        assert_eq!(
+            offset.expected,
+            "voxel offset, tag 7: 15 bytes from byte 46 on"
+        );
+    }
+
+    #[test]
+    fn wrong_tags_and_lengths() {
+        let tag = told(&changed(8, 4), 14);
+        assert_eq!(tag.found, "tag 4");
+        assert_eq!(tag.expected, "minishard bits, tag 3");
+        assert_eq!(tag.look_at, "byte 8 of the card (a field's tag)");
+        let length = told(&changed(33, 1), 14);
+        assert_eq!(length.found, "length 268 for chunk size, tag 6");
+        assert_eq!(length.expected, "length 12");
+        assert_eq!(
+            length.look_at,
+            "byte 32 of the card (a field's length, two bytes)"
+        );
+    }
+
+    #[test]
+    fn bytes_too_many() {
+        let mut card = sound();
+        card.push(9);
+        assert_eq!(told(&card, 14).found, "tag 9");
+        assert_eq!(
+            told(&card, 14).expected,
+            "voxel offset, tag 7, or the end of the card"
+        );
+        let mut card = with_offset(5);
+        card.extend([0, 0]);
+        assert_eq!(told(&card, 14).found, "2 bytes behind the last field");
+        assert_eq!(
+            told(&card, 14).look_at,
+            "byte 61 of the card (the first byte too many)"
+        );
+    }
+
+    #[test]
+    fn an_offset_of_zeros() {
+        let zeros = told(&with_offset(0), 14);
+        assert_eq!(zeros.found, "voxel offset 0,0,0, written out");
+        assert_eq!(zeros.look_at, "byte 46 of the card (tag 7)");
+    }
+
+    #[test]
+    fn what_a_card_says() {
+        let field = told(&changed(7, 2), 1);
+        assert_eq!(field.found, "hash number 2");
+        assert_eq!(field.look_at, "byte 7 of the card (hash)");
+        let zero = told(&changed(42, 0), 2);
+        assert_eq!(zero.found, "0 as chunk along z");
+        assert_eq!(zero.look_at, "byte 42 of the card (chunk size)");
+        let mut wide = sound();
+        for place in [19, 23, 27] {
+            wide[place + 3] = 16;
+        }
+        for place in [34, 38, 42] {
+            wide[place] = 1;
+        }
+        let bits = told(&wide, 3);
+        assert!(
+            bits.found.ends_with("29 + 29 + 29 = 87 key bits"),
+            "{}",
+            bits.found
+        );
+        assert_eq!(
+            bits.look_at,
+            "byte 19 of the card (volume size), byte 34 of the card (chunk size)"
+        );
+    }
+}

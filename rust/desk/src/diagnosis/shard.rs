@@ -1,0 +1,722 @@
+//! Refusals of a shard: 5 to 13.
+
+use coronagamba::{Refusal, Sharding};
+
+use super::{of_shard_number, of_sharding, u64_at, Diagnosis, Place};
+use crate::report::counted;
+
+/// The most bytes of a shard and of a settled form.
+const MOST_BYTES: u64 = 1 << 30;
+
+/// Bytes of an entry of the shard index: start and end.
+const ENTRY: u64 = 16;
+/// Bytes of a chunk's entry in a minishard index: a number in each row.
+const ROWS: u64 = 24;
+
+/// A shard as this reading sees it.
+struct Seen<'a> {
+    sharding: &'a Sharding,
+    number: u64,
+    file: &'a [u8],
+}
+
+/// A refusal of the whole-shard check or of settling: 1, 5 to 11, 13.
+pub fn of_shard(sharding: &Sharding, number: u64, file: &[u8], refusal: Refusal) -> Diagnosis {
+    let seen = Seen {
+        sharding,
+        number,
+        file,
+    };
+    match (refusal.number, refusal.minishard) {
+        (1, _) => of_sharding(sharding),
+        (5, _) => of_shard_number(sharding, number),
+        (6, _) => seen.length(),
+        (7..=11, Some(minishard)) => told(seen.fault(minishard, refusal.number)),
+        (7..=11, None) => told(seen.first_fault(refusal.number)),
+        (13, _) => seen.settled_length(),
+        _ => Diagnosis::not_found_again(),
+    }
+}
+
+/// A refusal of one minishard's listing: 1, 5 to 11.
+pub fn of_listing(
+    sharding: &Sharding,
+    number: u64,
+    file: &[u8],
+    minishard: u64,
+    refusal: Refusal,
+) -> Diagnosis {
+    let seen = Seen {
+        sharding,
+        number,
+        file,
+    };
+    match refusal.number {
+        5 if minishard >= seen.minishards() => seen.no_minishard(minishard),
+        7..=11 => told(seen.fault(minishard, refusal.number)),
+        _ => of_shard(sharding, number, file, refusal),
+    }
+}
+
+/// A refusal of a lookup: 1, 5 to 12.
+pub fn of_lookup(
+    sharding: &Sharding,
+    number: u64,
+    file: &[u8],
+    id: u64,
+    refusal: Refusal,
+) -> Diagnosis {
+    let seen = Seen {
+        sharding,
+        number,
+        file,
+    };
+    let Ok(place) = sharding.place(id) else {
+        return of_sharding(sharding);
+    };
+    match refusal.number {
+        5 if sharding.shard_name(number).is_ok() => seen.other_shard(id),
+        7..=11 => told(seen.fault(place.minishard, refusal.number)),
+        12 => told(seen.not_listed(id, place.minishard)),
+        _ => of_shard(sharding, number, file, refusal),
+    }
+}
+
+/// A diagnosis, or that none was found.
+fn told(found: Option<Diagnosis>) -> Diagnosis {
+    found.unwrap_or_else(Diagnosis::not_found_again)
+}
+
+/// A byte of the file and what stands there.
+fn byte(place: u64, what: &str) -> Place {
+    Place::byte(place, "the file", what)
+}
+
+impl Seen<'_> {
+    /// How many minishards there are.
+    fn minishards(&self) -> u64 {
+        1 << self.sharding.minishard_bits.min(12)
+    }
+
+    /// The length of the shard index, from whose end all places count.
+    fn index_length(&self) -> u64 {
+        ENTRY * self.minishards()
+    }
+
+    fn file_length(&self) -> u64 {
+        self.file.len() as u64
+    }
+
+    /// Refusal 6. A file that is too long is read only as far as that shows.
+    fn length(&self) -> Diagnosis {
+        let (length, index) = (self.file_length(), self.index_length());
+        if length > MOST_BYTES {
+            return Diagnosis::new(
+                format!("a file of more than {MOST_BYTES} bytes"),
+                format!("at most {MOST_BYTES} bytes"),
+                "the file's length: is it a shard, and not several joined together?",
+            );
+        }
+        Diagnosis::new(
+            format!("a file of {}", counted(length, "byte")),
+            format!(
+                "at least {index} bytes: a shard index of 16 bytes for each of {}",
+                counted(self.minishards(), "minishard")
+            ),
+            "the file's length: was it cut short? and the minishard bits of the settings",
+        )
+    }
+
+    /// Refusal 5 of a minishard number.
+    fn no_minishard(&self, minishard: u64) -> Diagnosis {
+        Diagnosis::new(
+            format!("minishard number {minishard}"),
+            format!(
+                "a number below {} (minishard bits: {})",
+                self.minishards(),
+                self.sharding.minishard_bits
+            ),
+            "--minishard; and the minishard bits of the settings",
+        )
+    }
+
+    /// Refusal 5 of an id that belongs elsewhere.
+    fn other_shard(&self, id: u64) -> Diagnosis {
+        let Ok(place) = self.sharding.place(id) else {
+            return of_sharding(self.sharding);
+        };
+        let name = |number| self.sharding.shard_name(number).unwrap_or_default();
+        Diagnosis::new(
+            format!(
+                "id {id} belongs to shard {} ({})",
+                place.shard,
+                name(place.shard)
+            ),
+            format!("an id of shard {} ({})", self.number, name(self.number)),
+            format!("{}, minishard {}", name(place.shard), place.minishard),
+        )
+    }
+
+    /// The first fault in number order of minishards, where it is this one.
+    fn first_fault(&self, number: u8) -> Option<Diagnosis> {
+        let faults = |minishard| (7..=11).map(move |number| (minishard, number));
+        let mut all = (0..self.minishards()).flat_map(faults);
+        let (found, diagnosis) =
+            all.find_map(|(minishard, number)| Some((number, self.fault(minishard, number)?)))?;
+        (found == number).then_some(diagnosis)
+    }
+
+    /// The fault of this number in a minishard that has none of a lower number.
+    fn fault(&self, minishard: u64, number: u8) -> Option<Diagnosis> {
+        match number {
+            7 => self.bad_entry(minishard),
+            8 => self.bad_length(minishard),
+            9 => self.bad_order(minishard),
+            10 => self.bad_place(minishard),
+            11 => self.bad_end(minishard),
+            _ => None,
+        }
+    }
+
+    /// Start and end of a minishard index, counted from the end of the shard
+    /// index.
+    fn entry(&self, minishard: u64) -> Option<(u64, u64)> {
+        let place = ENTRY * minishard;
+        Some((u64_at(self.file, place)?, u64_at(self.file, place + 8)?))
+    }
+
+    /// Refusal 7.
+    fn bad_entry(&self, minishard: u64) -> Option<Diagnosis> {
+        let (start, end) = self.entry(minishard)?;
+        let what = format!("shard index, entry of minishard {minishard}");
+        if start > end {
+            return Some(Diagnosis::new(
+                format!("start {start} is after end {end}"),
+                "a start that is at most the end",
+                byte(ENTRY * minishard, &format!("{what}: start, then end")),
+            ));
+        }
+        let last = u128::from(self.index_length()) + u128::from(end);
+        if start == end || last <= u128::from(self.file_length()) {
+            return None;
+        }
+        Some(Diagnosis::new(
+            format!(
+                "start {start} and end {end}, counted from byte {}: the end is byte {last}, the \
+                 file ends at byte {}",
+                self.index_length(),
+                self.file_length()
+            ),
+            format!(
+                "an end of at most {}",
+                self.file_length().saturating_sub(self.index_length())
+            ),
+            byte(ENTRY * minishard + 8, &format!("{what}: end")),
+        ))
+    }
+
+    /// Refusal 8.
+    fn bad_length(&self, minishard: u64) -> Option<Diagnosis> {
+        let (start, end) = self.entry(minishard)?;
+        let length = end.checked_sub(start)?;
+        let rest = length % ROWS;
+        (rest != 0).then(|| {
+            Diagnosis::new(
+                format!("a minishard index of {length} bytes, {rest} more than a multiple of 24"),
+                "a multiple of 24: three numbers of 8 bytes for each chunk",
+                byte(
+                    ENTRY * minishard,
+                    &format!(
+                        "shard index, entry of minishard {minishard}: start {start}, end {end}"
+                    ),
+                ),
+            )
+        })
+    }
+
+    /// The entries of a minishard that has neither 7 nor 8.
+    fn entries(&self, minishard: u64) -> Option<Entries<'_>> {
+        let (start, end) = self.entry(minishard)?;
+        let length = end.checked_sub(start)?;
+        if length == 0 {
+            return Some(Entries::new(&[], 0, self.index_length()));
+        }
+        let place = self.index_length().checked_add(start)?;
+        let (from, to) = (
+            usize::try_from(place).ok()?,
+            usize::try_from(place + length).ok()?,
+        );
+        let rows = self.file.get(from..to).filter(|_| length % ROWS == 0)?;
+        Some(Entries::new(rows, place, self.index_length()))
+    }
+
+    /// Refusal 9.
+    fn bad_order(&self, minishard: u64) -> Option<Diagnosis> {
+        let mut before = None;
+        for entry in self.entries(minishard)? {
+            let found = match before {
+                _ if entry.id > u128::from(u64::MAX) => {
+                    format!("entry {} has id {}", entry.place, entry.id)
+                }
+                Some(before) if entry.id <= before => format!(
+                    "entry {} has id {}, the entry before it has id {before}",
+                    entry.place, entry.id
+                ),
+                _ => {
+                    before = Some(entry.id);
+                    continue;
+                }
+            };
+            let told = Diagnosis::new(
+                found,
+                format!(
+                    "each id greater than the one before it, at most {}",
+                    u64::MAX
+                ),
+                byte(entry.id_step, &format!("id steps of minishard {minishard}")),
+            );
+            return Some(told.of_entry(entry.place, entry.id));
+        }
+        None
+    }
+
+    /// Refusal 10.
+    fn bad_place(&self, minishard: u64) -> Option<Diagnosis> {
+        for entry in self.entries(minishard)? {
+            let id = u64::try_from(entry.id).ok()?;
+            let place = self.sharding.place(id).ok()?;
+            if place.shard != self.number || place.minishard != minishard {
+                let told = Diagnosis::new(
+                    format!(
+                        "entry {} has id {id}, which belongs to minishard {} of shard {} ({})",
+                        entry.place,
+                        place.minishard,
+                        place.shard,
+                        self.sharding.shard_name(place.shard).unwrap_or_default()
+                    ),
+                    format!("ids of minishard {minishard} of shard {}", self.number),
+                    byte(entry.id_step, &format!("id steps of minishard {minishard}"))
+                        .and("; and the settings, if many ids are elsewhere"),
+                );
+                return Some(told.of_entry(entry.place, entry.id));
+            }
+        }
+        None
+    }
+
+    /// Refusal 11.
+    fn bad_end(&self, minishard: u64) -> Option<Diagnosis> {
+        let length = u128::from(self.file_length());
+        let bad = |entry: &Entry| entry.end > length;
+        let entry = self.entries(minishard)?.find(bad)?;
+        let look_at = if entry.start > length {
+            byte(
+                entry.start_step,
+                &format!("start steps of minishard {minishard}"),
+            )
+        } else {
+            byte(entry.size, &format!("sizes of minishard {minishard}"))
+        };
+        let told = Diagnosis::new(
+            format!(
+                "entry {}, id {}: its chunk starts at byte {} and ends at byte {}, the file ends \
+                 at byte {length}",
+                entry.place, entry.id, entry.start, entry.end
+            ),
+            format!("an end of at most {length}"),
+            look_at,
+        );
+        Some(told.of_entry(entry.place, entry.id))
+    }
+
+    /// Refusal 12.
+    fn not_listed(&self, id: u64, minishard: u64) -> Option<Diagnosis> {
+        let (start, end) = self.entry(minishard)?;
+        let where_listed = format!("minishard {minishard} of shard {}", self.number);
+        let expected = format!("id {id} listed in {where_listed}");
+        if start == end {
+            return Some(Diagnosis::new(
+                format!("{where_listed} lists no chunks"),
+                expected,
+                byte(
+                    ENTRY * minishard,
+                    &format!(
+                        "shard index, entry of minishard {minishard}: start and end are equal"
+                    ),
+                ),
+            ));
+        }
+        let wanted = u128::from(id);
+        let ids = || Some(self.entries(minishard)?.map(|entry| entry.id));
+        let below = ids()?.filter(|id| *id < wanted).last();
+        let above = ids()?.find(|id| *id > wanted);
+        let near = match (below, above) {
+            (Some(below), Some(above)) => format!("the nearest ids are {below} and {above}"),
+            (Some(below), None) => format!("the last id is {below}"),
+            (None, Some(above)) => format!("the first id is {above}"),
+            (None, None) => return None,
+        };
+        let place = self.index_length() + start;
+        Some(Diagnosis::new(
+            format!(
+                "{where_listed} lists {}, not this one; {near}",
+                counted(ids()?.count() as u64, "chunk")
+            ),
+            expected,
+            byte(place, &format!("index of minishard {minishard}")),
+        ))
+    }
+
+    /// Refusal 13 of settling: the settled form's length is that of its parts.
+    fn settled_length(&self) -> Diagnosis {
+        let parts = |minishard| {
+            let entries = self.entries(minishard)?;
+            Some(entries.map(|entry| entry.length() + u128::from(ROWS)).sum())
+        };
+        let all: Option<Vec<u128>> = (0..self.minishards()).map(parts).collect();
+        let total = all.map(|parts| u128::from(self.index_length()) + parts.iter().sum::<u128>());
+        match total {
+            Some(total) if total > u128::from(MOST_BYTES) => Diagnosis::new(
+                format!("a settled form of {total} bytes"),
+                format!("at most {MOST_BYTES} bytes"),
+                "chunks that share bytes: a settled form writes each chunk's bytes out by themselves",
+            ),
+            _ => Diagnosis::not_found_again(),
+        }
+    }
+}
+
+/// A chunk as a minishard index lists it, in exact numbers.
+struct Entry {
+    /// Its number in the minishard.
+    place: u64,
+    id: u128,
+    /// Where the chunk starts and ends in the file.
+    start: u128,
+    end: u128,
+    /// Where its three numbers stand in the file.
+    id_step: u64,
+    start_step: u64,
+    size: u64,
+}
+
+impl Entry {
+    fn length(&self) -> u128 {
+        self.end - self.start
+    }
+}
+
+/// Goes through the three rows of a minishard index (scope, 'From id to
+/// shard').
+struct Entries<'a> {
+    rows: &'a [u8],
+    /// Where the rows begin in the file.
+    begin: u64,
+    next: u64,
+    id: u128,
+    /// Where the chunk before ends.
+    end: u128,
+}
+
+impl<'a> Entries<'a> {
+    fn new(rows: &'a [u8], begin: u64, index_length: u64) -> Self {
+        Entries {
+            rows,
+            begin,
+            next: 0,
+            id: 0,
+            end: u128::from(index_length),
+        }
+    }
+}
+
+impl Iterator for Entries<'_> {
+    type Item = Entry;
+
+    fn next(&mut self) -> Option<Entry> {
+        let row = self.rows.len() as u64 / 3;
+        let place = self.next;
+        if 8 * place >= row {
+            return None;
+        }
+        self.next += 1;
+        let [ids, starts, sizes] = [0, 1, 2].map(|number| number * row + 8 * place);
+        self.id += u128::from(u64_at(self.rows, ids)?);
+        let start = self.end + u128::from(u64_at(self.rows, starts)?);
+        self.end = start + u128::from(u64_at(self.rows, sizes)?);
+        Some(Entry {
+            place,
+            id: self.id,
+            start,
+            end: self.end,
+            id_step: self.begin + ids,
+            start_step: self.begin + starts,
+            size: self.begin + sizes,
+        })
+    }
+}
+
+#[cfg(test)]
+mod tests {
+    use super::*;
+    use coronagamba::Shard;
+
+    const SHARDING: Sharding = Sharding {
+        preshift: 0,
+        hash: 0,
+        minishard_bits: 1,
+        shard_bits: 0,
+    };
+
+    /// The scope's case: ids 4 and 10 with bytes `ab` and `cde`, settled. The
+    /// shard index is bytes 0 to 32, the chunks are bytes 32 to 37, the rows of
+    /// minishard 0 begin at bytes 37, 53 and 69.
+    fn sound() -> Vec<u8> {
+        let mut file = Vec::new();
+        let put = |file: &mut Vec<u8>, numbers: &[u64]| {
+            numbers
+                .iter()
+                .for_each(|number| file.extend(number.to_le_bytes()));
+        };
+        put(&mut file, &[5, 53, 0, 0]);
+        file.extend(b"abcde");
+        put(&mut file, &[4, 6, 0, 0, 2, 3]);
+        file
+    }
+
+    /// The sound shard with other numbers at these bytes.
+    fn damaged(changes: &[(usize, u64)]) -> Vec<u8> {
+        let mut file = sound();
+        for (place, number) in changes {
+            file[*place..][..8].copy_from_slice(&number.to_le_bytes());
+        }
+        file
+    }
+
+    /// The check's refusal of a file, explained. Settling, which names no
+    /// minishard, must be explained in the same way.
+    fn told_check(file: &[u8], number: u8, minishard: Option<u64>) -> Diagnosis {
+        let shard = Shard::open(SHARDING, 0, file);
+        let refusal = shard.check().unwrap_err();
+        assert_eq!((refusal.number, refusal.minishard), (number, minishard));
+        let told = of_shard(&SHARDING, 0, file, refusal);
+        let settling = shard.settled_length().unwrap_err();
+        assert_eq!((settling.number, settling.minishard), (number, None));
+        assert_eq!(of_shard(&SHARDING, 0, file, settling), told);
+        told
+    }
+
+    fn told_lookup(sharding: Sharding, number: u64, file: &[u8], id: u64) -> (u8, Diagnosis) {
+        let refusal = Shard::open(sharding, number, file).lookup(id).unwrap_err();
+        let told = of_lookup(&sharding, number, file, id, refusal);
+        (refusal.number, told)
+    }
+
+    #[test]
+    fn the_sound_shard_is_sound() {
+        let file = sound();
+        assert_eq!(file.len(), 85);
+        assert_eq!(Shard::open(SHARDING, 0, &file).check(), Ok(()));
+        let seen = Seen {
+            sharding: &SHARDING,
+            number: 0,
+            file: &file,
+        };
+        assert_eq!(seen.first_fault(9), None);
+    }
+
+    #[test]
+    fn lengths() {
+        let told = told_check(&sound()[..31], 6, None);
+        assert_eq!(told.found, "a file of 31 bytes");
+        assert_eq!(
+            told.expected,
+            "at least 32 bytes: a shard index of 16 bytes for each of 2 minishards"
+        );
+    }
+
+    #[test]
+    fn index_entries() {
+        let told = told_check(&damaged(&[(0, 54)]), 7, Some(0));
+        assert_eq!(told.found, "start 54 is after end 53");
+        assert_eq!(
+            told.look_at,
+            "byte 0 of the file (shard index, entry of minishard 0: start, then end)"
+        );
+        let told = told_check(&damaged(&[(24, 54)]), 7, Some(1));
+        assert_eq!(
+            told.found,
+            "start 0 and end 54, counted from byte 32: the end is byte 86, the file ends at byte 85"
+        );
+        assert_eq!(told.expected, "an end of at most 53");
+        assert_eq!(
+            told.look_at,
+            "byte 24 of the file (shard index, entry of minishard 1: end)"
+        );
+        let told = told_check(&damaged(&[(24, u64::MAX)]), 7, Some(1));
+        assert!(told.found.contains("the end is byte 18446744073709551647"));
+    }
+
+    #[test]
+    fn index_lengths() {
+        let told = told_check(&damaged(&[(8, 52)]), 8, Some(0));
+        assert_eq!(
+            told.found,
+            "a minishard index of 47 bytes, 23 more than a multiple of 24"
+        );
+        assert_eq!(
+            told.look_at,
+            "byte 0 of the file (shard index, entry of minishard 0: start 5, end 52)"
+        );
+    }
+
+    #[test]
+    fn order_of_ids() {
+        let told = told_check(&damaged(&[(45, 0)]), 9, Some(0));
+        assert_eq!(told.found, "entry 1 has id 4, the entry before it has id 4");
+        assert_eq!(
+            told.look_at,
+            "byte 45 of the file (id steps of minishard 0)"
+        );
+        let told = told_check(&damaged(&[(45, u64::MAX - 3)]), 9, Some(0));
+        assert_eq!(told.found, "entry 1 has id 18446744073709551616");
+        assert_eq!(
+            told.expected,
+            "each id greater than the one before it, at most 18446744073709551615"
+        );
+    }
+
+    #[test]
+    fn places_of_ids() {
+        let told = told_check(&damaged(&[(37, 3), (45, 7)]), 10, Some(0));
+        assert_eq!(
+            told.found,
+            "entry 0 has id 3, which belongs to minishard 1 of shard 0 (0.shard)"
+        );
+        assert_eq!(told.expected, "ids of minishard 0 of shard 0");
+        assert!(told
+            .look_at
+            .starts_with("byte 37 of the file (id steps of minishard 0)"));
+        // Minishard 1 lists the chunks of minishard 0.
+        let told = told_check(&damaged(&[(16, 5), (24, 53)]), 10, Some(1));
+        assert_eq!(
+            told.found,
+            "entry 0 has id 4, which belongs to minishard 0 of shard 0 (0.shard)"
+        );
+        assert!(told
+            .look_at
+            .starts_with("byte 37 of the file (id steps of minishard 1)"));
+    }
+
+    #[test]
+    fn ends_of_chunks() {
+        let told = told_check(&damaged(&[(77, 52)]), 11, Some(0));
+        assert_eq!(
+            told.found,
+            "entry 1, id 10: its chunk starts at byte 34 and ends at byte 86, the file ends at byte 85"
+        );
+        assert_eq!(told.expected, "an end of at most 85");
+        assert_eq!(told.look_at, "byte 77 of the file (sizes of minishard 0)");
+        let told = told_check(&damaged(&[(61, 100)]), 11, Some(0));
+        assert!(told
+            .found
+            .contains("starts at byte 134 and ends at byte 137"));
+        assert_eq!(
+            told.look_at,
+            "byte 61 of the file (start steps of minishard 0)"
+        );
+        let told = told_check(&damaged(&[(53, u64::MAX), (69, u64::MAX)]), 11, Some(0));
+        assert!(told.found.contains(
+            "entry 0, id 4: its chunk starts at byte 18446744073709551647 and ends at byte \
+             36893488147419103262"
+        ));
+    }
+
+    // Scope, cases: ids 6 and 7 give 12.
+    #[test]
+    fn ids_that_are_not_listed() {
+        let file = sound();
+        let found = |id| {
+            let (number, told) = told_lookup(SHARDING, 0, &file, id);
+            assert_eq!(number, 12);
+            told.found
+        };
+        let lists = "minishard 0 of shard 0 lists 2 chunks, not this one;";
+        assert_eq!(found(6), format!("{lists} the nearest ids are 4 and 10"));
+        assert_eq!(found(2), format!("{lists} the first id is 4"));
+        assert_eq!(found(12), format!("{lists} the last id is 10"));
+        assert_eq!(found(7), "minishard 1 of shard 0 lists no chunks");
+        let (_, told) = told_lookup(SHARDING, 0, &file, 6);
+        assert_eq!(told.look_at, "byte 37 of the file (index of minishard 0)");
+    }
+
+    #[test]
+    fn ids_of_another_shard() {
+        let sharding = Sharding {
+            shard_bits: 5,
+            ..SHARDING
+        };
+        // Id 21 is binary 10101: minishard 1, shard 1010 binary.
+        let (number, told) = told_lookup(sharding, 3, &sound(), 21);
+        assert_eq!(number, 5);
+        assert_eq!(told.found, "id 21 belongs to shard 10 (0a.shard)");
+        assert_eq!(told.expected, "an id of shard 3 (03.shard)");
+        assert_eq!(told.look_at, "0a.shard, minishard 1");
+        let (number, told) = told_lookup(sharding, 32, &sound(), 21);
+        assert_eq!(number, 5);
+        assert_eq!(told.found, "shard number 32");
+    }
+
+    #[test]
+    fn a_lookup_explains_its_own_minishard() {
+        // Both minishards are damaged; the lookup judges minishard 1 alone.
+        let file = damaged(&[(45, 0), (24, 54)]);
+        let (number, told) = told_lookup(SHARDING, 0, &file, 7);
+        assert_eq!(number, 7);
+        assert!(told.look_at.contains("minishard 1"));
+        let shard = Shard::open(SHARDING, 0, &file);
+        let refusal = shard.listed_count(1).unwrap_err();
+        assert_eq!(of_listing(&SHARDING, 0, &file, 1, refusal), told);
+    }
+
+    #[test]
+    fn minishards_that_are_not_there() {
+        let file = sound();
+        let refusal = Shard::open(SHARDING, 0, &file).listed_count(2).unwrap_err();
+        assert_eq!(refusal.number, 5);
+        let told = of_listing(&SHARDING, 0, &file, 2, refusal);
+        assert_eq!(told.found, "minishard number 2");
+        assert_eq!(told.expected, "a number below 2 (minishard bits: 1)");
+    }
+
+    /// 4,096 minishards, each with one chunk of the same 300,000 bytes.
+    #[test]
+    fn settled_forms_that_are_too_long() {
+        const MINISHARDS: u64 = 4096;
+        const SIZE: u64 = 300_000;
+        let sharding = Sharding {
+            minishard_bits: 12,
+            ..SHARDING
+        };
+        let mut file = Vec::new();
+        for minishard in 0..MINISHARDS {
+            let start = SIZE + 24 * minishard;
+            file.extend(start.to_le_bytes());
+            file.extend((start + 24).to_le_bytes());
+        }
+        file.resize(file.len() + SIZE as usize, 0);
+        for minishard in 0..MINISHARDS {
+            for number in [minishard, 0, SIZE] {
+                file.extend(number.to_le_bytes());
+            }
+        }
+        let refusal = Shard::open(sharding, 0, &file)
+            .settled_length()
+            .unwrap_err();
+        assert_eq!(refusal.number, 13);
+        let told = of_shard(&sharding, 0, &file, refusal);
+        // 4096 x (16 + 24 + 300000)
+        assert_eq!(told.found, "a settled form of 1228963840 bytes");
+        assert_eq!(told.expected, "at most 1073741824 bytes");
+    }
+}

@@ -1,0 +1,232 @@
+//! What stops a command, and the exit status that goes with it.
+
+use std::fmt;
+use std::fs;
+use std::io;
+use std::path::{Path, PathBuf};
+
+use coronagamba::Refusal;
+
+use crate::diagnosis::Diagnosis;
+use crate::files::MOST_BYTES;
+use crate::report::shown;
+
+/// The exit status of the program. Over many files the greatest one counts.
+#[derive(Clone, Copy, Debug, Default, PartialEq, Eq, PartialOrd, Ord)]
+pub enum Status {
+    /// Yes.
+    #[default]
+    Yes = 0,
+    /// A refusal, or the answer 'different', 'absent' or 'missing'.
+    No = 1,
+    /// Wrong use of the program.
+    Use = 2,
+    /// The operating system's error.
+    System = 3,
+}
+
+/// What a refusal is about.
+#[derive(Clone, Debug, PartialEq, Eq)]
+pub enum Subject {
+    /// A file or folder.
+    Path(PathBuf),
+    /// Something that was asked for in words: the settings, a cell, a key.
+    Asked(String),
+}
+
+impl fmt::Display for Subject {
+    fn fmt(&self, f: &mut fmt::Formatter<'_>) -> fmt::Result {
+        match self {
+            Subject::Path(path) => f.write_str(&shown(path)),
+            Subject::Asked(asked) => f.write_str(asked),
+        }
+    }
+}
+
+/// A refusal of the library with what the desk can say about it.
+#[derive(Clone, Debug, PartialEq, Eq)]
+pub struct Refused {
+    /// What was refused.
+    pub subject: Subject,
+    /// The library's verdict.
+    pub refusal: Refusal,
+    /// What was found, what was expected, where to look.
+    pub diagnosis: Diagnosis,
+}
+
+impl Refused {
+    /// A refusal about a file.
+    pub fn file(path: &Path, refusal: Refusal, mut diagnosis: Diagnosis) -> Self {
+        if let Some(length) = length_not_read(path, refusal) {
+            diagnosis.found = format!("a file of {length} bytes");
+        }
+        Refused {
+            subject: Subject::Path(path.to_path_buf()),
+            refusal,
+            diagnosis,
+        }
+    }
+
+    /// A refusal about something that was asked for in words.
+    pub fn asked(asked: impl Into<String>, refusal: Refusal, diagnosis: Diagnosis) -> Self {
+        Refused {
+            subject: Subject::Asked(asked.into()),
+            refusal,
+            diagnosis,
+        }
+    }
+}
+
+/// The length of a shard file that is too long. It is read only as far as that
+/// shows; the system knows the rest.
+fn length_not_read(path: &Path, refusal: Refusal) -> Option<u64> {
+    let about = fs::metadata(path).ok()?;
+    let too_long = refusal.number == 6 && about.is_file() && about.len() >= MOST_BYTES;
+    too_long.then_some(about.len())
+}
+
+/// The four lines of a refusal, without the end of the last line.
+impl fmt::Display for Refused {
+    fn fmt(&self, f: &mut fmt::Formatter<'_>) -> fmt::Result {
+        write!(f, "{}: refused {}", self.subject, self.refusal.number)?;
+        if let Some(minishard) = self.refusal.minishard {
+            write!(f, " in minishard {minishard}")?;
+        }
+        writeln!(f, ": {}", self.refusal.sentence())?;
+        writeln!(f, "  found: {}", self.diagnosis.found)?;
+        writeln!(f, "  expected: {}", self.diagnosis.expected)?;
+        write!(f, "  look at: {}", self.diagnosis.look_at)
+    }
+}
+
+/// What stops a command.
+#[derive(Debug)]
+pub enum Fault {
+    /// The library refused.
+    Refused(Box<Refused>),
+    /// The program was used wrongly.
+    Use {
+        /// What was wrong, one sentence without an end.
+        message: String,
+    },
+    /// The card that gives the settings was refused or could not be read. It is
+    /// told apart from the inputs.
+    Card(Box<Fault>),
+    /// The operating system's error.
+    System {
+        /// The file or folder.
+        path: PathBuf,
+        /// What could not be done with it: 'opened', 'read', 'written' ..
+        done: &'static str,
+        /// What the system says.
+        error: io::Error,
+    },
+    /// Nobody reads the output any more. Nothing is said about it.
+    ClosedPipe,
+    /// Standard output cannot be written for another reason.
+    Unwritten {
+        /// What the system says.
+        error: io::Error,
+    },
+}
+
+impl Fault {
+    /// Wrong use.
+    pub fn wrong_use(message: impl Into<String>) -> Self {
+        Fault::Use {
+            message: message.into(),
+        }
+    }
+
+    /// The operating system's error over a file: it cannot be `done`.
+    pub fn system(path: &Path, done: &'static str, error: io::Error) -> Self {
+        Fault::System {
+            path: path.to_path_buf(),
+            done,
+            error,
+        }
+    }
+
+    /// The exit status that goes with it.
+    pub fn status(&self) -> Status {
+        match self {
+            Fault::Refused(_) => Status::No,
+            Fault::Use { .. } => Status::Use,
+            Fault::Card(fault) => fault.status(),
+            Fault::System { .. } | Fault::ClosedPipe | Fault::Unwritten { .. } => Status::System,
+        }
+    }
+
+    /// Whether the system had no memory to give.
+    pub fn lacks_memory(&self) -> bool {
+        matches!(self, Fault::System { error, .. } if error.kind() == io::ErrorKind::OutOfMemory)
+    }
+
+    /// Whether no further answer can be given.
+    pub fn ends_the_run(&self) -> bool {
+        matches!(self, Fault::ClosedPipe | Fault::Unwritten { .. })
+    }
+}
+
+impl From<Refused> for Fault {
+    fn from(refused: Refused) -> Self {
+        Fault::Refused(Box::new(refused))
+    }
+}
+
+impl fmt::Display for Fault {
+    fn fmt(&self, f: &mut fmt::Formatter<'_>) -> fmt::Result {
+        match self {
+            Fault::Refused(refused) => refused.fmt(f),
+            Fault::Use { message } => f.write_str(message),
+            Fault::Card(fault) => fault.fmt(f),
+            Fault::System { path, done, error } => {
+                write!(f, "{}: cannot be {done}: {error}", shown(path))
+            }
+            Fault::ClosedPipe => f.write_str("the output was closed"),
+            Fault::Unwritten { error } => write!(f, "standard output: cannot be written: {error}"),
+        }
+    }
+}
+
+#[cfg(test)]
+mod tests {
+    use super::*;
+
+    fn refused(minishard: Option<u64>) -> Refused {
+        let diagnosis = Diagnosis::new("one", "two", "three");
+        let refusal = Refusal {
+            number: 11,
+            minishard,
+        };
+        Refused::file(Path::new("a/0.shard"), refusal, diagnosis)
+    }
+
+    #[test]
+    fn a_refusal_has_four_lines() {
+        assert_eq!(
+            refused(Some(3)).to_string(),
+            "a/0.shard: refused 11 in minishard 3: A chunk ends past the file.\n  \
+             found: one\n  expected: two\n  look at: three"
+        );
+        assert_eq!(
+            refused(None).to_string().lines().next(),
+            Some("a/0.shard: refused 11: A chunk ends past the file.")
+        );
+    }
+
+    #[test]
+    fn the_greatest_status_is_the_worst() {
+        assert!(Status::Yes < Status::No && Status::No < Status::Use);
+        assert!(Status::Use < Status::System);
+        assert_eq!(Fault::from(refused(None)).status() as u8, 1);
+        assert_eq!(Fault::wrong_use("x").status() as u8, 2);
+        let error = io::Error::from_raw_os_error(2);
+        let fault = Fault::system(Path::new("b"), "opened", error);
+        assert_eq!(fault.status() as u8, 3);
+        assert_eq!(
+            fault.to_string(),
+            "b: cannot be opened: No such file or directory (os error 2)"
+        );
+    }
+}

@@ -1,0 +1,553 @@
+//! All help texts. The examples work on the sample deposit, which
+//! `coronagamba sample demo` makes in the folder `demo`.
+
+/// The options that give the sharding.
+macro_rules! sharding {
+    () => {
+        "\
+settings, which are never assumed:
+  --card FILE         sharding and volume from a deposit card; or all of:
+  --preshift N        low bits of an id that do not count, 0 to 63
+  --hash NAME         identity or murmur (also: murmurhash3_x86_128)
+  --minishard-bits N  0 to 12
+  --shard-bits N      0 to 32
+"
+    };
+}
+
+/// The options that give the volume, behind those of the sharding.
+macro_rules! volume {
+    () => {
+        "  --size X,Y,Z        the volume's extents in voxels
+  --chunk X,Y,Z       a chunk's extents in voxels
+  --offset X,Y,Z      where the volume begins; 0,0,0 where it is not given
+"
+    };
+}
+
+/// The option of the shard number.
+macro_rules! shard {
+    () => {
+        "  --shard N           the shard number of a file whose name does not say it
+"
+    };
+}
+
+/// The option for JSON.
+macro_rules! json {
+    () => {
+        "  --json              one JSON object a line; ids and keys are exact numbers,
+                      which some readers round above 2^53
+"
+    };
+}
+
+/// The program's name and version.
+pub const VERSION: &str = concat!("coronagamba ", env!("CARGO_PKG_VERSION"), "\n");
+
+/// The program as a whole.
+pub const PROGRAM: &str = "\
+Checks, settles, compares and reads the shards of a deposit.
+
+usage: coronagamba COMMAND [OPTIONS] [ARGUMENTS]
+       coronagamba help [COMMAND]
+       coronagamba --version
+
+shards
+  check      is each shard sound?
+  settle     write the settled form of each shard
+  same       do two shards or two deposits hold the same chunks?
+  get        the bytes of one chunk
+  list       all chunks of a shard with their places
+cells
+  locate     the key, shard file and minishard of a cell
+  cell       the cell of a key and its voxels
+  name       the name of an unsharded chunk, or of a shard file
+cards and manifests
+  card       make, show and check deposit cards
+  manifest   show and check mesh manifests, look at one node
+help
+  explain    what a refusal number means and what to do
+  sample     make a small deposit to try all this on
+
+Options may stand anywhere behind the command, '--opt value' or '--opt=value';
+'--' ends them. Numbers are decimal; ids, keys and shard numbers may also be
+hexadecimal with 0x.
+
+exit status: 0 yes; 1 a refusal, or the answer 'different', 'absent' or
+'missing'; 2 wrong use, or an output exists and there is no --force; 3 the
+operating system's error. Over many files the greatest of them counts.
+
+example:
+  coronagamba sample demo
+  coronagamba check demo/copy-a --card demo/deposit.card
+";
+
+/// `check`.
+pub const CHECK: &str = concat!(
+    "\
+Tells for each shard whether it is sound: every index entry, id and chunk is
+as the rules ask, so that every listed chunk can be handed out.
+
+usage: coronagamba check PATH... [OPTIONS]
+
+PATH is a shard file, or a folder: then all of its files that end in .shard
+are checked, in name order, and the run goes on after a refused one. Other
+files are passed over and counted. Symbolic links to shard files are followed;
+subfolders are not gone through. Of a folder with at most 65536 possible
+shards a line names those that are not there; that is no fault, since no chunk
+may belong to them. Who closes the output, as 'head' does, ends the run.
+
+",
+    sharding!(),
+    "
+options:
+",
+    shard!(),
+    "  --jobs N            how many shards are checked at once; all cores otherwise\n",
+    json!(),
+    "
+exit status: 0 all are sound; 1 one is refused or has no shard's name, or a
+folder has no shards; 2 wrong use; 3 one cannot be read.
+
+example:
+  coronagamba check demo/copy-a --card demo/deposit.card
+  coronagamba check demo/damaged --card demo/deposit.card
+",
+);
+
+/// `settle`.
+pub const SETTLE: &str = concat!(
+    "\
+Writes settled forms: the one layout that what a shard lists has. Two sound
+shards hold the same chunks exactly when their settled forms are the same
+bytes.
+
+usage: coronagamba settle FILE --out FILE2 [OPTIONS]
+       coronagamba settle DIR --out DIR2 [OPTIONS]
+
+A folder's shards are settled into files of the same names; the run goes on
+after a refused one. An output is written beside its place and gets its name
+only when it is whole. Inputs are never changed. A run that was stopped can
+be started again: what is already there with the same bytes is left. None of
+the inputs, the card among them, is ever an output too, by whatever path, also
+with --force. Who closes the output, as 'head' does, ends the run: shards that
+were not begun are not settled then.
+
+",
+    sharding!(),
+    "
+options:
+  --out PATH          the output file or folder; a missing folder is made
+  --force             overwrite existing files that hold other bytes
+",
+    shard!(),
+    "  --jobs N            how many shards are settled at once; two for each core\n                      otherwise, since each waits for the disk at its end\n",
+    json!(),
+    "
+exit status: 0 all are settled or already there; 1 one is refused or has no
+shard's name, or a folder has no shards; 2 wrong use, or an output exists
+with other bytes; 3 one cannot be read or written.
+
+example:
+  coronagamba settle demo/copy-b --out settled --card demo/deposit.card
+",
+);
+
+/// `same`.
+pub const SAME: &str = concat!(
+    "\
+Tells whether two shards or two folders of shards hold the same chunks, in
+whatever layout.
+
+usage: coronagamba same PATH1 PATH2 [OPTIONS]
+
+Both are files or both are folders, of one sharding. Their settled forms are
+compared byte for byte: for sound shards of one sharding and number these are
+equal exactly when the same ids list the same bytes, which is proved for this
+library. For each shard of either side a line says same, different (with the
+first id that differs, in rising order, and how), refused, or on one side
+only; then one sentence answers for the whole. Bytes of a chunk are counted
+from 0. A sound shard that only one side has is a difference where it lists
+chunks, and none where it lists no chunk. Something that is refused, cannot be
+read or has no shard's name leaves the answer open, unless another shard
+differs: a misnamed file may be the shard that its side lacks. Who closes the
+output, as 'head' does, ends the run.
+
+",
+    sharding!(),
+    "
+options:
+",
+    shard!(),
+    "  --jobs N            how many shards are compared at once; all cores otherwise\n",
+    json!(),
+    "
+exit status: 0 the same; 1 different or not known; 2 wrong use; 3 a file
+cannot be read.
+
+example:
+  coronagamba same demo/copy-a demo/copy-b --card demo/deposit.card
+",
+);
+
+/// `get`.
+pub const GET: &str = concat!(
+    "\
+Writes the bytes of one chunk.
+
+usage: coronagamba get PATH ID [OPTIONS]
+       coronagamba get PATH --cell X,Y,Z [OPTIONS]
+
+PATH is a shard file, or the folder of a deposit: then the id's shard file is
+found by its name, and a deposit that has no such file has no such chunk,
+which is said. The id of a cell's chunk is the cell's key; --cell needs
+the volume beside the sharding. Only the id's own minishard is judged. An id
+that is not listed is refused with 12: the chunk is absent.
+
+",
+    sharding!(),
+    volume!(),
+    "
+options:
+  --cell X,Y,Z        ask for a cell, counted in chunks from 0
+  --out FILE          write to a file, which appears only when it is whole;
+                      standard output otherwise
+  --force             overwrite an existing file
+",
+    shard!(),
+    "
+exit status: 0 the chunk is written; 1 refused or absent, or the deposit lacks
+the id's shard file; 2 wrong use, or the output exists; 3 a file cannot be
+read or written.
+
+example:
+  coronagamba get demo/copy-a --cell 1,2,1 --card demo/deposit.card
+  coronagamba get demo/copy-a/5.shard 21 --out chunk --card demo/deposit.card
+",
+);
+
+/// `list`.
+pub const LIST: &str = concat!(
+    "\
+Lists all chunks of a shard with their places in the file.
+
+usage: coronagamba list FILE... [OPTIONS]
+
+A header line, then a line for each chunk: id, minishard, start and length in
+bytes, counted from the file's first byte. With several files, a line with the
+file's path stands before each header line. Minishards stand in number order,
+chunks as they are stored. A minishard with a fault ends the list of that file
+with a refusal. For a whole folder, give its files: DIR/*.shard
+
+",
+    sharding!(),
+    "
+options:
+  --minishard N       list this minishard alone
+",
+    shard!(),
+    json!(),
+    "
+exit status: 0 listed; 1 refused; 2 wrong use; 3 a file cannot be read.
+
+example:
+  coronagamba list demo/copy-a/5.shard --card demo/deposit.card
+",
+);
+
+/// `locate`.
+pub const LOCATE: &str = concat!(
+    "\
+Tells where a cell's chunk is: key, shard file and minishard.
+
+usage: coronagamba locate X,Y,Z... [OPTIONS]
+       coronagamba locate - [OPTIONS]
+
+Cells count chunks from 0 on each axis. '-' reads cells from standard input,
+one a line; an empty last line does not count. Each cell has a line of its
+own: that of a refused one is 'refused N', that of a word or line that is no
+cell is 'wrong', and standard error says why. Whether the chunk is there,
+'get' tells.
+
+",
+    sharding!(),
+    volume!(),
+    "
+options:
+",
+    json!(),
+    "
+exit status: 0 all located; 1 one is refused; 2 wrong use, or one is no cell;
+3 the card or standard input cannot be read.
+
+example:
+  coronagamba locate 1,2,1 0,0,0 --card demo/deposit.card
+",
+);
+
+/// `cell`.
+pub const CELL: &str = concat!(
+    "\
+Tells which cell a key belongs to, and which voxels that cell has.
+
+usage: coronagamba cell KEY... [OPTIONS]
+
+A line for each key: the cell, then its voxels along x, y and z from begin to
+end, end excluded. That of a refused key is 'refused N', that of a word that
+is no number is 'wrong', and standard error says why.
+
+settings, which are never assumed:
+  --card FILE         the volume from a deposit card; or:
+",
+    volume!(),
+    "
+options:
+",
+    json!(),
+    "
+exit status: 0 all are cells; 1 one is refused; 2 wrong use, or one is no
+number; 3 the card cannot be read.
+
+example:
+  coronagamba cell 21 0x15 --card demo/deposit.card
+",
+);
+
+/// `name`.
+pub const NAME: &str = concat!(
+    "\
+Tells the name of a chunk that is stored without shards, or the file name of
+a shard.
+
+usage: coronagamba name X,Y,Z... [OPTIONS]
+       coronagamba name --shard N [OPTIONS]
+
+A line for each cell; that of a refused one is 'refused N', that of a word
+that is no cell is 'wrong', and standard error says why. Cells need the
+volume, --shard needs the sharding.
+
+",
+    sharding!(),
+    volume!(),
+    "
+options:
+  --shard N           name the file of this shard
+",
+    json!(),
+    "
+exit status: 0 all are named; 1 one is refused; 2 wrong use, or one is no
+cell; 3 the card cannot be read.
+
+example:
+  coronagamba name 1,2,1 --card demo/deposit.card
+  coronagamba name --shard 5 --card demo/deposit.card
+",
+);
+
+/// `card` and its members.
+pub const CARD: &str = "\
+Makes, shows and checks deposit cards. A card keeps the sharding and the
+volume of a deposit in 46 or 61 bytes, so that nobody has to assume them.
+
+usage: coronagamba card make --out FILE [OPTIONS]
+       coronagamba card show FILE [--json]
+       coronagamba card check FILE... [--json]
+
+'coronagamba card make --help' and so on tell more.
+
+example:
+  coronagamba card show demo/deposit.card
+";
+
+/// `card make`.
+pub const CARD_MAKE: &str = concat!(
+    "\
+Writes a deposit card.
+
+usage: coronagamba card make --out FILE [OPTIONS]
+
+what the card says, all needed but the offset:
+  --preshift N        low bits of an id that do not count, 0 to 63
+  --hash NAME         identity or murmur (also: murmurhash3_x86_128)
+  --minishard-bits N  0 to 12
+  --shard-bits N      0 to 32
+",
+    volume!(),
+    "
+options:
+  --out FILE          the card; it appears only when it is whole
+  --force             overwrite an existing file
+
+exit status: 0 written; 1 no card can say this; 2 wrong use, or the output
+exists; 3 the file cannot be written.
+
+example, the card of the sample deposit:
+  coronagamba card make --out my.card --preshift 1 --hash identity \\
+    --minishard-bits 1 --shard-bits 3 --size 300,260,200 --chunk 64,64,64 \\
+    --offset -64,0,0
+",
+);
+
+/// `card show`.
+pub const CARD_SHOW: &str = concat!(
+    "\
+Shows what a deposit card says, and the same settings as options.
+
+usage: coronagamba card show FILE [OPTIONS]
+
+options:
+",
+    json!(),
+    "
+exit status: 0 shown; 1 the card is refused; 2 wrong use; 3 the file cannot be
+read.
+
+example:
+  coronagamba card show demo/deposit.card
+",
+);
+
+/// `card check`.
+pub const CARD_CHECK: &str = concat!(
+    "\
+Tells for each file whether it is a deposit card.
+
+usage: coronagamba card check FILE... [OPTIONS]
+
+options:
+",
+    json!(),
+    "
+exit status: 0 all are cards; 1 one is refused; 2 wrong use; 3 one cannot be
+read.
+
+example:
+  coronagamba card check demo/deposit.card demo/murmur.card
+",
+);
+
+/// `manifest` and its members.
+pub const MANIFEST: &str = "\
+Shows and checks mesh manifests, and looks at one node.
+
+usage: coronagamba manifest show FILE [--nodes] [--json]
+       coronagamba manifest check FILE... [--json]
+       coronagamba manifest node FILE LEVEL NODE [--json]
+
+'coronagamba manifest show --help' and so on tell more.
+
+example:
+  coronagamba manifest show demo/mesh.manifest
+";
+
+/// `manifest show`.
+pub const MANIFEST_SHOW: &str = concat!(
+    "\
+Shows a mesh manifest: chunk shape, grid origin, and for each level its
+scale, vertex offset, node count and the bytes of all its fragments.
+
+usage: coronagamba manifest show FILE [OPTIONS]
+
+Reals have as many digits as give them back exactly when read as 64-bit reals.
+
+options:
+  --nodes             list all nodes behind a header line: level, node,
+                      position, and where the fragment starts and how many
+                      bytes it has, counted from the first fragment
+",
+    json!(),
+    "
+exit status: 0 shown; 1 the manifest is refused; 2 wrong use; 3 the file
+cannot be read.
+
+example:
+  coronagamba manifest show demo/mesh.manifest --nodes
+",
+);
+
+/// `manifest check`.
+pub const MANIFEST_CHECK: &str = concat!(
+    "\
+Tells for each file whether it is a sound mesh manifest.
+
+usage: coronagamba manifest check FILE... [OPTIONS]
+
+options:
+",
+    json!(),
+    "
+exit status: 0 all are sound; 1 one is refused; 2 wrong use; 3 one cannot be
+read.
+
+example:
+  coronagamba manifest check demo/mesh.manifest
+",
+);
+
+/// `manifest node`.
+pub const MANIFEST_NODE: &str = concat!(
+    "\
+Shows one node of a mesh manifest: its position, where its fragment stands
+and its corners, or why it has none.
+
+usage: coronagamba manifest node FILE LEVEL NODE [OPTIONS]
+
+Levels and nodes are counted from 0. Corners are 32-bit reals, each step of
+their computation rounded once, as the rules ask.
+
+options:
+",
+    json!(),
+    "
+exit status: 0 shown with corners; 1 refused, or the node has no corners; 2
+wrong use; 3 the file cannot be read.
+
+example:
+  coronagamba manifest node demo/mesh.manifest 0 3
+",
+);
+
+/// `explain`.
+pub const EXPLAIN: &str = concat!(
+    "\
+Explains a refusal number: when it is given, what usually causes it, and what
+to do. Without a number, all of them in short.
+
+usage: coronagamba explain [N] [OPTIONS]
+
+Bytes, minishards, entries, levels and nodes are counted from 0 everywhere.
+
+options:
+",
+    json!(),
+    "
+exit status: 0 explained; 2 there is no such number.
+
+example:
+  coronagamba explain 9
+",
+);
+
+/// `sample`.
+pub const SAMPLE: &str = "\
+Makes a small deposit to try the commands on.
+
+usage: coronagamba sample DIR
+
+DIR must be missing or empty. It then has:
+  deposit.card    the sharding and the volume
+  copy-a          the shards of a volume, in settled form
+  copy-b          the same chunks in another layout
+  damaged         a copy with damaged shards, one with another chunk, and one
+                  missing
+  murmur.card     the same volume under another hash
+  murmur          its shards
+  mesh.manifest   a mesh manifest
+
+exit status: 0 made; 2 wrong use, or DIR is not empty; 3 it cannot be written.
+
+example:
+  coronagamba sample demo
+  coronagamba check demo/copy-a --card demo/deposit.card
+";

@@ -1,0 +1,130 @@
+//! The sample deposit: a small volume, sharded two ways, in two copies of
+//! different layout, a damaged copy and a mesh manifest. Its bytes are the
+//! same every time.
+
+mod damage;
+mod layout;
+mod mesh;
+mod volume;
+
+use coronagamba::{Card, Refusal, Shard, Sharding};
+use std::collections::BTreeMap;
+
+/// The deposit's sharding: 8 shards of 2 minishards.
+const DEPOSIT: Sharding = Sharding {
+    preshift: 1,
+    hash: 0,
+    minishard_bits: 1,
+    shard_bits: 3,
+};
+
+/// The same but for the hash: what a deposit looks like that is opened under
+/// an assumed one.
+const MURMUR: Sharding = Sharding { hash: 1, ..DEPOSIT };
+
+/// Shard files by shard number.
+type Shards = BTreeMap<u64, Vec<u8>>;
+
+/// Something that the sample holds.
+pub struct Part {
+    /// Its name in the sample's folder.
+    pub name: &'static str,
+    /// What it is, in a line.
+    pub about: String,
+    /// Its files: one without a name of its own, or the files of a folder.
+    pub files: Files,
+}
+
+/// The files of a part.
+pub enum Files {
+    /// The part is one file.
+    One(Vec<u8>),
+    /// The part is a folder of files, by name.
+    Folder(Vec<(String, Vec<u8>)>),
+}
+
+/// All parts, in the order in which they are told.
+pub fn parts() -> Result<Vec<Part>, Refusal> {
+    let chunks = volume::chunks()?;
+    let copy_b = layout::scattered(&DEPOSIT, &chunks)?;
+    let copy_a = settled(&DEPOSIT, &copy_b)?;
+    let damaged = damaged(copy_b.clone())?;
+    let murmur = layout::scattered(&MURMUR, &chunks)?;
+    let same_chunks = "the same chunks in another layout";
+    Ok(vec![
+        card(
+            "deposit.card",
+            &DEPOSIT,
+            "sharding and volume of the deposit",
+        )?,
+        folder("copy-a", &DEPOSIT, copy_a, "settled forms")?,
+        folder("copy-b", &DEPOSIT, copy_b, same_chunks)?,
+        folder("damaged", &DEPOSIT, damaged, "copy-b from a failing disk")?,
+        card("murmur.card", &MURMUR, "the same volume, another hash")?,
+        folder("murmur", &MURMUR, murmur, "the same chunks under that hash")?,
+        Part {
+            name: "mesh.manifest",
+            about: "a mesh manifest of 3 levels".to_string(),
+            files: Files::One(mesh::manifest()),
+        },
+    ])
+}
+
+/// A card file.
+fn card(name: &'static str, sharding: &Sharding, about: &str) -> Result<Part, Refusal> {
+    let card = Card {
+        sharding: *sharding,
+        volume: volume::VOLUME,
+    };
+    Ok(Part {
+        name,
+        about: about.to_string(),
+        files: Files::One(card.to_bytes()?),
+    })
+}
+
+/// A folder of shards under their format's names.
+fn folder(
+    name: &'static str,
+    sharding: &Sharding,
+    shards: Shards,
+    about: &str,
+) -> Result<Part, Refusal> {
+    let about = format!("{} shards, {about}", shards.len());
+    let named = |(number, file)| Ok((sharding.shard_name(number)?, file));
+    let files = shards
+        .into_iter()
+        .map(named)
+        .collect::<Result<_, Refusal>>()?;
+    Ok(Part {
+        name,
+        about,
+        files: Files::Folder(files),
+    })
+}
+
+/// The settled form of each shard.
+fn settled(sharding: &Sharding, shards: &Shards) -> Result<Shards, Refusal> {
+    let form = |(number, file): (&u64, &Vec<u8>)| {
+        Ok((*number, Shard::open(*sharding, *number, file).settled()?))
+    };
+    shards.iter().map(form).collect()
+}
+
+/// The shards with a fault of a kind each: 0 and 6 are left whole, 5 stays
+/// sound with other content, 7 is lost.
+fn damaged(mut shards: Shards) -> Result<Shards, Refusal> {
+    let bits = DEPOSIT.minishard_bits;
+    shards.remove(&7);
+    for (number, file) in &mut shards {
+        match number {
+            1 => damage::reverse_entry(file, 1),
+            2 => damage::repeat_id(file, bits, 0)?,
+            3 => damage::stretch_last(file, bits, 1)?,
+            4 => damage::cut(file),
+            5 => damage::change_chunk(file, bits, 0),
+            _ => {}
+        }
+    }
+    Ok(shards)
+}

@@ -1,0 +1,458 @@
+//! Each command's exit statuses, help, settings and JSON.
+
+use crate::json::Json;
+use crate::support::{Folder, PROGRAM};
+use std::os::unix::fs::symlink;
+use std::process::Command;
+
+/// All commands, with those that have members.
+const COMMANDS: [&str; 18] = [
+    "check",
+    "settle",
+    "same",
+    "get",
+    "list",
+    "locate",
+    "cell",
+    "name",
+    "card",
+    "card make",
+    "card show",
+    "card check",
+    "manifest",
+    "manifest show",
+    "manifest check",
+    "manifest node",
+    "explain",
+    "sample",
+];
+
+const CARD: &str = "--card demo/deposit.card";
+const SHARDING: &str = "--preshift 1 --hash identity --minishard-bits 1 --shard-bits 3";
+const VOLUME: &str = "--size 300,260,200 --chunk 64,64,64 --offset -64,0,0";
+
+/// Lines and the exit status of each; all run on the sample.
+fn statuses() -> Vec<(String, i32)> {
+    let with_card = [
+        ("check demo/copy-a", 0),
+        ("check demo/copy-a demo/copy-b/3.shard", 0),
+        ("check demo/damaged", 1),
+        ("check demo/damaged/0.shard", 0),
+        ("check demo/damaged/2.shard", 1),
+        ("check", 2),
+        ("check demo/copy-a --unknown", 2),
+        ("check demo/copy-a --jobs 0", 2),
+        ("check demo/copy-a --jobs x", 2),
+        ("check nothing/0.shard", 3),
+        ("check demo/copy-a nothing/0.shard", 3),
+        ("settle demo/copy-b/0.shard --out one", 0),
+        ("settle demo/copy-b --out all", 0),
+        ("settle demo/copy-b --out all", 0),
+        ("settle demo/damaged --out some", 1),
+        ("settle demo/damaged/2.shard --out two", 1),
+        ("settle demo/copy-b", 2),
+        ("settle --out x", 2),
+        ("settle demo/copy-b/1.shard --out one", 2),
+        ("settle nothing --out none", 3),
+        ("settle demo/copy-b/0.shard --out nothing/inner/0.shard", 3),
+        ("same demo/copy-a demo/copy-b", 0),
+        ("same demo/copy-a/0.shard demo/copy-b/0.shard", 0),
+        ("same demo/copy-a demo/damaged", 1),
+        ("same demo/copy-a/5.shard demo/damaged/5.shard", 1),
+        ("same demo/copy-a", 2),
+        ("same demo/copy-a demo/copy-b/0.shard", 2),
+        ("same demo/copy-a nothing", 3),
+        ("get demo/copy-a 21", 0),
+        ("get demo/copy-b --cell 1,2,1", 0),
+        ("get demo/copy-a/5.shard 0x15", 0),
+        ("get demo/copy-a/4.shard 21", 1),
+        ("get demo/copy-a --cell 4,4,0", 1),
+        ("get demo/copy-a --cell 5,0,0", 1),
+        ("get demo/copy-a", 2),
+        ("get demo/copy-a 1 2", 2),
+        ("get demo/copy-a 21 --cell 1,2,1", 2),
+        ("get demo/copy-a twenty", 2),
+        ("get demo/copy-a --cell 1,2", 2),
+        ("get demo/damaged --cell 2,2,1", 1),
+        ("get demo/damaged/7.shard --cell 2,2,1", 3),
+        ("list demo/copy-a/0.shard", 0),
+        (
+            "list demo/copy-a/0.shard demo/copy-a/1.shard --minishard 1",
+            0,
+        ),
+        ("list demo/damaged/2.shard", 1),
+        ("list demo/damaged/2.shard --minishard 1", 0),
+        ("list", 2),
+        ("list demo/copy-a/0.shard --minishard x", 2),
+        ("list demo/copy-a/8.shard", 2),
+        ("list demo/copy-a", 2),
+        ("list nothing/0.shard", 3),
+        ("locate 0,0,0 4,3,2", 0),
+        ("locate 0,0,0 5,0,0", 1),
+        ("locate", 2),
+        ("locate 0,0", 2),
+        ("locate -1,0,0", 2),
+        ("cell 0 21", 0),
+        ("cell 18446744073709551615", 1),
+        ("cell", 2),
+        ("cell x", 2),
+        ("name 0,0,0", 0),
+        ("name --shard 7", 0),
+        ("name 0,0,4", 1),
+        ("name --shard 8", 1),
+        ("name", 2),
+    ];
+    let plain = [
+        ("locate 0,0,0 --card nothing", 3),
+        ("card show demo/deposit.card", 0),
+        ("card show demo/mesh.manifest", 1),
+        ("card show", 2),
+        ("card show a b", 2),
+        ("card show nothing", 3),
+        ("card check demo/deposit.card demo/murmur.card", 0),
+        ("card check demo/deposit.card demo/mesh.manifest", 1),
+        ("card check", 2),
+        ("card check nothing demo/deposit.card", 3),
+        ("card", 2),
+        ("card burn", 2),
+        ("manifest show demo/mesh.manifest", 0),
+        ("manifest show demo/mesh.manifest --nodes", 0),
+        ("manifest show demo/deposit.card", 1),
+        ("manifest show", 2),
+        ("manifest show nothing", 3),
+        ("manifest check demo/mesh.manifest", 0),
+        ("manifest check demo/deposit.card demo/mesh.manifest", 1),
+        ("manifest check", 2),
+        ("manifest check nothing", 3),
+        ("manifest node demo/mesh.manifest 0 4", 0),
+        ("manifest node demo/mesh.manifest 0 5", 1),
+        ("manifest node demo/mesh.manifest 0", 2),
+        ("manifest node demo/mesh.manifest zero 0", 2),
+        ("manifest node nothing 0 0", 3),
+        ("manifest", 2),
+        ("explain", 0),
+        ("explain 9", 0),
+        ("explain 18", 0),
+        ("explain 0", 2),
+        ("explain 19", 2),
+        ("explain 99", 2),
+        ("explain nine", 2),
+        ("sample fresh", 0),
+        ("sample demo", 2),
+        ("sample", 2),
+        ("sample /proc/no-folder-can-be-made-here", 3),
+        ("", 2),
+        ("chek demo/copy-a", 2),
+        ("--help", 0),
+        ("--version", 0),
+        ("help", 0),
+        ("help nothing", 2),
+    ];
+    let mut all: Vec<(String, i32)> = Vec::new();
+    all.extend(with_card.map(|(line, status)| (format!("{line} {CARD}"), status)));
+    all.extend(plain.map(|(line, status)| (line.to_string(), status)));
+    let make = format!("card make --out made.card {SHARDING} {VOLUME}");
+    all.push((make.clone(), 0));
+    all.push((make.clone(), 2));
+    all.push((format!("{make} --force"), 0));
+    all.push((make.replace("--chunk 64", "--chunk 0"), 1));
+    all.push((make.replace("made.card", "nothing/made.card"), 3));
+    all.push((make.replace("--hash identity", ""), 2));
+    all
+}
+
+#[test]
+fn exit_statuses() {
+    let folder = Folder::with_sample();
+    for (line, status) in statuses() {
+        let run = folder.run_line(&line);
+        run.expect_status(status);
+        if status == 2 && !line.contains("--out one") && !line.contains("made.card") {
+            let last = run.stderr.lines().last().unwrap_or("");
+            assert!(last.starts_with("see: coronagamba "), "{run}");
+        }
+    }
+    assert_eq!(folder.read("made.card"), folder.read("demo/deposit.card"));
+    assert_eq!(
+        folder.names("."),
+        ["all", "demo", "fresh", "made.card", "one", "some"]
+    );
+    assert_eq!(folder.names("some"), ["0.shard", "5.shard", "6.shard"]);
+}
+
+#[test]
+fn a_card_and_the_same_settings_in_words_give_the_same_answers() {
+    let folder = Folder::with_sample();
+    let words = format!("{SHARDING} {VOLUME}");
+    for line in [
+        "check demo/copy-a",
+        "check demo/damaged",
+        "same demo/copy-a demo/copy-b",
+        "get demo/copy-b --cell 1,2,1",
+        "list demo/copy-b/3.shard",
+        "locate 1,2,1 4,3,2",
+        "cell 21",
+        "name 0,0,0",
+        "name --shard 5",
+    ] {
+        let by_card = folder.run_line(&format!("{line} {CARD}"));
+        let by_words = folder.run_line(&format!("{line} {words}"));
+        assert_eq!(by_card.text(), by_words.text());
+        assert_eq!(by_card.status, by_words.status);
+        assert!(matches!(by_card.status, Some(0 | 1)), "{by_card}");
+        let joined = words.replace(" --", "\n--").replace(' ', "=");
+        let by_joined = folder.run_line(&format!("{line} {joined}"));
+        assert_eq!(by_card.text(), by_joined.text(), "{by_joined}");
+    }
+}
+
+#[test]
+fn no_setting_is_assumed() {
+    let folder = Folder::with_sample();
+    for missing in ["--preshift", "--hash", "--minishard-bits", "--shard-bits"] {
+        let words: Vec<&str> = SHARDING.split(' ').collect();
+        let pairs = words.chunks(2).filter(|pair| pair[0] != missing);
+        let rest = pairs
+            .map(|pair| pair.join(" "))
+            .collect::<Vec<_>>()
+            .join(" ");
+        for line in [
+            "check demo/copy-a",
+            "settle demo/copy-a --out x",
+            "same demo/copy-a demo/copy-b",
+            "get demo/copy-a 21",
+            "list demo/copy-a/0.shard",
+            "name --shard 0",
+        ] {
+            let run = folder.run_line(&format!("{line} {rest}"));
+            run.expect_status(2);
+            assert!(run.stderr.contains(missing), "{run}");
+            for given in ["--preshift", "--hash", "--minishard-bits", "--shard-bits"] {
+                let named = run.stderr.lines().next().unwrap_or("").contains(given);
+                assert_eq!(named, given == missing, "{run}");
+            }
+        }
+    }
+    for missing in ["--size", "--chunk"] {
+        let words: Vec<&str> = VOLUME.split(' ').collect();
+        let pairs = words.chunks(2).filter(|pair| pair[0] != missing);
+        let rest = pairs
+            .map(|pair| pair.join(" "))
+            .collect::<Vec<_>>()
+            .join(" ");
+        let run = folder.run_line(&format!("locate 0,0,0 {SHARDING} {rest}"));
+        run.expect_status(2);
+        assert!(run.stderr.contains(missing), "{run}");
+    }
+    // The offset alone has a value of its own.
+    let size = "--size 300,260,200 --chunk 64,64,64";
+    let run = folder.run_line(&format!("name 0,0,0 {SHARDING} {size}"));
+    assert_eq!(run.expect_status(0).text(), "0-64_0-64_0-64\n");
+    // A card and settings in words are never mixed.
+    for extra in ["--preshift 1", "--hash identity", "--offset 0,0,0"] {
+        folder
+            .run_line(&format!("check demo/copy-a {CARD} {extra}"))
+            .expect_status(2);
+    }
+    for bad in [
+        SHARDING.replace("--preshift 1", "--preshift 256"),
+        SHARDING.replace("--hash identity", "--hash md5"),
+        SHARDING.replace("--shard-bits 3", "--shard-bits -1"),
+        SHARDING.replace("--shard-bits 3", "--shard-bits 3 --shard-bits 3"),
+        SHARDING.replace("--shard-bits 3", "--shard-bits"),
+    ] {
+        folder
+            .run_line(&format!("check demo/copy-a {bad}"))
+            .expect_status(2);
+    }
+}
+
+#[test]
+fn a_shard_number_comes_from_the_name_or_from_words() {
+    let folder = Folder::with_sample();
+    folder.write("copied.bin", folder.read("demo/copy-b/5.shard"));
+    let run = folder.run_line(&format!("check copied.bin {CARD}"));
+    run.expect_status(2);
+    assert!(run.stderr.contains("7.shard"), "{run}");
+    for number in ["5", "0x5"] {
+        let run = folder.run_line(&format!("check copied.bin --shard {number} {CARD}"));
+        run.expect_status(0)
+            .expect_line("copied.bin: sound, 12 chunks, 1228 bytes");
+    }
+    folder
+        .run_line(&format!("check copied.bin --shard 4 {CARD}"))
+        .expect_status(1);
+}
+
+#[test]
+fn cells_from_standard_input() {
+    let folder = Folder::with_sample();
+    let script = format!("printf '1,2,1\\n4,3,2\\n' | \"$0\" locate - {CARD}");
+    let output = Command::new("sh")
+        .args(["-c", &script, PROGRAM])
+        .current_dir(folder.path())
+        .output()
+        .expect("sh starts");
+    let from_words = folder.run_line(&format!("locate 1,2,1 4,3,2 {CARD}"));
+    assert_eq!(output.stdout, from_words.expect_status(0).stdout);
+    assert_eq!(output.status.code(), Some(0));
+}
+
+#[test]
+fn locate_prints_what_the_proved_program_prints() {
+    // The scope's worked case.
+    let folder = Folder::new();
+    let settings = "--preshift 0 --hash identity --minishard-bits 1 --shard-bits 2 --size 100,100,100 --chunk 64,64,64";
+    let run = folder.run_line(&format!("locate 1,0,1 1,1,0 {settings}"));
+    assert_eq!(run.expect_status(0).text(), "5 2.shard 1\n3 1.shard 1\n");
+}
+
+#[test]
+fn the_scope_s_names() {
+    let folder = Folder::new();
+    let settings = "--preshift 0 --hash identity --minishard-bits 1 --size 100,1,1 --chunk 64,1,1 --offset -64,0,0 --shard-bits";
+    let names = folder.run_line(&format!("name 0,0,0 1,0,0 {settings} 4"));
+    assert_eq!(
+        names.expect_status(0).text(),
+        "-64-0_0-1_0-1\n0-36_0-1_0-1\n"
+    );
+    for (bits, number, name) in [(4, 10, "a.shard"), (5, 10, "0a.shard"), (0, 0, "0.shard")] {
+        let run = folder.run_line(&format!("name --shard {number} {settings} {bits}"));
+        assert_eq!(run.expect_status(0).text(), format!("{name}\n"));
+    }
+}
+
+/// The commands that a help text gives as examples; a line that ends in a
+/// backslash goes on in the next.
+fn examples(help: &str) -> Vec<String> {
+    let (_, examples) = help.rsplit_once("\nexample").expect("an example");
+    let joined = examples.replace("\\\n", " ");
+    let lines = joined.lines().skip(1).map(str::trim_start);
+    let commands = lines.filter(|line| line.starts_with("coronagamba "));
+    commands.map(str::to_string).collect()
+}
+
+#[test]
+fn each_help_text_has_an_example_that_works() {
+    let folder = Folder::with_sample();
+    folder.make("bin");
+    symlink(PROGRAM, folder.at("bin/coronagamba")).expect("a link");
+    for command in COMMANDS.iter().chain(&[""]) {
+        let help = folder.run_line(&format!("{command} --help"));
+        help.expect_status(0);
+        assert!(help.text().contains("\nusage: coronagamba "), "{help}");
+        let examples = examples(help.text());
+        assert!(!examples.is_empty(), "{help}");
+        for example in examples {
+            let _ = std::fs::remove_dir_all(folder.at("demo"));
+            folder.run_line("sample demo").expect_status(0);
+            if example.contains("sample demo") {
+                std::fs::remove_dir_all(folder.at("demo")).expect("removed");
+            }
+            let output = Command::new("sh")
+                .args(["-c", &format!("PATH=\"$PWD/bin:$PATH\"; {example}")])
+                .current_dir(folder.path())
+                .output()
+                .expect("sh starts");
+            let told = String::from_utf8_lossy(&output.stderr);
+            let expected = i32::from(example.contains("demo/damaged"));
+            assert_eq!(output.status.code(), Some(expected), "{example}\n{told}");
+        }
+    }
+}
+
+#[test]
+fn help_is_there_in_each_form() {
+    let folder = Folder::new();
+    for command in COMMANDS.iter().chain(&[""]) {
+        let long = folder.run_line(&format!("{command} --help"));
+        let short = folder.run_line(&format!("{command} -h"));
+        let by_name = folder.run_line(&format!("help {command}"));
+        assert_eq!(long.expect_status(0).text(), short.expect_status(0).text());
+        assert_eq!(long.text(), by_name.expect_status(0).text());
+        // An example may be longer than a terminal is wide.
+        let fits = |line: &&str| line.chars().count() <= 80 || line.contains("  coronagamba ");
+        assert!(long.lines().iter().all(fits), "{long}");
+    }
+    let all = folder.run_line("--help");
+    for command in COMMANDS {
+        let word = command.split(' ').next().unwrap_or(command);
+        assert!(
+            all.text().contains(&format!("\n  {word} ")),
+            "{word}\n{all}"
+        );
+    }
+    let near = folder.run_line("chek x");
+    assert!(near.expect_status(2).stderr.contains("check"), "{near}");
+    let near = folder.run_line("settel x");
+    assert!(near.expect_status(2).stderr.contains("settle"), "{near}");
+}
+
+#[test]
+fn json_lines_are_json_objects() {
+    let folder = Folder::with_sample();
+    let with_card = [
+        ("check demo/copy-a demo/damaged", 1),
+        ("settle demo/damaged --out settled", 1),
+        ("settle demo/damaged --out settled", 1),
+        ("settle demo/copy-b/0.shard --out one", 0),
+        ("same demo/copy-a demo/copy-b", 0),
+        ("same demo/copy-a demo/damaged", 1),
+        ("same demo/copy-a/0.shard demo/copy-b/0.shard", 0),
+        ("list demo/copy-a/0.shard", 0),
+        ("list demo/damaged/2.shard", 1),
+        ("locate 1,2,1 5,0,0", 1),
+        ("cell 21 18446744073709551615", 1),
+        ("name 1,2,1", 0),
+        ("name --shard 5", 0),
+        ("check nothing/0.shard", 3),
+    ];
+    let plain = [
+        ("card show demo/deposit.card", 0),
+        ("card check demo/deposit.card demo/mesh.manifest", 1),
+        ("manifest show demo/mesh.manifest", 0),
+        ("manifest show demo/mesh.manifest --nodes", 0),
+        ("manifest check demo/mesh.manifest demo/deposit.card", 1),
+        ("manifest node demo/mesh.manifest 1 1", 0),
+        ("manifest node demo/mesh.manifest 1 2", 1),
+        ("explain", 0),
+        ("explain 12", 0),
+    ];
+    let with_card = with_card.map(|(line, status)| (format!("{line} {CARD} --json"), status));
+    let plain = plain.map(|(line, status)| (format!("{line} --json"), status));
+    for (line, status) in with_card.into_iter().chain(plain) {
+        let run = folder.run_line(&line);
+        run.expect_status(status);
+        assert!(!run.lines().is_empty(), "{run}");
+        for line in run.lines() {
+            match Json::read(line) {
+                Ok(Json::Object(_)) => {}
+                other => panic!("{other:?}\n{run}"),
+            }
+        }
+    }
+}
+
+#[test]
+fn ids_stay_exact_in_json() {
+    let folder = Folder::new();
+    let index = [1u64 << 63, u64::MAX - (1 << 63), 0, 0, 0, 0];
+    let mut file = [0u64, 48].map(u64::to_le_bytes).concat();
+    file.extend(index.iter().flat_map(|n| n.to_le_bytes()));
+    folder.write("0.shard", file);
+    let run = folder.run_line(
+        "list 0.shard --json --preshift 0 --hash identity --minishard-bits 0 --shard-bits 0",
+    );
+    run.expect_status(0);
+    let ids: Vec<String> = run
+        .lines()
+        .iter()
+        .filter_map(|line| {
+            Json::read(line)
+                .expect("JSON")
+                .number("id")
+                .map(str::to_string)
+        })
+        .collect();
+    assert_eq!(ids, ["9223372036854775808", "18446744073709551615"]);
+}

@@ -1,0 +1,17 @@
+//! End-to-end tests: the built program on real files.
+
+#![forbid(unsafe_code)]
+
+mod answers;
+mod commands;
+mod folders;
+mod json;
+mod memory;
+mod nothing_lost;
+mod odd_files;
+mod reading;
+mod refusals;
+mod sample;
+mod shards;
+mod support;
+mod tour;

@@ -1,0 +1,172 @@
+//! The sample deposit.
+
+use crate::support::Folder;
+use reference::grid::{key_of, Volume};
+use reference::settle::settled_form;
+use reference::shard::{check, list};
+use reference::sharding::Sharding;
+use reference::{card, manifest, Refusal};
+use std::collections::BTreeMap;
+
+const DEPOSIT: Sharding = Sharding {
+    preshift: 1,
+    hash: 0,
+    minishard_bits: 1,
+    shard_bits: 3,
+};
+const MURMUR: Sharding = Sharding { hash: 1, ..DEPOSIT };
+const VOLUME: Volume = Volume {
+    size: [300, 260, 200],
+    chunk: [64; 3],
+    offset: [-64, 0, 0],
+};
+
+/// The shards of one of the sample's folders, by number.
+fn shards(folder: &Folder, name: &str) -> BTreeMap<u64, Vec<u8>> {
+    let path = format!("demo/{name}");
+    let shard = |file: String| {
+        let digits = file.strip_suffix(".shard").expect("a shard's name");
+        let number = u64::from_str_radix(digits, 16).expect("a shard's number");
+        (number, folder.read(format!("{path}/{file}")))
+    };
+    folder.names(&path).into_iter().map(shard).collect()
+}
+
+/// All chunks of a folder of sound shards, by id.
+fn content(sharding: &Sharding, shards: &BTreeMap<u64, Vec<u8>>) -> BTreeMap<u64, Vec<u8>> {
+    let mut content = BTreeMap::new();
+    for (number, file) in shards {
+        for entry in list(sharding, *number, file).expect("a sound shard") {
+            content.insert(entry.id, entry.bytes(file).to_vec());
+        }
+    }
+    content
+}
+
+#[test]
+fn it_has_the_same_bytes_every_time() {
+    let (one, other) = (Folder::with_sample(), Folder::with_sample());
+    for part in ["copy-a", "copy-b", "damaged", "murmur"] {
+        assert_eq!(shards(&one, part), shards(&other, part));
+    }
+    for file in [
+        "demo/deposit.card",
+        "demo/murmur.card",
+        "demo/mesh.manifest",
+    ] {
+        assert_eq!(one.read(file), other.read(file));
+    }
+}
+
+#[test]
+fn the_cards_and_the_manifest_are_sound() {
+    let folder = Folder::with_sample();
+    for (name, sharding) in [("deposit", DEPOSIT), ("murmur", MURMUR)] {
+        let card = card::read(&folder.read(format!("demo/{name}.card"))).expect("a card");
+        assert_eq!((card.sharding, card.volume), (sharding, VOLUME));
+    }
+    let mesh = folder.read("demo/mesh.manifest");
+    assert_eq!(manifest::level_count(&mesh), Ok(3));
+    assert!(manifest::corners(&mesh, 0, 4).is_ok());
+}
+
+#[test]
+fn the_copies_hold_the_same_chunks_under_other_bytes() {
+    let folder = Folder::with_sample();
+    let (a, b) = (shards(&folder, "copy-a"), shards(&folder, "copy-b"));
+    let chunks = content(&DEPOSIT, &a);
+    assert_eq!(content(&DEPOSIT, &b), chunks);
+    assert_eq!(content(&MURMUR, &shards(&folder, "murmur")), chunks);
+    assert_eq!(a.len(), 8);
+    for (number, file) in &a {
+        let entries = list(&DEPOSIT, *number, file).expect("sound");
+        let listed: Vec<_> = entries.iter().map(|e| (e.id, e.bytes(file))).collect();
+        assert_eq!(*file, settled_form(&DEPOSIT, &listed));
+        // Every entry of the shard index differs from copy to copy.
+        let other = &b[number];
+        for at in (0..32).step_by(8) {
+            assert_ne!(file[at..at + 8], other[at..at + 8]);
+        }
+    }
+    let key = |cell| key_of(&VOLUME, cell).expect("a cell of the grid");
+    assert_eq!(chunks.len(), 96);
+    assert_eq!(
+        chunks[&key([1, 2, 1])],
+        b"cell 1,2,1 of the sample deposit\n"
+    );
+    assert_eq!(chunks[&key([2, 2, 3])], b"");
+    assert_eq!(chunks.get(&key([4, 4, 0])), None);
+}
+
+#[test]
+fn the_damaged_copy_has_a_fault_of_each_kind() {
+    let folder = Folder::with_sample();
+    let whole = shards(&folder, "copy-b");
+    let damaged = shards(&folder, "damaged");
+    let verdict = |number: u64| check(&DEPOSIT, number, &damaged[&number]);
+    let fault = |number, minishard| Err(Refusal::in_minishard(number, minishard));
+    assert_eq!(damaged[&0], whole[&0]);
+    assert_eq!(verdict(1), fault(7, 1));
+    assert_eq!(verdict(2), fault(9, 0));
+    assert_eq!(verdict(3), fault(11, 1));
+    assert_eq!(verdict(4), Err(Refusal::bare(6)));
+    assert_eq!(verdict(5), Ok(()));
+    assert_eq!(damaged[&6], whole[&6]);
+    assert!(!damaged.contains_key(&7));
+    let differing = damaged[&5].iter().zip(&whole[&5]).filter(|(a, b)| a != b);
+    assert_eq!(differing.count(), 1);
+}
+
+/// The number at a place of a file.
+fn number_at(file: &[u8], place: usize) -> u64 {
+    reference::endian::read_u64(file, place)
+}
+
+#[test]
+fn the_damage_is_shown_where_it_was_done() {
+    let folder = Folder::with_sample();
+    let damaged = shards(&folder, "damaged");
+    let run = folder.run_line("check demo/damaged --card demo/deposit.card");
+    run.expect_status(1);
+    let looked_at = |number: u64| -> usize {
+        let (_, told) = run
+            .text()
+            .split_once(&format!("{number}.shard: refused"))
+            .expect("a refusal");
+        let (_, place) = told.split_once("look at: byte ").expect("a place");
+        let (place, _) = place.split_once(' ').expect("a place");
+        place.parse().expect("a byte's number")
+    };
+    // Minishard 1 of shard 1: its entry is the second of the shard index.
+    assert_eq!(looked_at(1), 16);
+    assert!(number_at(&damaged[&1], 16) > number_at(&damaged[&1], 24));
+    // Minishard 0 of shard 2: the step to its second id.
+    let index = 32 + number_at(&damaged[&2], 0) as usize;
+    assert_eq!(
+        (looked_at(2), number_at(&damaged[&2], index + 8)),
+        (index + 8, 0)
+    );
+    // Minishard 1 of shard 3: its last size, behind two rows.
+    let index = 32 + number_at(&damaged[&3], 16) as usize;
+    let end = 32 + number_at(&damaged[&3], 24) as usize;
+    assert_eq!((looked_at(3), end - index), (end - 8, 24 * 4));
+    assert!(number_at(&damaged[&3], end - 8) > damaged[&3].len() as u64);
+}
+
+#[test]
+fn it_goes_into_a_new_or_empty_folder_only() {
+    let folder = Folder::new();
+    folder.make("empty");
+    folder.run_line("sample empty").expect_status(0);
+    folder.run_line("sample new/inner").expect_status(0);
+    assert_eq!(folder.names("empty"), folder.names("new/inner"));
+    folder.write("taken/note", "mine");
+    folder.run_line("sample taken").expect_status(2);
+    folder.run_line("sample taken/note").expect_status(2);
+    folder.run_line("sample empty").expect_status(2);
+    assert_eq!(folder.names("taken"), ["note"]);
+    assert_eq!(folder.read("taken/note"), b"mine");
+    folder.run_line("sample").expect_status(2);
+    folder.run_line("sample a b").expect_status(2);
+    folder.run_line("sample taken/note/under").expect_status(2);
+}
