@@ -1,29 +1,63 @@
 /* Coronagamba: a proved library for sharded volume scans.
  *
- * Each function takes any numbers and bytes and returns. A function that can
- * refuse returns an answer word:
+ * To build and link. `rt staticlib coronagamba` makes the archive, and
+ * `./install PREFIX` installs archive, shared object, this header and a
+ * pkg-config file:
  *
- *   0                                                success
- *   number + 2^8 * minishard + 2^32 * position       refusal
+ *   gcc program.c $(pkg-config --cflags --libs coronagamba)
  *
- * The number is word & 0xff, the minishard word >> 8 & 0xffffff, the position
- * word >> 32: compare the number, not the word. Only coronagamba_check names a
- * minishard, always with 7 to 11, where minishard 0 is one too; no function
- * gives a position. A comment ends with the refusals that its function can
- * give, in the order in which they are tested; docs/ENTRY-POINTS.md says what
- * each number means.
+ * From the tree itself:
  *
- * Results go through pointers; a refusal leaves everything behind them as it
- * was. A function that writes into a lent buffer gives in `length` how many
+ *   gcc -Iinclude program.c target/staticlib/libcoronagamba.a
+ *
+ * The header is C99 or later and C++. The archive is made for Linux on x86-64;
+ * it needs the C library's memory functions and nothing else. A call needs at
+ * most 64 KiB of stack and takes no memory of its own; none calls back.
+ *
+ * Answers. Each function takes any numbers and bytes and returns. A function
+ * that can refuse returns an answer word:
+ *
+ *   0                                                            success
+ *   number + 2^8 * (minishard + 1) + 2^32 * (position + 1)       refusal
+ *
+ * A part that is not there is 0, so a minishard 0 and none are told apart. The
+ * macros below take a word apart. Compare the number, not the word:
+ *
+ *   uint64_t word = coronagamba_check(sharding, 0, file, count);
+ *   if (CORONAGAMBA_NUMBER(word) == CORONAGAMBA_REFUSED_INDEX_ENTRY &&
+ *       CORONAGAMBA_HAS_MINISHARD(word))
+ *     report(CORONAGAMBA_MINISHARD(word));
+ *
+ * What names a minishard: coronagamba_check with 7, 8, 9, 10 and 11. No
+ * function names a position.
+ *
+ * A comment below ends with the refusals that its function can give, in the
+ * order in which they are tested.
+ *
+ * Results. They go through pointers, and need not be initialised before: what
+ * stands behind them is not read. A refusal leaves everything behind them as it
+ * was, so a result that was not initialised is then still not. A function that
+ * writes into a lent buffer writes at its front and gives in `length` how many
  * bytes or numbers it wrote; what lies past them is as it was.
  *
- * Bytes and numbers are lent as a pointer and a count; the pointer may be NULL
- * where the count is 0. A pointer to a result is never NULL. Each pointer is
- * aligned for its type. What a function may write, buffers and results,
- * overlaps nothing else that it is given. Nothing else changes lent memory
- * while a call runs: no other thread, and no other program through a mapped
- * file. No function keeps anything between calls, so calls on different memory
- * may run side by side.
+ * Reals. A real crosses as the bits of its 32-bit float, in a uint32_t, since a
+ * float need not keep the bits of a NaN. A program has the float by
+ *
+ *   memcpy(&real, &bits, sizeof real);
+ *
+ * Lent memory. Bytes and numbers are lent as a pointer and a count; the pointer
+ * may be NULL where the count is 0. A pointer to a result is never NULL. Each
+ * pointer is aligned for its type. What a function may write, buffers and
+ * results, overlaps nothing else that it is given. The memory stays the
+ * caller's: no function keeps a pointer.
+ *
+ * Threads. No function keeps anything between calls. Many threads may ask about
+ * one and the same shard or manifest at once, as long as nobody writes to it:
+ * nothing else may change lent memory while a call runs, no other thread and no
+ * other program through a mapped file.
+ *
+ * This file is made: ./interface writes it from the export crate's source, and
+ * rust/interface has the table of refusals and this text.
  */
 #ifndef CORONAGAMBA_H
 #define CORONAGAMBA_H
@@ -31,206 +65,340 @@
 #include <stddef.h>
 #include <stdint.h>
 
+/* The version of this header. Where coronagamba_version() gives another
+ * number, the library that is linked or loaded belongs to another header:
+ * structs and answers may differ. */
+#define CORONAGAMBA_VERSION_MAJOR 0
+#define CORONAGAMBA_VERSION_MINOR 2
+#define CORONAGAMBA_VERSION_PATCH 0
+#define CORONAGAMBA_VERSION_STRING "0.2.0"
+#define CORONAGAMBA_VERSION                      \
+  ((uint64_t)CORONAGAMBA_VERSION_PATCH +         \
+   ((uint64_t)CORONAGAMBA_VERSION_MINOR << 16) + \
+   ((uint64_t)CORONAGAMBA_VERSION_MAJOR << 32))
+
+/* ---- answer words -------------------------------------------------------- */
+
+/* The refusal's number, 0 for success. */
+#define CORONAGAMBA_NUMBER(word) ((unsigned)((word)&0xff))
+
+/* Whether the word names a minishard, and which. */
+#define CORONAGAMBA_HAS_MINISHARD(word) (((word) >> 8 & 0xffffff) != 0)
+#define CORONAGAMBA_MINISHARD(word) ((uint32_t)((word) >> 8 & 0xffffff) - 1)
+
+/* Whether the word names a position, and which. */
+#define CORONAGAMBA_HAS_POSITION(word) ((word) >> 32 != 0)
+#define CORONAGAMBA_POSITION(word) ((uint32_t)((word) >> 32) - 1)
+
+/* ---- refusals ------------------------------------------------------------ */
+
+/* preshift above 63, hash neither identity nor murmur, minishard bits above
+ * 12, or shard bits above 32 */
+#define CORONAGAMBA_REFUSED_SHARDING_NOT_ALLOWED 1
+
+/* a volume or chunk extent is 0, or a cell coordinate is not below its grid
+ * size */
+#define CORONAGAMBA_REFUSED_NO_SUCH_CELL 2
+
+/* a key is made or decoded, or a card read or written, and the grid needs
+ * more than 64 key bits */
+#define CORONAGAMBA_REFUSED_TOO_MANY_KEY_BITS 3
+
+/* a key is no cell of the grid */
+#define CORONAGAMBA_REFUSED_KEY_OF_NO_CELL 4
+
+/* a shard number is not below 2^shard_bits, or the id asked for belongs to
+ * another shard; beyond the table, in a listing, also where a minishard
+ * number is not below 2^minishard_bits */
+#define CORONAGAMBA_REFUSED_NO_SUCH_SHARD 5
+
+/* the shard is shorter than its shard index or longer than 1,073,741,824
+ * bytes */
+#define CORONAGAMBA_REFUSED_SHARD_LENGTH 6
+
+/* an index entry has start after end, or start before end and its end past
+ * the file */
+#define CORONAGAMBA_REFUSED_INDEX_ENTRY 7
+
+/* a minishard index length is no multiple of 24 */
+#define CORONAGAMBA_REFUSED_INDEX_LENGTH 8
+
+/* an id does not exceed the one before, or passes 2^64-1 */
+#define CORONAGAMBA_REFUSED_ID_ORDER 9
+
+/* a listed id belongs to another shard or minishard */
+#define CORONAGAMBA_REFUSED_ID_ELSEWHERE 10
+
+/* a chunk's bytes end past the file */
+#define CORONAGAMBA_REFUSED_CHUNK_PAST_END 11
+
+/* the id is not listed */
+#define CORONAGAMBA_REFUSED_NOT_LISTED 12
+
+/* the output is too short for the whole answer, or a settled form would
+ * exceed 1,073,741,824 bytes */
+#define CORONAGAMBA_REFUSED_NO_ROOM 13
+
+/* the card is malformed */
+#define CORONAGAMBA_REFUSED_CARD_MALFORMED 14
+
+/* the manifest's length or level count is wrong */
+#define CORONAGAMBA_REFUSED_MANIFEST_LENGTH 15
+
+/* a manifest real is not finite, or a chunk shape is not above zero */
+#define CORONAGAMBA_REFUSED_MANIFEST_REAL 16
+
+/* a level's nodes are not in strictly rising Z-curve order */
+#define CORONAGAMBA_REFUSED_NODE_ORDER 17
+
+/* no such level, node or field; or, where corners are asked for, that node
+ * has a position of 2^24 or more or either corner is not finite */
+#define CORONAGAMBA_REFUSED_NO_SUCH_NODE 18
+
+/* ---- other numbers ------------------------------------------------------- */
+
+/* a sharding's hash that leaves an id as it is */
+#define CORONAGAMBA_HASH_IDENTITY 0
+
+/* a sharding's hash MurmurHash3_x86_128, its first 8 bytes */
+#define CORONAGAMBA_HASH_MURMUR 1
+
+/* the kind of a manifest's field that is a whole number */
+#define CORONAGAMBA_FIELD_WHOLE 0
+
+/* the kind of a manifest's field that is a real */
+#define CORONAGAMBA_FIELD_REAL 1
+
 #ifdef __cplusplus
 extern "C" {
 #endif
 
-/* ---- bytes -------------------------------------------------------------- */
+/* ---- The library's version ----------------------------------------------- */
 
-/* The little-endian number at the front of the bytes; bytes that are not
- * there count as 0. */
-uint16_t coronagamba_read_u16(const uint8_t *bytes, size_t count);
-uint32_t coronagamba_read_u32(const uint8_t *bytes, size_t count);
-uint64_t coronagamba_read_u64(const uint8_t *bytes, size_t count);
+/* The version of the library that is linked or loaded: patch + 2^16 * minor
+ * + 2^32 * major. It is CORONAGAMBA_VERSION where the header belongs to that
+ * library. Refusals: none */
+uint64_t coronagamba_version(void);
 
-/* Puts the number's bytes, lowest first, at the front of out. Refusals: 13 */
-uint64_t coronagamba_put_u16(uint8_t *out, size_t count, uint16_t value);
-uint64_t coronagamba_put_u32(uint8_t *out, size_t count, uint32_t value);
-uint64_t coronagamba_put_u64(uint8_t *out, size_t count, uint64_t value);
+/* ---- Volumes, cells and keys --------------------------------------------- */
 
-/* Copies all of the bytes to the front of out. Refusals: 13 */
-uint64_t coronagamba_copy(const uint8_t *bytes, size_t count,
-                          uint8_t *out, size_t out_count);
+/* How far something reaches along each axis, in voxels or in cells. */
+typedef struct {
+  uint32_t x;
+  uint32_t y;
+  uint32_t z;
+} coronagamba_extents;
 
-/* ---- grid and keys ------------------------------------------------------ */
+/* Where a volume's first voxel lies. */
+typedef struct {
+  int32_t x;
+  int32_t y;
+  int32_t z;
+} coronagamba_offset;
 
-typedef struct { uint32_t x, y, z; } coronagamba_extents;
-typedef struct { int32_t x, y, z; } coronagamba_offset;
-typedef struct { uint32_t x, y, z; } coronagamba_cell;
-
-/* A volume: its size and its chunks' size in voxels, and where it begins. */
+/* A volume: its size and its chunks' size in voxels, and where its first
+ * voxel lies. */
 typedef struct {
   coronagamba_extents size;
   coronagamba_extents chunk;
   coronagamba_offset offset;
 } coronagamba_volume;
 
-/* How many cells the volume has along x, y and z. Refusals: 2 */
+/* A cell, by its coordinates in the grid. */
+typedef struct {
+  uint32_t x;
+  uint32_t y;
+  uint32_t z;
+} coronagamba_cell;
+
+/* How many cells the volume has. Writes the numbers along x, y and z to
+ * `grid`. Refusals: 2 where an extent is 0 */
 uint64_t coronagamba_grid_of(coronagamba_volume volume, uint32_t grid[3]);
 
-/* The key of a cell: its compressed Morton code. Refusals: 2, 3 */
+/* The key of a cell: its compressed Morton code. Writes it to `key`.
+ * Refusals: 2, 3 */
 uint64_t coronagamba_key_of(coronagamba_volume volume, coronagamba_cell cell,
                             uint64_t *key);
 
-/* The keys of many cells, in their order. `cells` holds x, y, z of each cell in
- * turn; `count` is how many numbers these are, three for each cell, and one or
- * two left over are no cell. `length` is how many keys were written. The volume
- * is judged also where there is no cell. Refusals: 2 where an extent is 0 or
- * any cell is outside the grid, 3, 13 where there are more cells than room for
- * keys */
+/* The keys of many cells, in their order. `cells` holds x, y and z of each
+ * cell in turn, three numbers for a cell; one or two left over are no cell.
+ * Writes the keys to the front of `keys`, and their number to `length`. The
+ * volume is judged also where there is no cell. Refusals: 2 where an extent
+ * is 0 or any cell is outside the grid, 3, 13 where `keys` has room for
+ * fewer */
 uint64_t coronagamba_keys_of(coronagamba_volume volume, const uint32_t *cells,
                              size_t count, uint64_t *keys, size_t keys_count,
                              uint64_t *length);
 
-/* The cell of a key, as x, y, z. Refusals: 2, 3, 4 */
+/* The cell of a key. Writes its x, y and z to `cell`. Refusals: 2 where an
+ * extent is 0, 3, 4 */
 uint64_t coronagamba_cell_of(coronagamba_volume volume, uint64_t key,
                              uint32_t cell[3]);
 
-/* Where a cell begins and ends along x, y and z, in voxels, the volume's offset
- * included, the end excluded. Refusals: 2 */
+/* Where a cell lies, in voxels, the volume's offset included. Writes where
+ * it begins along x, y and z to `begin` and where it ends, that voxel
+ * excluded, to `end`. Refusals: 2 */
 uint64_t coronagamba_bounds_of(coronagamba_volume volume, coronagamba_cell cell,
                                int64_t begin[3], int64_t end[3]);
 
-/* The name of a cell's file where chunks are not sharded: at most 71 bytes,
- * with no 0 byte behind them. Refusals: 2, 13 */
-uint64_t coronagamba_chunk_name(coronagamba_volume volume, coronagamba_cell cell,
-                                uint8_t *out, size_t count, uint64_t *length);
+/* ---- Ids and shards ------------------------------------------------------ */
 
-/* ---- sharding ----------------------------------------------------------- */
-
-/* A sharding specification; hash 0 is identity, 1 is MurmurHash3_x86_128. */
+/* The numbers as they stand in a card: hash 0 is identity, 1 is murmur. Any
+ * values; the entry points judge them. */
 typedef struct {
-  uint8_t preshift, hash, minishard_bits, shard_bits;
+  uint8_t preshift;
+  uint8_t hash;
+  uint8_t minishard_bits;
+  uint8_t shard_bits;
 } coronagamba_sharding;
 
-/* The shard and the minishard of an id. Refusals: 1 */
+/* The shard and the minishard of an id. Writes them to `shard` and
+ * `minishard`. Refusals: 1 */
 uint64_t coronagamba_place_of(coronagamba_sharding sharding, uint64_t id,
                               uint64_t *shard, uint64_t *minishard);
 
-/* The shards and minishards of many ids, in their order; `length` is how many
- * ids these are. Refusals: 1, 13 where there are more ids than room for shards
- * or for minishards */
+/* The shards and the minishards of many ids, in their order. Writes them to
+ * the front of `shards` and of `minishards`, and their number to `length`.
+ * Refusals: 1, 13 where `shards` or `minishards` has room for fewer */
 uint64_t coronagamba_places_of(coronagamba_sharding sharding,
                                const uint64_t *ids, size_t count,
                                uint64_t *shards, size_t shards_count,
                                uint64_t *minishards, size_t minishards_count,
                                uint64_t *length);
 
-/* The file name of a shard: at most 14 bytes, with no 0 byte behind them.
- * Refusals: 1, 5, 13 */
+/* ---- File names ---------------------------------------------------------- */
+
+/* The file name of a cell's chunk where chunks are not sharded. Writes its
+ * ASCII bytes, at most 71 and with no 0 byte behind them, to the front of
+ * `out`, and their number to `length`. Refusals: 2, 13 where `out` is
+ * shorter than the name */
+uint64_t coronagamba_chunk_name(coronagamba_volume volume,
+                                coronagamba_cell cell, uint8_t *out,
+                                size_t count, uint64_t *length);
+
+/* The file name of a shard. Writes its ASCII bytes, at most 14 and with no 0
+ * byte behind them, to the front of `out`, and their number to `length`.
+ * Refusals: 1, 5, 13 where `out` is shorter than the name */
 uint64_t coronagamba_shard_name(coronagamba_sharding sharding, uint64_t shard,
                                 uint8_t *out, size_t count, uint64_t *length);
 
-/* ---- shards ------------------------------------------------------------- */
+/* ---- Shards: lookup, the check, listings, settling ----------------------- */
 
-/* Where the chunk of an id begins, counted from the file's first byte, and its
- * length in bytes. Refusals: 1, 5, 6, 7 to 11 of the id's minishard,
- * 12 */
+/* Where the chunk of an id lies in the shard's file. Writes where it begins,
+ * counted from the file's first byte, to `start`, and its number of bytes to
+ * `length`. Of the minishards it judges the id's own alone. Refusals: 1, 5,
+ * 6, 7 to 11 of the id's minishard, 12 */
 uint64_t coronagamba_lookup(coronagamba_sharding sharding, uint64_t shard,
                             const uint8_t *file, size_t count, uint64_t id,
                             uint64_t *start, uint64_t *length);
 
-/* Whether the whole shard is sound. Refusals: 1, 5, 6, 7 to 11 with the first
- * minishard that has a fault */
+/* Whether the whole shard is sound. Writes nothing. Where a minishard has a
+ * fault, the answer word names the first such minishard. Refusals: 1, 5, 6,
+ * 7 to 11 with the minishard */
 uint64_t coronagamba_check(coronagamba_sharding sharding, uint64_t shard,
                            const uint8_t *file, size_t count);
 
-/* How many chunks a minishard lists. Refusals: 1, 5 (also for a minishard
- * that is not there), 6, 7 to 11 of that minishard */
+/* How many chunks a minishard lists. Writes the number to `chunks`.
+ * Refusals: 1, 5 (also for a minishard that is not there), 6, 7 to 11 of
+ * that minishard */
 uint64_t coronagamba_listed_count(coronagamba_sharding sharding, uint64_t shard,
                                   const uint8_t *file, size_t count,
                                   uint64_t minishard, uint64_t *chunks);
 
-/* The chunks that a minishard lists, in stored order, three numbers each: id,
- * start counted from the file's first byte, length in bytes. `length` is how
- * many numbers were written, three times coronagamba_listed_count.
- * Refusals: 1, 5 (also for a minishard that is not there), 6, 7 to 11 of that
- * minishard, 13 */
+/* The chunks that a minishard lists, in stored order. Writes three numbers
+ * for each to the front of `out`: id, start counted from the file's first
+ * byte, length in bytes. Writes how many numbers these are, three times what
+ * coronagamba_listed_count gives, to `length`. Refusals: 1, 5 (also for a
+ * minishard that is not there), 6, 7 to 11 of that minishard, 13 where `out`
+ * has room for fewer */
 uint64_t coronagamba_listing(coronagamba_sharding sharding, uint64_t shard,
                              const uint8_t *file, size_t count,
                              uint64_t minishard, uint64_t *out,
                              size_t out_count, uint64_t *length);
 
-/* The length of a shard's settled form. Refusals: 1, 5, 6, 7 to 11 of the first
- * faulty minishard, 13 where it would pass 1 GiB */
-uint64_t coronagamba_settled_length(coronagamba_sharding sharding, uint64_t shard,
-                                    const uint8_t *file, size_t count,
-                                    uint64_t *length);
+/* How many bytes a shard's settled form has. Writes the number to `length`.
+ * Refusals: 1, 5, 6, 7 to 11 of the first faulty minishard, 13 where the
+ * form would pass 1 GiB */
+uint64_t coronagamba_settled_length(coronagamba_sharding sharding,
+                                    uint64_t shard, const uint8_t *file,
+                                    size_t count, uint64_t *length);
 
-/* Writes a shard's settled form to the front of out, which needs the room that
- * coronagamba_settled_length tells. Refusals: 1, 5, 6, 7 to 11 of the first
- * faulty minishard, 13 */
+/* A shard's settled form. Writes it to the front of `out`, which needs the
+ * room that coronagamba_settled_length tells, and its number of bytes to
+ * `length`. Refusals: 1, 5, 6, 7 to 11 of the first faulty minishard, 13
+ * where `out` is shorter than the form or the form would pass 1 GiB */
 uint64_t coronagamba_settle(coronagamba_sharding sharding, uint64_t shard,
                             const uint8_t *file, size_t count, uint8_t *out,
                             size_t out_count, uint64_t *length);
 
-/* ---- deposit cards ------------------------------------------------------- */
+/* ---- Deposit cards ------------------------------------------------------- */
 
-/* What a card of these bytes says: preshift, hash, minishard bits and shard
- * bits; volume size, chunk size and voxel offset along x, y, z. To use them in
- * other calls, copy the numbers into the structs one by one.
- * Refusals: 14, 1, 2, 3 */
+/* What a deposit card of these bytes says. Writes preshift, hash, minishard
+ * bits and shard bits to `sharding`, and volume size, chunk size and voxel
+ * offset along x, y and z to `size`, `chunk` and `offset`. To use them in
+ * other calls, copy the numbers into the structs one by one. Refusals: 14,
+ * 1, 2, 3 */
 uint64_t coronagamba_card_read(const uint8_t *bytes, size_t count,
                                uint8_t sharding[4], uint32_t size[3],
                                uint32_t chunk[3], int32_t offset[3]);
 
-/* Writes a card, of 46 or 61 bytes, to the front of out. Refusals: 1, 2, 3, 13 */
+/* A deposit card. Writes its bytes, 46 or 61, to the front of `out`, and
+ * their number to `length`. Refusals: 1, 2, 3, 13 where `out` is shorter
+ * than the card */
 uint64_t coronagamba_card_write(coronagamba_sharding sharding,
                                 coronagamba_volume volume, uint8_t *out,
                                 size_t count, uint64_t *length);
 
-/* ---- mesh manifests ------------------------------------------------------ */
+/* ---- Mesh manifests. Reals cross the border as their bit patterns -------- */
 
-/* Whether the bytes are a sound manifest. Refusals: 15, 16, 17 */
+/* Whether the bytes are a sound manifest. Writes nothing. Refusals: 15, 16,
+ * 17 */
 uint64_t coronagamba_manifest_check(const uint8_t *bytes, size_t count);
 
-/* Chunk shape along x, y, z, then grid origin. Refusals: 15, 16, 17 */
+/* The shape and the origin of a manifest. Writes the bits of six reals to
+ * `header`: the chunk shape along x, y and z, then the grid origin.
+ * Refusals: 15, 16, 17 */
 uint64_t coronagamba_manifest_header(const uint8_t *bytes, size_t count,
-                                     float header[6]);
+                                     uint32_t header[6]);
 
-/* A field by its number, counted from 0 in file order, one for each 4 bytes.
- * Kind 1 writes the real, kind 0 the whole number. Refusals: 15, 16, 17, 18 */
+/* A field of a manifest, by its number, counted from 0 in file order, one
+ * for each 4 bytes. Writes its kind to `kind`: CORONAGAMBA_FIELD_REAL where
+ * it is a real, CORONAGAMBA_FIELD_WHOLE where it is a whole number. Writes
+ * the real's bits, or the number, to `value`. Refusals: 15, 16, 17, 18 */
 uint64_t coronagamba_manifest_field(const uint8_t *bytes, size_t count,
                                     uint32_t number, uint32_t *kind,
-                                    float *real, uint32_t *whole);
+                                    uint32_t *value);
 
-/* A node of a level, both counted from 0: its position along x, y, z, where
- * its fragment starts, counted from the first fragment, and the fragment's
- * size in bytes. Refusals: 15, 16, 17, 18 */
+/* A node of a level, both counted from 0. Writes its position along x, y and
+ * z to `position`, where its fragment starts, counted from the first
+ * fragment, to `start`, and the fragment's number of bytes to `size`.
+ * Refusals: 15, 16, 17, 18 */
 uint64_t coronagamba_manifest_node(const uint8_t *bytes, size_t count,
                                    uint32_t level, uint32_t node,
                                    uint32_t position[3], uint64_t *start,
                                    uint32_t *size);
 
-/* The corners of a node's box along x, y, z: near is origin + (position x shape)
- * x 2^level, far is near + shape x 2^level, each operation rounded once to a
- * float. They are computed in the floating-point environment that a C program
- * starts with: round to nearest, subnormal numbers kept, no traps. 18 is given
- * also where a position is 2^24 or more or a corner is not finite.
- * Refusals: 15, 16, 17, 18 */
+/* All nodes of a level, counted from 0, in node order. Writes five numbers
+ * for each to the front of `out`: its position along x, y and z, where its
+ * fragment starts, counted from the first fragment, and the fragment's
+ * number of bytes. Writes how many numbers these are to `length`. A level
+ * has fewer nodes than a sixteenth of the bytes. Refusals: 15, 16, 17, 18
+ * where there is no such level, 13 where `out` has room for fewer */
+uint64_t coronagamba_manifest_nodes(const uint8_t *bytes, size_t count,
+                                    uint32_t level, uint64_t *out,
+                                    size_t out_count, uint64_t *length);
+
+/* The corners of a node's box, level and node counted from 0. Writes the
+ * bits of origin + (position x shape) x 2^level along x, y and z to
+ * `near_corner`, and of that + shape x 2^level to `far_corner`, each
+ * operation rounded once to a float. They are computed in the floating-point
+ * environment that a C program starts with: round to nearest, subnormal
+ * numbers kept, no traps. Refusals: 15, 16, 17, 18 also where a position is
+ * 2^24 or more or a corner is not finite */
 uint64_t coronagamba_manifest_corners(const uint8_t *bytes, size_t count,
                                       uint32_t level, uint32_t node,
-                                      float near_corner[3],
-                                      float far_corner[3]);
-
-/* Begins a walk over all nodes, level by level, and judges the bytes once. `at`
- * is the level and the node that come next, `places` the number of the field
- * where that level begins and where that node's fragment starts.
- * Refusals: 15, 16, 17 */
-uint64_t coronagamba_manifest_walk_begin(const uint8_t *bytes, size_t count,
-                                         uint32_t at[2], uint64_t places[2]);
-
-/* One step of a walk, on the bytes on which it began and the numbers that the
- * last call left; it judges nothing again. Kind 1 is a node, the one that `at`
- * named before the step: its position, fragment start and size are written, and
- * the walk moves past it. Kind 2: the level has no more nodes, and the walk
- * moves to the next one. Kind 0: all levels are done, and only the kind is
- * written. With other bytes or other numbers the call still returns, but what
- * it writes need not be a node. Refusals: 18 where the walk leaves the bytes */
-uint64_t coronagamba_manifest_walk_step(const uint8_t *bytes, size_t count,
-                                        uint32_t at[2], uint64_t places[2],
-                                        uint32_t *kind, uint32_t position[3],
-                                        uint64_t *start, uint32_t *size);
+                                      uint32_t near_corner[3],
+                                      uint32_t far_corner[3]);
 
 #ifdef __cplusplus
 }

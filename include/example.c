@@ -2,7 +2,7 @@
  * rules. Prints the cases that came out otherwise; the status is 0 where none
  * did. Compiles as C and as C++:
  *
- *   gcc -std=c11 -Iinclude include/example.c target/staticlib/libcapi.a
+ *   gcc -std=c11 -Iinclude include/example.c target/staticlib/libcoronagamba.a
  */
 #include "coronagamba.h"
 
@@ -18,24 +18,22 @@ static void see(int holds, const char *what) {
   }
 }
 
-static void put_all(uint8_t *out, const uint32_t *items, size_t count) {
+/* A number as it stands in a file: its bytes, lowest first. */
+static void put(uint8_t *out, uint64_t number, size_t width) {
   size_t i;
-  for (i = 0; i < count; i++)
-    see(coronagamba_put_u32(out + 4 * i, 4, items[i]) == 0, "an item is put");
+  for (i = 0; i < width; i++) out[i] = (uint8_t)(number >> 8 * i);
 }
 
-static void bytes(void) {
-  uint8_t out[8] = {9, 9, 9, 9, 9, 9, 9, 9};
-  const uint8_t two[2] = {1, 2};
-  see(coronagamba_read_u16(two, 2) == 0x201, "read_u16");
-  see(coronagamba_read_u32(two, 2) == 0x201, "read_u32, bytes missing");
-  see(coronagamba_read_u64(NULL, 0) == 0, "read_u64 of nothing");
-  see(coronagamba_put_u16(out, 8, 0x807) == 0 && out[0] == 7 && out[1] == 8 &&
-          out[2] == 9,
-      "put_u16");
-  see(coronagamba_put_u64(out, 7, 0) == 13 && out[0] == 7, "put_u64, no room");
-  see(coronagamba_copy(two, 2, out, 8) == 0 && out[1] == 2 && out[2] == 9,
-      "copy");
+static void version(void) {
+  see(coronagamba_version() == CORONAGAMBA_VERSION,
+      "the library belongs to this header");
+}
+
+/* The real that these bits mean. */
+static float real_of(uint32_t bits) {
+  float real;
+  memcpy(&real, &bits, sizeof real);
+  return real;
 }
 
 /* Grid 5,3,1: cell 4,2,0 has key 24; 3,1,0 has key 7; key 20 gives 4. */
@@ -58,7 +56,9 @@ static void grid(void) {
   see(coronagamba_cell_of(volume, 24, found) == 0 && found[0] == 4 &&
           found[1] == 2 && found[2] == 0,
       "cell_of");
-  see(coronagamba_cell_of(volume, 20, found) == 4 && found[0] == 4,
+  see(coronagamba_cell_of(volume, 20, found) ==
+              CORONAGAMBA_REFUSED_KEY_OF_NO_CELL &&
+          found[0] == 4,
       "cell_of, no cell");
   see(coronagamba_bounds_of(strip, second, begin, end) == 0 && begin[0] == 0 &&
           end[0] == 36,
@@ -70,7 +70,7 @@ static void grid(void) {
 
 /* Identity, preshift 1, minishard bits 1: ids 2 and 3 go to minishard 1. */
 static void places(void) {
-  coronagamba_sharding sharding = {1, 0, 1, 0};
+  coronagamba_sharding sharding = {1, CORONAGAMBA_HASH_IDENTITY, 1, 0};
   coronagamba_sharding five = {0, 0, 0, 5};
   const uint64_t ids[3] = {2, 3, 4};
   uint64_t shard = 9, minishard = 9, length = 0;
@@ -95,16 +95,17 @@ static void shards(void) {
   const uint64_t numbers[4] = {5, 53, 0, 0};
   const uint64_t rows[6] = {4, 6, 0, 0, 2, 3};
   uint8_t file[85], out[90];
-  uint64_t start = 0, length = 0, chunks = 0, listed[6];
+  uint64_t start = 0, length = 0, chunks = 0, word, listed[6];
   size_t i;
-  for (i = 0; i < 4; i++) coronagamba_put_u64(file + 8 * i, 8, numbers[i]);
+  for (i = 0; i < 4; i++) put(file + 8 * i, numbers[i], 8);
   memcpy(file + 32, "abcde", 5);
-  for (i = 0; i < 6; i++) coronagamba_put_u64(file + 37 + 8 * i, 8, rows[i]);
+  for (i = 0; i < 6; i++) put(file + 37 + 8 * i, rows[i], 8);
   see(coronagamba_check(sharding, 0, file, 85) == 0, "check");
   see(coronagamba_lookup(sharding, 0, file, 85, 10, &start, &length) == 0 &&
           start == 34 && length == 3,
       "lookup");
-  see(coronagamba_lookup(sharding, 0, file, 85, 6, &start, &length) == 12 &&
+  see(coronagamba_lookup(sharding, 0, file, 85, 6, &start, &length) ==
+              CORONAGAMBA_REFUSED_NOT_LISTED &&
           start == 34,
       "lookup, not listed");
   see(coronagamba_listed_count(sharding, 0, file, 85, 0, &chunks) == 0 &&
@@ -121,8 +122,20 @@ static void shards(void) {
       "settle");
   /* The second minishard's entry, now with its start behind its end. */
   file[16] = 1;
-  see(coronagamba_check(sharding, 0, file, 85) == 7 + 256 * 1,
+  word = coronagamba_check(sharding, 0, file, 85);
+  see(CORONAGAMBA_NUMBER(word) == CORONAGAMBA_REFUSED_INDEX_ENTRY &&
+          CORONAGAMBA_HAS_MINISHARD(word) && CORONAGAMBA_MINISHARD(word) == 1 &&
+          !CORONAGAMBA_HAS_POSITION(word),
       "check, a fault in minishard 1");
+  /* The first one's too: minishard 0 is told from none. */
+  file[0] = 54;
+  word = coronagamba_check(sharding, 0, file, 85);
+  see(CORONAGAMBA_HAS_MINISHARD(word) && CORONAGAMBA_MINISHARD(word) == 0,
+      "check, a fault in minishard 0");
+  word = coronagamba_check(sharding, 1, file, 85);
+  see(word == CORONAGAMBA_REFUSED_NO_SUCH_SHARD &&
+          !CORONAGAMBA_HAS_MINISHARD(word),
+      "check, no such shard");
 }
 
 static void cards(void) {
@@ -139,7 +152,8 @@ static void cards(void) {
           four[2] == 1 && four[3] == 2 && size[0] == 100 && chunk[2] == 64 &&
           offset[1] == 0,
       "card_read");
-  see(coronagamba_card_read(card, 45, four, size, chunk, offset) == 14,
+  see(coronagamba_card_read(card, 45, four, size, chunk, offset) ==
+          CORONAGAMBA_REFUSED_CARD_MALFORMED,
       "card_read, cut short");
 }
 
@@ -149,50 +163,50 @@ static void manifests(void) {
   uint32_t items[7 + 15 + 4] = {eight, eight, eight, ten, ten, ten, 3};
   uint8_t manifest[4 * (7 + 15 + 4)];
   const size_t count = sizeof manifest;
-  float header[6], real = 0, near_corner[3], far_corner[3];
-  uint32_t kind = 9, whole = 0, position[3], size = 0, at[2];
-  uint64_t start = 9, places[2];
-  int levels = 0, nodes = 0;
+  uint32_t header[6], near_corner[3], far_corner[3];
+  uint32_t kind = 9, value = 0, position[3], size = 0;
+  uint64_t start = 9, nodes[6] = {9, 9, 9, 9, 9, 9}, length = 0;
+  size_t i;
   items[21] = 1; /* one node in level 2 */
   items[22] = items[23] = items[24] = 3;
   items[25] = 700;
-  put_all(manifest, items, 26);
+  for (i = 0; i < 26; i++) put(manifest + 4 * i, items[i], 4);
   see(coronagamba_manifest_check(manifest, count) == 0, "manifest_check");
-  see(coronagamba_manifest_check(manifest, count - 1) == 15,
+  see(coronagamba_manifest_check(manifest, count - 1) ==
+          CORONAGAMBA_REFUSED_MANIFEST_LENGTH,
       "manifest_check, cut short");
   see(coronagamba_manifest_header(manifest, count, header) == 0 &&
-          header[0] == 8 && header[5] == 10,
+          real_of(header[0]) == 8 && real_of(header[5]) == 10,
       "manifest_header");
-  see(coronagamba_manifest_field(manifest, count, 3, &kind, &real, &whole) ==
-              0 &&
-          kind == 1 && real == 10,
+  see(coronagamba_manifest_field(manifest, count, 3, &kind, &value) == 0 &&
+          kind == CORONAGAMBA_FIELD_REAL && real_of(value) == 10,
       "manifest_field, a real");
-  see(coronagamba_manifest_field(manifest, count, 6, &kind, &real, &whole) ==
-              0 &&
-          kind == 0 && whole == 3,
+  see(coronagamba_manifest_field(manifest, count, 6, &kind, &value) == 0 &&
+          kind == CORONAGAMBA_FIELD_WHOLE && value == 3,
       "manifest_field, a whole number");
   see(coronagamba_manifest_node(manifest, count, 2, 0, position, &start,
                                 &size) == 0 &&
           position[0] == 3 && start == 0 && size == 700,
       "manifest_node");
+  see(coronagamba_manifest_nodes(manifest, count, 2, nodes, 6, &length) == 0 &&
+          length == 5 && nodes[0] == 3 && nodes[3] == 0 && nodes[4] == 700 &&
+          nodes[5] == 9,
+      "manifest_nodes");
+  see(coronagamba_manifest_nodes(manifest, count, 0, NULL, 0, &length) == 0 &&
+          length == 0,
+      "manifest_nodes, a level without nodes");
+  length = 9;
+  see(coronagamba_manifest_nodes(manifest, count, 3, nodes, 6, &length) == 18 &&
+          length == 9,
+      "manifest_nodes, no such level");
   see(coronagamba_manifest_corners(manifest, count, 2, 0, near_corner,
                                    far_corner) == 0 &&
-          near_corner[0] == 106 && far_corner[2] == 138,
+          real_of(near_corner[0]) == 106 && real_of(far_corner[2]) == 138,
       "manifest_corners");
-  see(coronagamba_manifest_walk_begin(manifest, count, at, places) == 0,
-      "walk_begin");
-  do {
-    see(coronagamba_manifest_walk_step(manifest, count, at, places, &kind,
-                                       position, &start, &size) == 0,
-        "walk_step");
-    if (kind == 1) nodes++;
-    if (kind == 2) levels++;
-  } while (kind != 0 && levels <= 3);
-  see(levels == 3 && nodes == 1, "a walk meets each level and node");
 }
 
 int main(void) {
-  bytes();
+  version();
   grid();
   places();
   shards();

@@ -9,6 +9,7 @@ Bytes are taken from any C-contiguous bytes-like object without a copy. Other
 threads run during a call, and must not change the bytes that it was lent.
 """
 
+from ._declared import __version__
 from .card import Card
 from .grid import Bounds, Cell, Extents, Offset, Point, Volume
 from .manifest import Corners, Header, Manifest, Node, Visit
@@ -38,4 +39,5 @@ __all__ = [
     "Span",
     "Visit",
     "Volume",
+    "__version__",
 ]

@@ -114,8 +114,11 @@ class Held:
 
     __slots__ = ("_view",)
 
-    def __init__(self, data: ReadableBuffer) -> None:
-        self._view = _byte_view(data)
+    # The name by which a caller gives them.
+    _NAME = "bytes"
+
+    def __init__(self, bytes: ReadableBuffer) -> None:
+        self._view = _byte_view(self._NAME, bytes)
 
     def release(self) -> None:
         """Lets the caller's buffer go. Every later call raises ValueError;
@@ -134,19 +137,19 @@ class Held:
         self.release()
 
     def _lent(self) -> Lent:
-        return Lent("data", self._view)
+        return Lent(self._NAME, self._view)
 
 
-def _byte_view(data: ReadableBuffer) -> memoryview:
+def _byte_view(name: str, data: ReadableBuffer) -> memoryview:
     """A read-only view of an object's bytes."""
     try:
         view = memoryview(data)
     except TypeError:
         raise TypeError(
-            f"data must be a bytes-like object, not {type(data).__name__}"
+            f"{name} must be a bytes-like object, not {type(data).__name__}"
         ) from None
     if not view.c_contiguous:
-        raise TypeError("data must be a C-contiguous bytes-like object")
+        raise TypeError(f"{name} must be a C-contiguous bytes-like object")
     return view.toreadonly().cast("B")
 
 

@@ -38,6 +38,13 @@ def u64(name: str, value: Any) -> int:
     return _fitting(name, value, 0, 2**64 - 1)
 
 
+def item(name: str, value: Any) -> int:
+    """A number of 64 bits that counts a manifest's items, as the library takes
+    it. No manifest has an item of the greatest 32-bit number, so what does not
+    fit is refused as it should be."""
+    return min(u64(name, value), 2**32 - 1)
+
+
 def i32(name: str, value: Any) -> int:
     """The value as a signed number of 32 bits."""
     return _fitting(name, value, -(2**31), 2**31 - 1)

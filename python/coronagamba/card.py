@@ -42,11 +42,11 @@ class Card:
         _must_be("volume", self.volume, Volume)
 
     @classmethod
-    def read(cls, data: ReadableBuffer) -> Card:
+    def read(cls, bytes: ReadableBuffer) -> Card:
         """What the card of these bytes says. Refusals 14, 1, 2, 3."""
         sharding, offset = _FourU8(), _ThreeI32()
         size, chunk = _ThreeU32(), _ThreeU32()
-        with Lent("data", data) as lent:
+        with Lent("bytes", bytes) as lent:
             answer(
                 library.coronagamba_card_read(
                     lent.bytes,

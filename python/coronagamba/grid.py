@@ -6,7 +6,7 @@ from ctypes import byref, c_int64, c_uint8, c_uint32, c_uint64
 from dataclasses import dataclass
 from typing import Iterable, NamedTuple, Union
 
-from . import _library
+from . import _declared
 from ._buffers import Lent, Numbers, ReadableBuffer, own, u32_triples, zeros
 from ._library import library
 from ._numbers import three_i32, three_u32, u64
@@ -94,8 +94,8 @@ class Volume:
         for name, value in fields.items():
             object.__setattr__(self, name, value)
 
-    def _struct(self) -> _library.Volume:
-        return _library.Volume(self.size, self.chunk, self.offset)
+    def _struct(self) -> _declared.Volume:
+        return _declared.Volume(self.size, self.chunk, self.offset)
 
     def grid(self) -> Extents:
         """How many cells there are along x, y and z. Refusal 2."""
@@ -170,5 +170,5 @@ class Volume:
         return bytes(name)[: length.value].decode("ascii")
 
 
-def _cell_struct(cell: Iterable[int]) -> _library.Cell:
-    return _library.Cell(*three_u32("cell", cell))
+def _cell_struct(cell: Iterable[int]) -> _declared.Cell:
+    return _declared.Cell(*three_u32("cell", cell))

@@ -2,23 +2,19 @@
 
 from __future__ import annotations
 
-from ctypes import byref, c_float, c_uint32, c_uint64
-from typing import Any, Iterator, NamedTuple, Tuple, Union
+import struct
+from ctypes import byref, c_uint32, c_uint64
+from itertools import count
+from typing import Any, Iterable, Iterator, List, NamedTuple, Tuple, Union
 
-from ._buffers import Held
+from ._buffers import Held, Numbers, own, zeros
+from ._declared import FIELD_REAL
 from ._library import library
-from ._numbers import u32
-from .refusal import answer
+from ._numbers import item
+from .refusal import Refused, answer
 
-_TwoU32 = c_uint32 * 2
 _ThreeU32 = c_uint32 * 3
-_TwoU64 = c_uint64 * 2
-_ThreeF32 = c_float * 3
-_SixF32 = c_float * 6
-
-# What a step of a walk can meet.
-_END = 0
-_NODE = 1
+_SixU32 = c_uint32 * 6
 
 Reals = Tuple[float, float, float]
 Position = Tuple[int, int, int]
@@ -41,7 +37,7 @@ class Node(NamedTuple):
 
 
 class Visit(NamedTuple):
-    """A node met on a walk, with its level and its index in that level."""
+    """A node among all, with its level and its index in that level."""
 
     level: int
     index: int
@@ -57,11 +53,10 @@ class Corners(NamedTuple):
 
 
 class Manifest(Held):
-    """The bytes of a manifest. Opening judges nothing; each call judges them,
-    and a walk judges them once.
+    """The bytes of a manifest. Opening judges nothing; each call judges them.
 
     The bytes stay the caller's: they are not copied, and must not change
-    while a call or a walk runs.
+    while a call runs.
 
     >>> import struct
     >>> from coronagamba import Manifest
@@ -88,32 +83,31 @@ class Manifest(Held):
 
     def header(self) -> Header:
         """The shape and the origin. Refusals 15, 16, 17."""
-        reals = _SixF32()
+        bits = _SixU32()
         with self._lent() as lent:
             answer(
                 library.coronagamba_manifest_header(
-                    lent.bytes, lent.count, byref(reals)
+                    lent.bytes, lent.count, byref(bits)
                 )
             )
-        a, b, c, d, e, f = reals
-        return Header((a, b, c), (d, e, f))
+        return Header(_reals(bits[:3]), _reals(bits[3:]))
 
     def field(self, number: int) -> Union[float, int]:
         """A field by its number, counted from 0 in file order: a float where
         it is a real, an int where it is a whole number. Refusals 15 to 18."""
-        kind, real, whole = c_uint32(), c_float(), c_uint32()
+        kind, value = c_uint32(), c_uint32()
         with self._lent() as lent:
             answer(
                 library.coronagamba_manifest_field(
                     lent.bytes,
                     lent.count,
-                    u32("number", number),
+                    item("number", number),
                     byref(kind),
-                    byref(real),
-                    byref(whole),
+                    byref(value),
                 )
             )
-        return real.value if kind.value == 1 else whole.value
+        real = kind.value == FIELD_REAL
+        return _real(value.value) if real else value.value
 
     def node(self, level: int, node: int) -> Node:
         """A node by its level and its index in it, both counted from 0.
@@ -124,74 +118,90 @@ class Manifest(Held):
                 library.coronagamba_manifest_node(
                     lent.bytes,
                     lent.count,
-                    u32("level", level),
-                    u32("node", node),
+                    item("level", level),
+                    item("node", node),
                     byref(position),
                     byref(start),
                     byref(size),
                 )
             )
-        return _node(position, start, size)
+        x, y, z = position
+        return Node((x, y, z), start.value, size.value)
 
     def corners(self, level: int, node: int) -> Corners:
         """The corners of a node's box. Refusals 15 to 18."""
-        near, far = _ThreeF32(), _ThreeF32()
+        near, far = _ThreeU32(), _ThreeU32()
         with self._lent() as lent:
             answer(
                 library.coronagamba_manifest_corners(
                     lent.bytes,
                     lent.count,
-                    u32("level", level),
-                    u32("node", node),
+                    item("level", level),
+                    item("node", node),
                     byref(near),
                     byref(far),
                 )
             )
         return Corners(_reals(near), _reals(far))
 
+    def nodes_of(self, level: int) -> List[Node]:
+        """The nodes of a level, counted from 0, in their order. Refusals 15
+        to 18."""
+        level = item("level", level)
+        self.check()
+        return self._nodes_of(level, self._room())
+
     def nodes(self) -> Iterator[Visit]:
-        """All nodes, level by level, in file order. Refusals 15, 16, 17 at
-        this call; 18 on the way only where the bytes were changed."""
-        at, places = _TwoU32(), _TwoU64()
+        """All nodes, level by level. Refusals 15, 16, 17 at this call, and on
+        the way only where the bytes were changed."""
+        self.check()
+        return self._visits()
+
+    def _visits(self) -> Iterator[Visit]:
+        """The nodes of each level in turn; 18 says that there is no more."""
+        room = self._room()
+        for level in count():
+            try:
+                nodes = self._nodes_of(level, room)
+            except Refused as refusal:
+                if refusal.number == 18:
+                    return
+                raise
+            for index, node in enumerate(nodes):
+                yield Visit(level, index, node)
+
+    def _room(self) -> Numbers:
+        """Room for the nodes of any level of a sound manifest: each of them
+        has 16 of the bytes."""
+        return zeros("Q", 5 * (len(self._view) // 16))
+
+    def _nodes_of(self, level: int, out: Numbers) -> List[Node]:
+        """The nodes of a level by way of an array that has room for them."""
+        length = c_uint64()
         with self._lent() as lent:
             answer(
-                library.coronagamba_manifest_walk_begin(
-                    lent.bytes, lent.count, byref(at), byref(places)
+                library.coronagamba_manifest_nodes(
+                    lent.bytes,
+                    lent.count,
+                    level,
+                    own(c_uint64, out),
+                    len(out),
+                    byref(length),
                 )
             )
-        return self._walk(at, places)
-
-    def _walk(self, at: Any, places: Any) -> Iterator[Visit]:
-        """The nodes from here on. `at` and `places` are where the walk stands
-        and are moved by each step."""
-        kind, position = c_uint32(), _ThreeU32()
-        start, size = c_uint64(), c_uint32()
-        while True:
-            level, index = at
-            with self._lent() as lent:
-                answer(
-                    library.coronagamba_manifest_walk_step(
-                        lent.bytes,
-                        lent.count,
-                        byref(at),
-                        byref(places),
-                        byref(kind),
-                        byref(position),
-                        byref(start),
-                        byref(size),
-                    )
-                )
-            if kind.value == _END:
-                return
-            if kind.value == _NODE:
-                yield Visit(level, index, _node(position, start, size))
+        numbers = iter(out[:length.value])
+        return [
+            Node((x, y, z), start, size)
+            for x, y, z, start, size in zip(*[numbers] * 5)
+        ]
 
 
-def _reals(three: Any) -> Reals:
-    x, y, z = three
+def _real(bits: int) -> float:
+    """The real of these bits."""
+    (real,) = struct.unpack("=f", struct.pack("=I", bits))
+    return float(real)
+
+
+def _reals(three: Iterable[int]) -> Reals:
+    x, y, z = map(_real, three)
     return x, y, z
-
-
-def _node(position: Any, start: c_uint64, size: c_uint32) -> Node:
-    x, y, z = position
-    return Node((x, y, z), start.value, size.value)

@@ -8,7 +8,7 @@ from typing import Any, List, NamedTuple, Tuple
 from ._buffers import Held, Lent, ReadableBuffer, WriteableBuffer, own, zeros
 from ._library import library
 from ._numbers import u64
-from .refusal import answer, checked
+from .refusal import answer
 from .sharding import Sharding
 
 
@@ -34,21 +34,23 @@ class Shard(Held):
 
     >>> from coronagamba import IDENTITY, Shard, Sharding
     >>> index = b"".join(n.to_bytes(8, "little") for n in (2, 26, 7, 0, 2))
-    >>> data = index[:16] + b"ab" + index[16:]
-    >>> shard = Shard(Sharding(0, IDENTITY, 0, 0), 0, data)
+    >>> file = index[:16] + b"ab" + index[16:]
+    >>> shard = Shard(Sharding(0, IDENTITY, 0, 0), 0, file)
     >>> shard.check()
     >>> shard.lookup(7)
     Span(start=16, length=2)
     >>> bytes(shard.chunk(7))
     b'ab'
-    >>> shard.settled() == data
+    >>> shard.settled() == file
     True
     """
 
     __slots__ = ("_sharding", "_number")
 
+    _NAME = "file"
+
     def __init__(
-        self, sharding: Sharding, number: int, data: ReadableBuffer
+        self, sharding: Sharding, number: int, file: ReadableBuffer
     ) -> None:
         if not isinstance(sharding, Sharding):
             raise TypeError(
@@ -56,7 +58,7 @@ class Shard(Held):
             )
         self._sharding = sharding
         self._number = u64("number", number)
-        super().__init__(data)
+        super().__init__(file)
 
     @property
     def sharding(self) -> Sharding:
@@ -97,7 +99,7 @@ class Shard(Held):
         """Passes exactly the sound shards. Refusals 1, 5, 6, and 7 to 11 with
         the first minishard that has a fault."""
         with self._lent() as lent:
-            checked(library.coronagamba_check(*self._arguments(lent)))
+            answer(library.coronagamba_check(*self._arguments(lent)))
 
     def listed_count(self, minishard: int) -> int:
         """How many chunks a minishard lists. Refusals 1, 5 (also for a
@@ -148,21 +150,24 @@ class Shard(Held):
     def settled(self) -> bytearray:
         """The settled form, refused as `settled_length` is."""
         form = bytearray(self.settled_length())
-        self.settle_into(form)
+        self.settle(form)
         return form
 
-    def settle_into(self, buffer: WriteableBuffer) -> int:
-        """Writes the settled form to the front of a buffer and gives its
-        length. Refusals 1, 5, 6, 7 to 11, and 13 where the buffer is too
-        short or the form would pass 1 GiB. The buffer and the shard's bytes
-        must have no memory in common."""
+    def settle(self, out: WriteableBuffer) -> int:
+        """Writes the settled form to the front of `out` and gives its length.
+        Refusals 1, 5, 6, 7 to 11, and 13 where `out` is too short or the form
+        would pass 1 GiB. `out` and the shard's bytes must have no memory in
+        common."""
         length = c_uint64()
-        with self._lent() as lent, Lent("buffer", buffer, True) as out:
-            if out.overlaps(lent):
-                raise ValueError("buffer overlaps the bytes of the shard")
+        with self._lent() as lent, Lent("out", out, True) as room:
+            if room.overlaps(lent):
+                raise ValueError("out overlaps the bytes of the shard")
             answer(
                 library.coronagamba_settle(
-                    *self._arguments(lent), out.bytes, out.count, byref(length)
+                    *self._arguments(lent),
+                    room.bytes,
+                    room.count,
+                    byref(length),
                 )
             )
         return length.value

@@ -6,15 +6,15 @@ from ctypes import byref, c_uint8, c_uint64
 from dataclasses import dataclass
 from typing import Iterable, NamedTuple, Tuple, Union
 
-from . import _library
+from . import _declared
 from ._buffers import Lent, Numbers, ReadableBuffer, own, u64s, zeros
 from ._library import library
 from ._numbers import u8, u64
 from .refusal import answer
 
 # The hash that gives back the id, and MurmurHash3_x86_128.
-IDENTITY = 0
-MURMUR = 1
+IDENTITY = _declared.HASH_IDENTITY
+MURMUR = _declared.HASH_MURMUR
 
 # 8 digits and `.shard`.
 _Name = c_uint8 * (8 + 6)
@@ -51,8 +51,8 @@ class Sharding:
         for name in ("preshift", "hash", "minishard_bits", "shard_bits"):
             object.__setattr__(self, name, u8(name, getattr(self, name)))
 
-    def _struct(self) -> _library.Sharding:
-        return _library.Sharding(
+    def _struct(self) -> _declared.Sharding:
+        return _declared.Sharding(
             self.preshift, self.hash, self.minishard_bits, self.shard_bits
         )
 

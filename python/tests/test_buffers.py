@@ -21,6 +21,8 @@ try:
 except ImportError:
     numpy = None
 
+# The names of what is held, in complaints.
+HELD = "^(file|bytes) must be"
 SHARDING = Sharding(0, 0, 1, 0)
 CONTENT = {4: b"ab", 10: b"cde", 7: b"f" * 8}
 FILE = shards.settled(SHARDING, CONTENT)
@@ -75,10 +77,10 @@ class Kinds(unittest.TestCase):
         for out in kinds(bytes(len(FILE))):
             with self.subTest(kind=type(out)):
                 if memoryview(out).readonly:
-                    with self.assertRaisesRegex(TypeError, "^buffer must be"):
-                        Shard(SHARDING, 0, FILE).settle_into(out)
+                    with self.assertRaisesRegex(TypeError, "^out must be"):
+                        Shard(SHARDING, 0, FILE).settle(out)
                 else:
-                    length = Shard(SHARDING, 0, FILE).settle_into(out)
+                    length = Shard(SHARDING, 0, FILE).settle(out)
                     self.assertEqual(length, len(FILE))
                     self.assertEqual(bytes(out)[:length], FILE)
 
@@ -106,7 +108,7 @@ class Kinds(unittest.TestCase):
                     call()
                 self.assertEqual(caught.exception.number, number)
         with self.assertRaises(Refused) as caught:
-            Shard(SHARDING, 0, FILE).settle_into(bytearray())
+            Shard(SHARDING, 0, FILE).settle(bytearray())
         self.assertEqual(caught.exception.number, 13)
 
     def test_not_contiguous(self):
@@ -117,10 +119,10 @@ class Kinds(unittest.TestCase):
                 lambda: Manifest(strided),
                 lambda: Card.read(strided),
             ):
-                with self.assertRaisesRegex(TypeError, "^data must be a C-c"):
+                with self.assertRaisesRegex(TypeError, HELD + " a C-c"):
                     call()
-            with self.assertRaisesRegex(TypeError, "^buffer must be a C-c"):
-                Shard(SHARDING, 0, FILE).settle_into(strided)
+            with self.assertRaisesRegex(TypeError, "^out must be a C-c"):
+                Shard(SHARDING, 0, FILE).settle(strided)
         self.assertEqual(doubled, bytes(len(doubled)))
 
     def test_no_bytes_like_object(self):
@@ -130,10 +132,10 @@ class Kinds(unittest.TestCase):
                 lambda: Manifest(other),
                 lambda: Card.read(other),
             ):
-                with self.assertRaisesRegex(TypeError, "^data must be"):
+                with self.assertRaisesRegex(TypeError, HELD):
                     call()
-            with self.assertRaisesRegex(TypeError, "^buffer must be"):
-                Shard(SHARDING, 0, FILE).settle_into(other)
+            with self.assertRaisesRegex(TypeError, "^out must be"):
+                Shard(SHARDING, 0, FILE).settle(other)
 
 
 if numpy is not None:
@@ -143,9 +145,9 @@ if numpy is not None:
             data = numpy.frombuffer(FILE, numpy.uint8)
             self.assertEqual(Shard(SHARDING, 0, data).chunk(10), b"cde")
             out = numpy.zeros(len(FILE), numpy.uint8)
-            Shard(SHARDING, 0, data).settle_into(out)
+            Shard(SHARDING, 0, data).settle(out)
             self.assertEqual(out.tobytes(), FILE)
-            with self.assertRaisesRegex(TypeError, "^data must be a C-c"):
+            with self.assertRaisesRegex(TypeError, HELD + " a C-c"):
                 Manifest(numpy.zeros((4, 4), order="F"))
 
         def test_batches(self):
@@ -261,24 +263,24 @@ class Released(unittest.TestCase):
         chunk.release()
         self.assert_free(data)
 
-    def test_a_walk_ends_with_its_manifest(self):
+    def test_nodes_end_with_their_manifest(self):
         data = bytearray(MANIFEST)
         opened = Manifest(data)
-        walk = opened.nodes()
+        nodes = opened.nodes()
         opened.release()
         self.assert_free(data)
         with self.assertRaisesRegex(ValueError, "released"):
-            next(walk)
+            next(nodes)
 
     def test_lent_buffers_are_released_after_the_call(self):
         shard = Shard(SHARDING, 0, FILE)
         for length in (0, len(FILE) - 1):
             out = bytearray(length)
             with self.assertRaises(Refused):
-                shard.settle_into(out)
+                shard.settle(out)
             self.assert_free(out)
         out = bytearray(len(FILE))
-        shard.settle_into(out)
+        shard.settle(out)
         self.assert_free(out)
         card = bytearray(CARD)
         Card.read(card)
@@ -296,7 +298,7 @@ class Released(unittest.TestCase):
             shard.lookup(10)
             shard.chunk(10)
             shard.listing(0)
-            shard.settle_into(out)
+            shard.settle(out)
             with self.assertRaises(Absent):
                 shard.lookup(6)
         self.assertEqual((sys.getrefcount(data), sys.getrefcount(out)), counts)
@@ -305,7 +307,7 @@ class Released(unittest.TestCase):
 class Writing(unittest.TestCase):
     def test_nothing_past_the_form_is_touched(self):
         out = bytearray(b"\x55" * (len(FILE) + 9))
-        length = Shard(SHARDING, 0, FILE).settle_into(out)
+        length = Shard(SHARDING, 0, FILE).settle(out)
         self.assertEqual(out, FILE + b"\x55" * 9)
         self.assertEqual(length, len(FILE))
 
@@ -320,7 +322,7 @@ class Writing(unittest.TestCase):
         ):
             out = bytearray(b"\x55" * room)
             with self.assertRaises(Refused) as caught:
-                shard.settle_into(out)
+                shard.settle(out)
             self.assertEqual(caught.exception.number, number)
             self.assertEqual(out, b"\x55" * room)
 
@@ -330,15 +332,15 @@ class Writing(unittest.TestCase):
         view = memoryview(room)
         with Shard(SHARDING, 0, view[:len(FILE)]) as shard:
             for out in (room, view[1:], view[len(FILE) - 1:]):
-                with self.assertRaisesRegex(ValueError, "^buffer overlaps"):
-                    shard.settle_into(out)
+                with self.assertRaisesRegex(ValueError, "^out overlaps"):
+                    shard.settle(out)
             self.assertEqual(room, before)
             # A part of no bytes has none in common, wherever it stands.
             with self.assertRaises(Refused) as caught:
-                shard.settle_into(view[5:5])
+                shard.settle(view[5:5])
             self.assertEqual(caught.exception.number, 13)
             # The neighbouring bytes are not shared.
-            shard.settle_into(view[len(FILE):])
+            shard.settle(view[len(FILE):])
         self.assertEqual(room, FILE + FILE)
 
 

@@ -21,6 +21,9 @@ class Build(unittest.TestCase):
         (self.root / "python").mkdir()
         for name in ("build", "exports.map"):
             shutil.copy(HERE / name, self.root / "python")
+        (self.root / "include").mkdir()
+        header = HERE.parent / "include/coronagamba.h"
+        shutil.copy(header, self.root / "include")
 
     def archive(self, number, folder="target/staticlib"):
         """Makes an archive of a function that gives this number, and one that
@@ -32,14 +35,14 @@ class Build(unittest.TestCase):
             " int inner(void) { return 0; }"
         )
         subprocess.run(
-            ["gcc", "-c", "-fPIC", "-x", "c", "-", "-o", "capi.o"],
+            ["gcc", "-c", "-fPIC", "-x", "c", "-", "-o", "coronagamba.o"],
             input=source,
             text=True,
             cwd=place,
             check=True,
         )
         subprocess.run(
-            ["ar", "rc", "libcapi.a", "capi.o"], cwd=place, check=True
+            ["ar", "rc", "libcoronagamba.a", "coronagamba.o"], cwd=place, check=True
         )
         return place
 
@@ -76,7 +79,7 @@ class Build(unittest.TestCase):
     def test_no_archive(self):
         done = self.build()
         self.assertEqual(done.returncode, 1)
-        self.assertIn("rt staticlib capi", done.stderr)
+        self.assertIn("rt staticlib coronagamba", done.stderr)
         self.assertFalse(self.object.exists())
 
     def test_only_the_interface_is_shown(self):
@@ -103,6 +106,6 @@ class Build(unittest.TestCase):
 
     def test_what_cannot_be_linked_leaves_no_object(self):
         place = self.archive(6)
-        (place / "libcapi.a").write_bytes(b"no archive")
+        (place / "libcoronagamba.a").write_bytes(b"no archive")
         self.assertNotEqual(self.build().returncode, 0)
         self.assertEqual(list(self.object.parent.iterdir()), [])

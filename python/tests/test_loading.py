@@ -104,3 +104,17 @@ class Loading(unittest.TestCase):
         )
         first = next(iter(_library.FUNCTIONS))
         self.assert_import_error([str(other), first], other)
+
+    def test_an_object_of_another_version(self):
+        other = self.root / "other.so"
+        functions = "".join(
+            f"unsigned long {name}(void) {{ return 3ul << 32 | 4; }}\n"
+            for name in _library.FUNCTIONS
+        )
+        subprocess.run(
+            ["gcc", "-shared", "-fPIC", "-x", "c", "-", "-o", str(other)],
+            input=functions,
+            text=True,
+            check=True,
+        )
+        self.assert_import_error([str(other), "version 3.0.4"], other)

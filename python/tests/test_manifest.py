@@ -105,37 +105,48 @@ class Questions(unittest.TestCase):
         self.assertEqual(Manifest(SOUND).node(1, 0).position[0], 2**32 - 1)
 
 
-class Walks(unittest.TestCase):
+class Nodes(unittest.TestCase):
     def test_all_nodes_in_order(self):
         self.assertEqual(list(Manifest(SOUND).nodes()), list(visits(LEVELS)))
 
     def test_random_manifests(self):
         for shape, origin, levels in samples(8, 100):
-            found = Manifest(manifest(shape, origin, levels)).nodes()
-            self.assertEqual(list(found), list(visits(levels)))
+            opened = Manifest(manifest(shape, origin, levels))
+            expected = list(visits(levels))
+            self.assertEqual(list(opened.nodes()), expected)
+            for level in range(len(levels)):
+                nodes = [v.node for v in expected if v.level == level]
+                self.assertEqual(opened.nodes_of(level), nodes)
 
     def test_no_levels(self):
         none = Manifest(manifest(SHAPE, ORIGIN, []))
         self.assertEqual(list(none.nodes()), [])
 
-    def test_a_walk_is_refused_where_it_begins(self):
+    def test_levels_that_are_not_there(self):
+        for level in (len(LEVELS), 2**32 - 1):
+            with self.assertRaises(Refused) as caught:
+                Manifest(SOUND).nodes_of(level)
+            self.assertEqual(caught.exception.number, 18)
+
+    def test_all_nodes_are_refused_at_the_call(self):
         with self.assertRaises(Refused) as caught:
             Manifest(SOUND[:-1]).nodes()
         self.assertEqual(caught.exception.number, 15)
 
-    def test_two_walks_do_not_meet(self):
+    def test_two_iterations_do_not_meet(self):
         opened = Manifest(SOUND)
         pairs = list(zip(opened.nodes(), opened.nodes()))
         self.assertEqual([a for a, _ in pairs], [b for _, b in pairs])
         self.assertEqual(len(pairs), 6)
 
-    def test_a_walk_over_changed_bytes_stays_within_them(self):
+    def test_changed_bytes_are_judged_at_the_next_level(self):
         data = bytearray(SOUND)
-        walk = Manifest(data).nodes()
-        next(walk)
+        nodes = Manifest(data).nodes()
+        first = [next(nodes) for _ in LEVELS[0][2]]
+        self.assertEqual(first, list(visits(LEVELS))[:3])
         # The first level's node count.
-        count = 28 + 16 * len(LEVELS)
-        data[count:count + 4] = struct.pack("<I", 2**32 - 1)
+        at = 28 + 16 * len(LEVELS)
+        data[at:at + 4] = struct.pack("<I", 2**32 - 1)
         with self.assertRaises(Refused) as caught:
-            next(walk)
-        self.assertEqual(caught.exception.number, 18)
+            next(nodes)
+        self.assertEqual(caught.exception.number, 15)

@@ -39,11 +39,11 @@ ARGUMENTS = [
     ("id", U64, SHARD.chunk),
     ("minishard", U64, SHARD.listed_count),
     ("minishard", U64, SHARD.listing),
-    ("number", U32, MANIFEST.field),
-    ("level", U32, lambda n: MANIFEST.node(n, 0)),
-    ("node", U32, lambda n: MANIFEST.node(0, n)),
-    ("level", U32, lambda n: MANIFEST.corners(n, 0)),
-    ("node", U32, lambda n: MANIFEST.corners(0, n)),
+    ("number", U64, MANIFEST.field),
+    ("level", U64, lambda n: MANIFEST.node(n, 0)),
+    ("node", U64, lambda n: MANIFEST.node(0, n)),
+    ("level", U64, lambda n: MANIFEST.corners(n, 0)),
+    ("node", U64, lambda n: MANIFEST.corners(0, n)),
 ]
 
 

@@ -7,7 +7,8 @@ import unittest
 
 from coronagamba import Absent, Card, Manifest, Refused, Shard, Sharding
 from coronagamba import Volume
-from coronagamba.refusal import answer, checked
+from coronagamba._refusals import SENTENCES
+from coronagamba.refusal import answer
 
 from .manifests import manifest
 from .shards import one_minishard, rows, u64s
@@ -95,7 +96,7 @@ CALLS = {
     ],
     12: [lambda: shard(bytes(16)).lookup(0)],
     13: [
-        lambda: shard(bytes(16)).settle_into(bytearray(15)),
+        lambda: shard(bytes(16)).settle(bytearray(15)),
         lambda: huge_settled_form().settled(),
         lambda: huge_settled_form().settled_length(),
     ],
@@ -106,6 +107,7 @@ CALLS = {
     15: [
         lambda: Manifest(bytes(27)).check(),
         lambda: Manifest(SOUND + b"\0").header(),
+        lambda: Manifest(SOUND + b"\0").nodes_of(1),
         lambda: Manifest(bytes(24) + u64s(33)[:4]).nodes(),
         lambda: Manifest(mmap.mmap(-1, 2**24 + 4)).check(),
     ],
@@ -130,7 +132,10 @@ CALLS = {
     18: [
         lambda: Manifest(SOUND).field(16),
         lambda: Manifest(SOUND).node(1, 0),
+        lambda: Manifest(SOUND).node(2**32, 0),
+        lambda: Manifest(SOUND).field(2**64 - 1),
         lambda: Manifest(SOUND).node(0, 1),
+        lambda: Manifest(SOUND).nodes_of(1),
         lambda: Manifest(SOUND).corners(0, 0),
     ],
 }
@@ -138,7 +143,7 @@ CALLS = {
 
 class EveryNumber(unittest.TestCase):
     def test_the_table_is_whole(self):
-        self.assertEqual(sorted(CALLS), list(range(1, 19)))
+        self.assertEqual(sorted(CALLS), list(SENTENCES))
 
     def test_each_number_is_met(self):
         for number, calls in CALLS.items():
@@ -202,8 +207,8 @@ class Exceptions(unittest.TestCase):
         )
 
     def test_each_number_has_a_sentence_of_its_own(self):
-        sentences = {Refused(number).sentence for number in range(1, 19)}
-        self.assertEqual(len(sentences), 18)
+        sentences = {Refused(number).sentence for number in SENTENCES}
+        self.assertEqual(len(sentences), len(SENTENCES))
         self.assertNotIn(Refused(0).sentence, sentences)
 
     def test_the_minishard_is_shown(self):
@@ -220,16 +225,24 @@ class Exceptions(unittest.TestCase):
             self.assertEqual(copy.args, refusal.args)
             self.assertEqual(copy.minishard, refusal.minishard)
 
+    def test_numbers_have_names(self):
+        self.assertEqual(Refused.NOT_LISTED, 12)
+        with self.assertRaises(Refused) as caught:
+            Sharding(64, 0, 0, 0).place(0)
+        self.assertEqual(
+            caught.exception.number, Refused.SHARDING_NOT_ALLOWED
+        )
+
     def test_answer_words(self):
         answer(0)
-        checked(0)
-        for call, word, expected in (
-            (answer, 13, (13, None)),
-            (answer, 11 + 256 * 4095, (11, 4095)),
-            (checked, 6, (6, None)),
-            (checked, 7, (7, 0)),
-            (checked, 9 + 256 * 3 + (77 << 32), (9, 3)),
+        for word, expected in (
+            (13, (13, None)),
+            (7 + 256, (7, 0)),
+            (11 + 256 * 4096, (11, 4095)),
+            (9 + 256 * 65536, (9, 65535)),
+            (9 + 256 * 4 + (77 << 32), (9, 3)),
+            (6 + (77 << 32), (6, None)),
         ):
             with self.assertRaises(Refused) as caught:
-                call(word)
+                answer(word)
             self.assertEqual(caught.exception.args, expected)

@@ -1,4 +1,4 @@
-//! Links the proved library's C archive, `libcapi.a`.
+//! Links the proved library's C archive, `libcoronagamba.a`.
 
 use std::env;
 use std::path::PathBuf;
@@ -10,7 +10,7 @@ fn main() {
     let folder = env::var_os(FOLDER_VARIABLE).map_or_else(default_folder, PathBuf::from);
     // The linker may run in another folder.
     let folder = std::path::absolute(&folder).unwrap_or(folder);
-    let archive = folder.join("libcapi.a");
+    let archive = folder.join("libcoronagamba.a");
     println!("cargo::rerun-if-changed={}", archive.display());
     if !archive.is_file() {
         println!(
@@ -20,7 +20,7 @@ fn main() {
         return;
     }
     println!("cargo::rustc-link-search=native={}", folder.display());
-    println!("cargo::rustc-link-lib=static=capi");
+    println!("cargo::rustc-link-lib=static=coronagamba");
 }
 
 /// Where the repository's build leaves the archive.

@@ -1,22 +1,24 @@
 -- The laws of a card: what is written is read back, what is read is what is written, and one meaning has one card.
-use Prim.Native.Nat.{ℕ, suc, _+_, _^_, _≤_, _<_}
+use Prim.Native.Nat.{ℕ, zero, suc, _+_, _^_, _≤_, _<_}
 use mathlib.Core.Path.{_≡_, refl, sym, ap, ap₂, _∙_}
 use mathlib.Core.Bool.{Bool, true, false, not, _&&_}
 use mathlib.Core.Logic.{_⊎_, inl, inr}
 use mathlib.Core.List.{List, [], _∷_, _++_, append-assoc, append-nil}
 use native.Mathlib.Omega.{arith}
-use borrow.Author.Tests.{eqb-true, eq-eqb, ne-eqb, not-true}
-use lib.Dec.{eqb}
+use borrow.Author.Tests.{eqb-true, eq-eqb, ne-eqb, not-true, ltb-true, ltb-false}
+use lib.Dec.{eqb, ltb}
 use lib.IntN.{ℤ, pos, negsuc}
 use lib.ListN.{length, getD, take, drop, take-append-drop, drop-of-length-le}
 use lib.Seq.{drop-cons, drop-drop, take-add, take-append-seam}
-use Rattle.endian.specs.Choice.{pick}
+use Rattle.refusal.specs.Choice.{pick}
 use Rattle.endian.specs.Little.{le, leAt}
-use Rattle.endian.specs.declared.Written.the-variants.{Length}
+use Rattle.refusal.specs.Checks.{firstNumber, unless}
+use Rattle.refusal.specs.Buffer.{written}
+use Rattle.refusal.specs.declared.Written.the-variants.{Length, Refused as WriteRefused}
 use Rattle.endian.proofs.Little.{leAt-le, le-leAt, leAt-bound}
 use Rattle.endian.proofs.Copy.{part-length}
-use Rattle.endian.proofs.Buffer.{written-fits, leftBy-fits}
-use Rattle.endian.proofs.Tests.{both}
+use Rattle.endian.proofs.Buffer.{written-short, written-fits, leftBy-fits}
+use Rattle.refusal.proofs.Tests.{both}
 use Rattle.grid.specs.declared.Offset.{Offset}
 use Rattle.grid.specs.Grid.{InU32, gridOf, zeroExtent}
 use Rattle.grid.specs.Key.{tooManyBits}
@@ -25,9 +27,11 @@ use Rattle.card.specs.declared.Card.{Card}
 use Rattle.card.specs.declared.CardAnswer.the-variants.{Says, Refused}
 use Rattle.card.specs.Layout.{head, field, oneByte, three, bits32, shardingBytes, extentsBytes, isZero, noOffset, offsetTag, offsetBytes, volumeBytes, cardBytes, InI32, Ranged, Bytes}
 use Rattle.card.specs.Reading.{signed32, fieldAt, sixFields, extentsAt, offsetAt, offsetField, wellFormed, shardingIn, zeros, offsetIn, volumeIn, cardIn}
-use Rattle.card.specs.Answers.{fault, readAnswer, writeAnswer, writeLeft}
+use Rattle.card.specs.Answers.{recordChecks, fault, readAnswer, writeAnswer, writeLeft}
+use Rattle.card.specs.Meaning.{OneCard}
 use Rattle.card.proofs.Words.{bits-signed, signed-bits, bits-below, signed-in}
-use Rattle.card.proofs.Parsing.{formed-length}
+use Rattle.card.proofs.Parsing.{formed-length, formed-never}
+use Rattle.card.proofs.Judged.{read-first, write-first, left-first}
 
 -- ---- the bytes of a record are read back as the record
 
@@ -115,28 +119,20 @@ unfolding bytesBy shardingBytes extentsBytes offsetTag oneByte field head three 
 length-by true c = inl refl
 length-by false c = inr refl
 
-pub card-length : (c : Card) → (length (cardBytes c) ≡ 46) ⊎ (length (cardBytes c) ≡ 61)
+card-length : (c : Card) → (length (cardBytes c) ≡ 46) ⊎ (length (cardBytes c) ≡ 61)
 card-length c = rw (bytes-by c) (length-by (noOffset (c .volume .offset)) c)
 
 module _ (c : Card) (r : Ranged c) where
-  pub formed-bytes : wellFormed (cardBytes c) ≡ true
+  formed-bytes : wellFormed (cardBytes c) ≡ true
   formed-bytes = rw (bytes-by c) (formed-back (noOffset (c .volume .offset)) c r refl)
 
-  pub card-bytes-say : cardIn (cardBytes c) ≡ c
+  card-bytes-say : cardIn (cardBytes c) ≡ c
   card-bytes-say = ap cardIn (bytes-by c) ∙ card-back (noOffset (c .volume .offset)) c r refl
 
-  -- reading what was written gives the record back
-  pub reads-back : fault c ≡ 0 → readAnswer (cardBytes c) ≡ Says c
-  unfolding readAnswer
-  reads-back e = rw (formed-bytes, card-bytes-say, e)
-
-  pub written-reads-back : (out : List ℕ) → fault c ≡ 0 → length (cardBytes c) ≤ length out
-      → (writeAnswer c out ≡ Length (length (cardBytes c))) × (readAnswer (take (length (cardBytes c)) (writeLeft c out)) ≡ Says c)
-  unfolding writeAnswer writeLeft
-  written-reads-back out e h = (
-    rw e (written-fits (cardBytes c) out h),
-    rw (e, leftBy-fits (cardBytes c) out h, take-append-seam (cardBytes c) (drop (length (cardBytes c)) out)) (reads-back e),
-  )
+  -- reading the bytes of a record gives the record back
+  reads-back : fault c ≡ 0 → readAnswer (cardBytes c) ≡ Says c
+  unfolding unless
+  reads-back e = read-first (cardBytes c) ∙ rw (formed-bytes, card-bytes-say, e)
 
 -- ---- bytes that are read are those of the record
 
@@ -236,7 +232,7 @@ module _ (s : List ℕ) (bs : Bytes s) where
       (q .0, omega arith, rest-some h (q .1))
 
   -- bytes that are well formed are those of what they say
-  pub formed-is-bytes : wellFormed s ≡ true → s ≡ cardBytes (cardIn s)
+  formed-is-bytes : wellFormed s ≡ true → s ≡ cardBytes (cardIn s)
   unfolding cardBytes cardIn volumeBytes volumeIn
   formed-is-bytes e =
       let r = rest-by e (formed-length s e) in
@@ -255,7 +251,7 @@ module _ (s : List ℕ) (bs : Bytes s) where
   at-i32 p = signed-in (leAt 4 s p) (leAt-bound 4 s p bs)
 
   -- and what bytes say fits a card
-  pub said-ranged : Ranged (cardIn s)
+  said-ranged : Ranged (cardIn s)
   unfolding cardIn volumeIn shardingIn offsetIn offsetAt
   said-ranged = record {
     preshift = bs 3;
@@ -271,32 +267,23 @@ module _ (s : List ℕ) (bs : Bytes s) where
 
 -- ---- what reading answers
 
-picked-says : (w b : Bool) (c d : Card) (n : ℕ) → pick (not w) (Refused 14) (pick b (Says d) (Refused n)) ≡ Says c → (w ≡ true) × (d ≡ c)
-picked-says true true c d n e = (refl, cc)
-picked-says true false c d n e = let z : _≡_ {A = ℕ} 0 1 = cc in absurd (omega arith)
-picked-says false b c d n e = let z : _≡_ {A = ℕ} 0 1 = cc in absurd (omega arith)
+unless-says : (n : ℕ) (c d : Card) → unless Refused n (Says d) ≡ Says c → (n ≡ 0) × (d ≡ c)
+unfolding unless
+unless-says zero c d e = (refl, cc)
+unless-says (suc n) c d e = let z : _≡_ {A = ℕ} 0 1 = cc in absurd (omega arith)
 
--- bytes that read as a record are exactly what writing that record gives
-pub read-is-written : (s : List ℕ) (c : Card) → Bytes s → readAnswer s ≡ Says c → s ≡ cardBytes c
-unfolding readAnswer
-read-is-written s c bs e =
-    let q = picked-says (wellFormed s) (eqb (fault (cardIn s)) 0) c (cardIn s) (fault (cardIn s)) e in
-    formed-is-bytes s bs (q .0) ∙ ap cardBytes (q .1)
+unless-refuses : (n k : ℕ) (d : Card) → unless Refused n (Says d) ≡ Refused k → n ≡ k
+unfolding unless
+unless-refuses zero k d e = let z : _≡_ {A = ℕ} 0 1 = cc in absurd (omega arith)
+unless-refuses (suc n) k d e = cc
 
--- "one meaning has one card"
-pub one-card : (a b : List ℕ) (c : Card) → Bytes a → Bytes b → readAnswer a ≡ Says c → readAnswer b ≡ Says c → a ≡ b
-one-card a b c ba bb p q = read-is-written a c ba p ∙ sym (read-is-written b c bb q)
+picked-none : (w : Bool) (m : ℕ) → pick (not w) 14 m ≡ 0 → (w ≡ true) × (m ≡ 0)
+picked-none true m e = (refl, e)
+picked-none false m e = absurd (omega arith)
 
--- a malformed card is the bytes of no record (and one that is not malformed is those of the record that it says: formed-is-bytes)
-pub malformed-is-none : (s : List ℕ) → wellFormed s ≡ false → (c : Card) → Ranged c → s ≡ cardBytes c → ⊥
-malformed-is-none s e c r p =
-    let q : wellFormed s ≡ true = ap wellFormed p ∙ formed-bytes c r in
-    let z : _≡_ {A = ℕ} 0 1 = cc in omega arith
-
-picked-14 : (w b : Bool) (d : Card) (n : ℕ) → n ≤ 3 → pick (not w) (Refused 14) (pick b (Says d) (Refused n)) ≡ Refused 14 → w ≡ false
-picked-14 true true d n h e = let z : _≡_ {A = ℕ} 0 1 = cc in absurd (omega arith)
-picked-14 true false d n h e = let z : n ≡ 14 = cc in absurd (omega arith)
-picked-14 false b d n h e = refl
+picked-14 : (w : Bool) (m : ℕ) → m ≤ 3 → pick (not w) 14 m ≡ 14 → w ≡ false
+picked-14 true m h e = absurd (omega arith)
+picked-14 false m h e = refl
 
 fault-by : (a z b : Bool) → pick (not a) 1 (pick z 2 (pick b 3 0)) ≤ 3
 fault-by true true b = omega arith
@@ -305,10 +292,80 @@ fault-by true false false = omega arith
 fault-by false z b = omega arith
 
 fault-most : (c : Card) → fault c ≤ 3
-unfolding fault
+unfolding recordChecks firstNumber
 fault-most c = fault-by (allowed (c .sharding)) (zeroExtent (c .volume)) (tooManyBits (gridOf (c .volume)))
 
-pub refused-14-is-none : (s : List ℕ) → readAnswer s ≡ Refused 14 → (c : Card) → Ranged c → s ≡ cardBytes c → ⊥
-unfolding readAnswer
-refused-14-is-none s e =
-    malformed-is-none s (picked-14 (wellFormed s) (eqb (fault (cardIn s)) 0) (cardIn s) (fault (cardIn s)) (fault-most (cardIn s)) e)
+module _ (s : List ℕ) where
+  said : (c : Card) → readAnswer s ≡ Says c → (wellFormed s ≡ true) × (fault (cardIn s) ≡ 0) × (cardIn s ≡ c)
+  said c e =
+      let q = unless-says (pick (not (wellFormed s)) 14 (fault (cardIn s))) c (cardIn s) (sym (read-first s) ∙ e) in
+      let p = picked-none (wellFormed s) (fault (cardIn s)) (q .0) in
+      (p .0, p .1, q .1)
+
+  -- a card that is read has no fault
+  pub read-faultless : (c : Card) → readAnswer s ≡ Says c → fault c ≡ 0
+  read-faultless c e = sym (ap fault (said c e .2)) ∙ said c e .1
+
+  malformed-14 : wellFormed s ≡ false → readAnswer s ≡ Refused 14
+  unfolding unless
+  malformed-14 e = read-first s ∙ rw e
+
+  -- a card has no other length
+  pub never-14 : (length s ≡ 46 → ⊥) → (length s ≡ 61 → ⊥) → readAnswer s ≡ Refused 14
+  never-14 f g = malformed-14 (sym (formed-never s f g))
+
+  14-malformed : readAnswer s ≡ Refused 14 → wellFormed s ≡ false
+  14-malformed e =
+      picked-14 (wellFormed s) (fault (cardIn s)) (fault-most (cardIn s))
+      (unless-refuses (pick (not (wellFormed s)) 14 (fault (cardIn s))) 14 (cardIn s) (sym (read-first s) ∙ e))
+
+  formed-none : (c : Card) → Ranged c → s ≡ cardBytes c → wellFormed s ≡ false → ⊥
+  formed-none c r p e =
+      let q : wellFormed s ≡ true = ap wellFormed p ∙ formed-bytes c r in
+      let z : _≡_ {A = ℕ} 0 1 = cc in omega arith
+
+  formed-some : Bytes s → ((c : Card) → Ranged c → s ≡ cardBytes c → ⊥) → (b : Bool) → wellFormed s ≡ b → b ≡ false
+  formed-some bs f true e = absurd (f (cardIn s) (said-ranged s bs) (formed-is-bytes s bs e))
+  formed-some bs f false e = refl
+
+  read-is-written : (c : Card) → Bytes s → readAnswer s ≡ Says c → (s ≡ cardBytes c) × (Ranged c × (fault c ≡ 0))
+  read-is-written c bs e =
+      let q = said c e in
+      (formed-is-bytes s bs (q .0) ∙ ap cardBytes (q .2), (rw (q .2) at (said-ranged s bs), read-faultless c e))
+
+-- ---- what writing answers
+
+written-of : (c : Card) (out : List ℕ) (n m : ℕ) → fault c ≡ m → unless WriteRefused m (written (cardBytes c) out) ≡ Length n
+    → (fault c ≡ 0) × (written (cardBytes c) out ≡ Length n)
+unfolding unless
+written-of c out n zero f e = (f, e)
+written-of c out n (suc m) f e = let z : _≡_ {A = ℕ} 0 1 = cc in absurd (omega arith)
+
+long-of : (s out : List ℕ) (n : ℕ) → written s out ≡ Length n → (b : Bool) → ltb (length out) (length s) ≡ b → (length s ≤ length out) × (n ≡ length s)
+long-of s out n e true t =
+    let p : Length n ≡ WriteRefused 13 = sym e ∙ written-short s out (ltb-true _ _ t) in
+    let z : _≡_ {A = ℕ} 0 1 = cc in absurd (omega arith)
+long-of s out n e false t =
+    let h : length s ≤ length out = ltb-false _ _ t in
+    let p : Length n ≡ Length (length s) = sym e ∙ written-fits s out h in (h, cc)
+
+module _ (c : Card) (out : List ℕ) (n : ℕ) (e : writeAnswer c out ≡ Length n) where
+  left-bytes : take n (writeLeft c out) ≡ cardBytes c
+  unfolding unless
+  left-bytes =
+      let q = written-of c out n (fault c) refl (sym (write-first c out) ∙ e) in
+      let p = long-of (cardBytes c) out n (q .1) (ltb (length out) (length (cardBytes c))) refl in
+      rw (p .1, left-first c out, q .0, leftBy-fits (cardBytes c) out (p .0)) (take-append-seam (cardBytes c) (drop (length (cardBytes c)) out))
+
+  left-says : Ranged c → readAnswer (take n (writeLeft c out)) ≡ Says c
+  left-says r = rw left-bytes (reads-back c r (written-of c out n (fault c) refl (sym (write-first c out) ∙ e) .0))
+
+pub one-meaning-one-card : OneCard
+one-meaning-one-card =
+    record {
+      same = λ a b c ba bb p q. read-is-written a c ba p .0 ∙ sym (read-is-written b c bb q .0);
+      only = λ s c bs. (read-is-written s c bs, λ p. ap readAnswer (p .0) ∙ reads-back c (p .1 .0) (p .1 .1));
+      malformed = λ s bs. (λ e c r p. formed-none s c r p (14-malformed s e), λ f. malformed-14 s (formed-some s bs f (wellFormed s) refl));
+      long = card-length;
+      written = λ c out n r e. (left-bytes c out n e, left-says c out n e r);
+    }

@@ -11,7 +11,7 @@ use lib.Signed.{mag, ltZ}
 use mir.Syntax.{w32}
 use mir.Val.{Fits, SFits, toZ, ofZ, sel}
 use mir.Facts.{toZ-ofZ, toZ-pos}
-use Rattle.endian.specs.Choice.{pick}
+use Rattle.refusal.specs.Choice.{pick}
 use Rattle.endian.proofs.Signs.{less-fits, less-is, less-pos, less-fit, kept, kept-pos, kept-fit}
 use Rattle.grid.specs.declared.Offset.{Offset}
 use Rattle.card.specs.Layout.{bits32, isZero, noOffset, InI32}

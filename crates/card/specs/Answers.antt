@@ -1,13 +1,12 @@
 -- What reading and writing a deposit card answer.
 use Prim.Native.Nat.{ℕ}
-use mathlib.Core.Path.{_≡_}
 use mathlib.Core.Bool.{not}
-use mathlib.Core.List.{List}
-use lib.Dec.{eqb}
-use Rattle.endian.specs.Choice.{pick}
-use Rattle.endian.specs.Buffer.{written, leftBy}
-use Rattle.endian.specs.declared.Written.{Written}
-use Rattle.endian.specs.declared.Written.the-variants.{Refused as WriteRefused}
+use mathlib.Core.List.{List, [], _∷_, _++_}
+use lib.ListN.{length}
+use Rattle.refusal.specs.Checks.{Check, check, firstNumber, answered, left}
+use Rattle.refusal.specs.Buffer.{room, over}
+use Rattle.refusal.specs.declared.Written.{Written}
+use Rattle.refusal.specs.declared.Written.the-variants.{Length, Refused as WriteRefused}
 use Rattle.grid.specs.Grid.{gridOf, zeroExtent}
 use Rattle.grid.specs.Key.{tooManyBits}
 use Rattle.sharding.specs.Specification.{allowed}
@@ -17,29 +16,33 @@ use Rattle.card.specs.declared.CardAnswer.the-variants.{Says, Refused}
 use Rattle.card.specs.Layout.{cardBytes}
 use Rattle.card.specs.Reading.{wellFormed, cardIn}
 
--- the first of 1, 2 and 3 that holds of what a card says, or 0 (01, 'Refusal numbers')
-unfoldable pub fault : Card → ℕ
-fault c =
-    pick (not (allowed (c .sharding))) 1
-    (pick (zeroExtent (c .volume)) 2
-    (pick (tooManyBits (gridOf (c .volume))) 3 0))
+-- 1, 2 and 3 of what a card says (01, 'Refusal numbers')
+unfoldable pub recordChecks : Card → List Check
+recordChecks c =
+    check 1 (not (allowed (c .sharding)))
+    ∷ check 2 (zeroExtent (c .volume))
+    ∷ check 3 (tooManyBits (gridOf (c .volume)))
+    ∷ []
+
+-- the first of them that holds, or 0
+abbrev pub fault : Card → ℕ
+fault c = firstNumber (recordChecks c)
 
 -- "In a card, 14 precedes 1 and 2, and 3 comes after them."
+unfoldable pub readChecks : List ℕ → List Check
+readChecks s = check 14 (not (wellFormed s)) ∷ recordChecks (cardIn s)
+
 unfoldable pub readAnswer : List ℕ → CardAnswer
-readAnswer s =
-    pick (not (wellFormed s)) (Refused 14)
-    (pick (eqb (fault (cardIn s)) 0) (Says (cardIn s))
-    (Refused (fault (cardIn s))))
+readAnswer s = answered Refused (readChecks s) (Says (cardIn s))
 
--- what writing answers: 1, 2, 3, then 13, or the card's length
+-- writing: 1, 2, 3, then 13
+unfoldable pub writeChecks : Card → List ℕ → List Check
+writeChecks c out = recordChecks c ++ (room (cardBytes c) out ∷ [])
+
+-- it answers the card's length
 unfoldable pub writeAnswer : Card → List ℕ → Written
-writeAnswer c out = pick (eqb (fault c) 0) (written (cardBytes c) out) (WriteRefused (fault c))
+writeAnswer c out = answered WriteRefused (writeChecks c out) (Length (length (cardBytes c)))
 
--- and what it leaves in the buffer
+-- and leaves the card at the front of the buffer
 unfoldable pub writeLeft : Card → List ℕ → List ℕ
-writeLeft c out = pick (eqb (fault c) 0) (leftBy (cardBytes c) out) out
-
--- a card that is handed out has no fault
-abbrev pub Judged : CardAnswer → Type 0
-Judged (Says c) = fault c ≡ 0
-Judged (Refused n) = Unit {0}
+writeLeft c out = left (writeChecks c out) (over (cardBytes c) out) out

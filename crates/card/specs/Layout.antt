@@ -5,7 +5,7 @@ use mathlib.Core.List.{List, [], _∷_, _++_}
 use lib.Dec.{eqb}
 use lib.IntN.{ℤ, pos, negsuc}
 use lib.ListN.{length, getD}
-use Rattle.endian.specs.Choice.{pick}
+use Rattle.refusal.specs.Choice.{pick}
 use Rattle.endian.specs.Little.{le}
 use Rattle.grid.specs.Grid.{InU32}
 use Rattle.grid.specs.declared.Extents.{Extents}

@@ -1,5 +1,5 @@
--- The deposit card: its bytes, reading and writing it, and what `locate` prints.
+-- The deposit card: its bytes, reading and writing it, and that one meaning has one card.
 pub mod Layout
 pub mod Reading
 pub mod Answers
-pub mod Lines
+pub mod Meaning

@@ -5,7 +5,7 @@ use mathlib.Core.List.{List}
 use lib.Dec.{ltb, eqb}
 use lib.IntN.{ℤ, pos, negsuc}
 use lib.ListN.{length, getD}
-use Rattle.endian.specs.Choice.{pick}
+use Rattle.refusal.specs.Choice.{pick}
 use Rattle.endian.specs.Little.{leAt}
 use Rattle.grid.specs.declared.Extents.{Extents}
 use Rattle.grid.specs.declared.Offset.{Offset}

@@ -1,14 +1,13 @@
 // The deposit card: what an archive's volume is and how its chunks are sharded, in 46 or 61 bytes.
 pub mod inner;
-mod lines;
 mod reading;
 mod twos;
 mod writing;
 
 ghost use mathlib.Core.Path.{_≡_};
 ghost use Rattle.card.specs.Answers.{readAnswer, writeAnswer, writeLeft};
-use endian::Written;
 use grid::Volume;
+use refusal::Written;
 use sharding::Sharding;
 
 #[repr(C)]

@@ -3,15 +3,15 @@ ghost use mathlib.Core.Path.{_≡_};
 ghost use Prim.Native.Nat.{_+_, _≤_};
 ghost use lib.ListN.{length};
 ghost use Rattle.endian.specs.Place.{paste};
-ghost use Rattle.endian.specs.Buffer.{written, leftBy};
+ghost use Rattle.refusal.specs.Buffer.{written, leftBy};
 ghost use Rattle.card.specs.Layout.{head, oneByte, three, shardingBytes, extentsBytes, offsetTag, offsetBytes, volumeBytes, cardBytes};
 use crate::Card;
 use crate::twos;
-use endian::Written;
 use endian::inner;
 use grid::Extents;
 use grid::Offset;
 use grid::Volume;
+use refusal::Written;
 use sharding::Sharding;
 
 fn put_head(out: &mut [u8], at: usize, tag: u8, len: u16)

@@ -1,31 +1,32 @@
 -- Laws of answers written into lent buffers: the two cases, and what a write at the front leaves.
 use Prim.Native.Nat.{ℕ, _≤_, _<_}
 use mathlib.Core.Path.{_≡_, refl, sym, ap, _∙_}
-use mathlib.Core.List.{List, _++_}
+use mathlib.Core.List.{List, [], _∷_, _++_}
 use native.Mathlib.Omega.{arith}
 use lib.ListN.{length, drop}
 use borrow.Author.Tests.{lt-ltb, le-ltb}
 use Rattle.endian.specs.Place.{paste}
-use Rattle.endian.specs.Buffer.{written, leftBy}
-use Rattle.endian.specs.declared.Written.the-variants.{Length, Refused}
+use Rattle.refusal.specs.Buffer.{room, over, written, leftBy}
+use Rattle.refusal.proofs.Picks.{by-picks}
+use Rattle.refusal.specs.declared.Written.the-variants.{Length, Refused}
 use Rattle.endian.proofs.Paste.{paste-front}
 
 module _ (s out : List ℕ) where
   pub written-short : length out < length s → written s out ≡ Refused 13
   unfolding written
-  written-short h = rw (lt-ltb _ _ h)
+  written-short h = by-picks Refused (room s out ∷ []) (Length (length s)) refl ∙ rw (lt-ltb _ _ h)
 
   pub leftBy-short : length out < length s → leftBy s out ≡ out
   unfolding leftBy
-  leftBy-short h = rw (lt-ltb _ _ h)
+  leftBy-short h = by-picks (λ k. out) (room s out ∷ []) (over s out) refl ∙ rw (lt-ltb _ _ h)
 
   pub written-fits : length s ≤ length out → written s out ≡ Length (length s)
   unfolding written
-  written-fits h = rw (le-ltb _ _ h)
+  written-fits h = by-picks Refused (room s out ∷ []) (Length (length s)) refl ∙ rw (le-ltb _ _ h)
 
   pub leftBy-fits : length s ≤ length out → leftBy s out ≡ s ++ drop (length s) out
   unfolding leftBy
-  leftBy-fits h = rw (le-ltb _ _ h)
+  leftBy-fits h = by-picks (λ k. out) (room s out ∷ []) (over s out) refl ∙ rw (le-ltb _ _ h)
 
   -- the text pasted at the front
   pub leftBy-paste : length s ≤ length out → paste 0 s out ≡ leftBy s out

@@ -11,7 +11,7 @@ use lib.Dec.{T}
 use lib.Ieee.Fits.{and-l, and-r}
 use borrow.Author.Tests.{not-true, not-false}
 use Rattle.endian.specs.Range.{sumTo, every, anyBelow, first}
-use Rattle.endian.proofs.Tests.{neither}
+use Rattle.refusal.proofs.Tests.{neither}
 
 -- ---- sums
 

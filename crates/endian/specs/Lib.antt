@@ -1,5 +1,3 @@
-pub mod Choice
 pub mod Range
 pub mod Little
 pub mod Place
-pub mod Buffer

@@ -1,7 +1,7 @@
 -- Sums and tests over the numbers below n: 0, 1, .., n - 1.
 use Prim.Native.Nat.{ℕ, zero, suc, _+_}
 use mathlib.Core.Bool.{Bool, true, false, _&&_, _||_}
-use Rattle.endian.specs.Choice.{pick}
+use Rattle.refusal.specs.Choice.{pick}
 
 -- f 0 + .. + f (n - 1), exactly
 unfoldable pub sumTo : (ℕ → ℕ) → ℕ → ℕ

@@ -1,8 +1,2 @@
-// The byte layer: little-endian numbers at places of byte slices, copying, and answers written into lent buffers.
+// The byte layer: little-endian numbers at places of byte slices, and copying.
 pub mod inner;
-
-// What a writer into a lent buffer answers: the length written, or the number of its refusal.
-pub enum Written {
-    Length(usize),
-    Refused(u8),
-}

@@ -42,18 +42,18 @@ module _ (extent chunk : ℕ) (some : 0 < chunk) where
   grid-size-small = grid-size-reached extent (omega (arith, mul-le-mul-left extent some))
 
   -- the same by the quotient and the remainder
-  pub grid-size-whole : extent % chunk ≡ 0 → extent / chunk ≡ gridSize extent chunk
+  pub grid-size-whole : extent % chunk ≤ 0 → extent / chunk ≡ gridSize extent chunk
   grid-size-whole e =
       let d = div-add-mod' extent chunk in
       let l : extent / chunk < gridSize extent chunk + 1 = div-lt-iff-lt-mul some .1 (omega (arith, grid-size-reaches _ (le-refl _), next (gridSize extent chunk) chunk)) in
       le-antisymm (omega arith) (grid-size-reached _ (omega arith))
 
-  pub grid-size-cut : (extent % chunk ≡ 0 → ⊥) → extent / chunk + 1 ≡ gridSize extent chunk
+  pub grid-size-cut : 0 < extent % chunk → extent / chunk + 1 ≡ gridSize extent chunk
   grid-size-cut f =
       let d = div-add-mod' extent chunk in
       let m = mod-lt extent some in
       let l : extent / chunk < gridSize extent chunk = lt-of-not-le (λ h. omega (arith, grid-size-reaches _ h)) in
       le-antisymm (omega arith) (grid-size-reached _ (omega (arith, next (extent / chunk) chunk)))
 
-  pub cut-fits : Fits w32 extent → (extent % chunk ≡ 0 → ⊥) → Fits w32 (extent / chunk + 1)
+  pub cut-fits : Fits w32 extent → 0 < extent % chunk → Fits w32 (extent / chunk + 1)
   cut-fits h f = omega (arith, grid-size-cut f, grid-size-small)

@@ -27,7 +27,7 @@ keyFrom (suc n) i g c =
 unfoldable pub afterTurn : Extents → ℕ → ℕ → ℕ
 afterTurn g i k = rest (used (g .z) i) (rest (used (g .y) i) (rest (used (g .x) i) k))
 
-unfoldable pub leftFrom : ℕ → ℕ → Extents → ℕ → ℕ
+unfoldable leftFrom : ℕ → ℕ → Extents → ℕ → ℕ
 leftFrom zero i g k = k
 leftFrom (suc n) i g k = leftFrom n (suc i) g (afterTurn g i k)
 
@@ -71,11 +71,6 @@ unfolding put low rest
 put-low true k = omega arith
 put-low false k = refl
 
-pub put-le : (u : Bool) (b k : ℕ) → k ≤ put u b k
-unfolding put
-put-le true b k = omega arith
-put-le false b k = omega arith
-
 put-lt : (u : Bool) (b k m : ℕ) → b < 2 → k < 2 ^ m → put u b k < 2 ^ (count u + m)
 unfolding put count
 put-lt true b k m h l = rw (pow-add 2 1 m) (omega arith)
@@ -87,7 +82,7 @@ rest-div true k j = rw (pow-add 2 j 1, ← div-div-eq-div-mul)
 rest-div false k j = rw (pow-add 2 j 0, ← div-div-eq-div-mul) (omega arith)
 
 -- ---- keys
-pub key-from-lt : (n i : ℕ) (g : Extents) (c : Cell) → keyFrom n i g c < 2 ^ bitsFrom n i g
+key-from-lt : (n i : ℕ) (g : Extents) (c : Cell) → keyFrom n i g c < 2 ^ bitsFrom n i g
 unfolding keyFrom bitsFrom
 key-from-lt zero i g c = omega arith
 key-from-lt (suc n) i g c =
@@ -181,7 +176,7 @@ left-is n i g k = ap (leftFrom n i g) (sym (div-one k)) ∙ go n i 0 ∙ ap (λ 
     go zero i j = rw add-zero
     go (suc n) i j = rw after-div (go n (suc i) _ ∙ ap (λ (x : ℕ). k / 2 ^ x) (omega arith))
 
-pub left-all : (g : Extents) (k : ℕ) → leftFrom 32 0 g k ≡ k / 2 ^ keyBits g
+left-all : (g : Extents) (k : ℕ) → leftFrom 32 0 g k ≡ k / 2 ^ keyBits g
 left-all g k = rw bits-is (left-is 32 0 g k)
 
 -- ---- round trips

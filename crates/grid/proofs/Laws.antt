@@ -3,13 +3,12 @@ use Prim.Native.Nat.{ℕ, zero, suc, _+_, _*_, _/_, _^_, _≤_, _<_}
 use mathlib.Core.Path.{_≡_, refl, sym, ap, _∙_}
 use mathlib.Core.Bool.{Bool, true, false, not}
 use native.Mathlib.Omega.{arith}
-use native.Mathlib.Nat.{lt-of-le-of-lt, lt-of-lt-of-le, mul-div-cancel}
-use lib.Pow.{pow-mono}
+use native.Mathlib.Nat.{lt-of-le-of-lt, mul-div-cancel}
 use lib.Dec.{ltb, eqb}
 use lib.IntN.{ℤ, pos, negℤ, _+ℤ_, +ℤ-assoc, +ℤ-invl, +ℤ-idl}
 use borrow.Author.Tests.{not-false, ltb-true, ltb-false, lt-ltb, le-ltb, ne-eqb}
-use Rattle.endian.specs.Choice.{pick}
-use Rattle.endian.proofs.Tests.{both, neither}
+use Rattle.refusal.specs.Choice.{pick}
+use Rattle.refusal.proofs.Tests.{both, neither}
 use Rattle.grid.specs.declared.Extents.{Extents}
 use Rattle.grid.specs.declared.Cell.{Cell}
 use Rattle.grid.specs.declared.Volume.{Volume}
@@ -19,13 +18,14 @@ use Rattle.grid.specs.Grid.{gridOf, zeroExtent, inGrid, InU32}
 use Rattle.grid.specs.Key.{bitOf, used, count, step, steps, keyBits, tooManyBits, keyOf, into, stepBack, stepsBack, cellOf, isKey}
 use Rattle.grid.specs.Bounds.{beginOf, endOf}
 use Rattle.grid.specs.Answers.{noCell, keyAnswer, cellAnswer}
+use Rattle.grid.proofs.Answered.{key-by-picks, cell-by-picks}
 use Rattle.grid.proofs.Covers.{grid-size-small}
 use Rattle.grid.proofs.From.{cell-of-key, key-of-cell, key-below}
 use Rattle.grid.proofs.Ways.{chunk-some, inside-all}
 
 -- ---- grids
 -- a grid's sizes are u32, as its volume's are
-pub grid-in-u32 : (v : Volume) → zeroExtent v ≡ false → InU32 (v .size) → InU32 (gridOf v)
+grid-in-u32 : (v : Volume) → zeroExtent v ≡ false → InU32 (v .size) → InU32 (gridOf v)
 unfolding gridOf
 grid-in-u32 v e u =
     let s = chunk-some v e in
@@ -41,10 +41,6 @@ key-gives-cell g c u e =
     let h = inside-all g c e in
     cell-of-key g c (h .0) (h .1) (h .2) (omega (arith, u .x)) (omega (arith, u .y)) (omega (arith, u .z))
 
--- different cells of a grid have different keys
-pub same-key-same-cell : (g : Extents) (a b : Cell) → InU32 g → inGrid g a ≡ true → inGrid g b ≡ true → keyOf g a ≡ keyOf g b → a ≡ b
-same-key-same-cell g a b u p q e = sym (key-gives-cell g a u p) ∙ ap (cellOf g) e ∙ key-gives-cell g b u q
-
 -- ---- answers
 -- what a key that was answered says
 pub record Keyed (v : Volume) (c : Cell) (k : ℕ) : Type 0 where
@@ -59,9 +55,9 @@ picked-key false true k m e = (cc, cc, cc)
 picked-key false false k m e = (refl, refl, cc)
 
 pub keyed : (v : Volume) (c : Cell) (k : ℕ) → keyAnswer v c ≡ Key k → Keyed v c k
-unfolding keyAnswer noCell
+unfolding noCell
 keyed v c k e =
-    let p = picked-key (noCell v c) (tooManyBits (gridOf v)) k (keyOf (gridOf v) c) e in
+    let p = picked-key (noCell v c) (tooManyBits (gridOf v)) k (keyOf (gridOf v) c) (sym (key-by-picks v c) ∙ e) in
     let q = neither (zeroExtent v) (not (inGrid (gridOf v) c)) (p .0) in
     record { some = q .0; inside = not-false _ (q .1); few = p .1; is = p .2 }
 
@@ -82,9 +78,9 @@ picked-cell false false true c e p = (cc, cc, cc, cc)
 picked-cell false false false c e p = (refl, refl, refl, cc)
 
 pub celled : (v : Volume) (k : ℕ) (c : Cell) → cellAnswer v k ≡ At c → Celled v k c
-unfolding cellAnswer isKey
+unfolding isKey
 celled v k c e =
-    let p = picked-cell (zeroExtent v) (tooManyBits (gridOf v)) (not (isKey (gridOf v) k)) c (cellOf (gridOf v) k) e in
+    let p = picked-cell (zeroExtent v) (tooManyBits (gridOf v)) (not (isKey (gridOf v) k)) c (cellOf (gridOf v) k) (sym (cell-by-picks v k) ∙ e) in
     let q = both (ltb k (2 ^ keyBits (gridOf v))) (inGrid (gridOf v) (cellOf (gridOf v) k)) (not-false _ (p .2)) in
     record { some = p .0; few = p .1; below = ltb-true _ _ (q .0); inside = rw (p .3) (q .1); is = p .3 }
 
@@ -122,12 +118,12 @@ cell-gives-key-gives-cell v c u h l =
     inside = not-false _ (tests .1)
 
     given : keyAnswer v c ≡ Key (keyOf (gridOf v) c)
-    given = unfold keyAnswer in rw (h, few)
+    given = rw (key-by-picks v c, h, few)
 
     back : cellAnswer v (keyOf (gridOf v) c) ≡ At c
     back =
-        unfold cellAnswer isKey in
-        rw (tests .0, few, lt-ltb _ _ (key-below (gridOf v) c), key-gives-cell (gridOf v) c (grid-in-u32 v (tests .0) u) inside, inside)
+        unfold isKey in
+        rw (cell-by-picks v (keyOf (gridOf v) c), tests .0, few, lt-ltb _ _ (key-below (gridOf v) c), key-gives-cell (gridOf v) c (grid-in-u32 v (tests .0) u) inside, inside)
 
 -- a key that was given gives back its cell
 pub key-back : (v : Volume) (c : Cell) (k : ℕ) → InU32 (v .size) → keyAnswer v c ≡ Key k → cellAnswer v k ≡ At c
@@ -139,10 +135,10 @@ key-back v c k u e =
 
 -- a key that is accepted gives a cell whose key it is
 pub accepted-key : (v : Volume) (k : ℕ) (c : Cell) → cellAnswer v k ≡ At c → keyAnswer v c ≡ Key k
-unfolding keyAnswer noCell
+unfolding noCell
 accepted-key v k c e =
     let p = celled v k c e in
-    rw (p .some, p .inside, p .few, p .is, key-of-cell (gridOf v) k (p .below))
+    rw (key-by-picks v c, p .some, p .inside, p .few, p .is, key-of-cell (gridOf v) k (p .below))
 
 -- different cells have different keys
 pub different-cells-different-keys : (v : Volume) (a b : Cell) (k : ℕ) → InU32 (v .size) → keyAnswer v a ≡ Key k → keyAnswer v b ≡ Key k → a ≡ b
@@ -151,12 +147,6 @@ different-cells-different-keys v a b k u p q =
     let t = key-back v b k u q in
     cc
 
--- a key that was given is a u64
-pub key-in-u64 : (v : Volume) (c : Cell) (k : ℕ) → keyAnswer v c ≡ Key k → k < 2 ^ 64
-key-in-u64 v c k e =
-    let p = keyed v c k e in
-    rw (p .is) (lt-of-lt-of-le (key-below (gridOf v) c) (pow-mono (few-bits _ (p .few))))
-
 -- a grid of one cell has one key, of no bits
 one-cell : keyBits (record { x = 1; y = 1; z = 1 }) ≡ 0
 unfolding used step steps keyBits
@@ -164,9 +154,9 @@ one-cell = refl
 
 pub only-key-0 : (v : Volume) → zeroExtent v ≡ false → gridOf v ≡ record { x = 1; y = 1; z = 1 }
     → (k : ℕ) → cellAnswer v k ≡ pick (eqb k 0) (At (record { x = 0; y = 0; z = 0 })) (CellRefused 4)
-unfolding cellAnswer tooManyBits isKey inGrid bitOf used count step steps keyBits into stepBack stepsBack cellOf
-only-key-0 v e h zero = rw (e, h)
-only-key-0 v e h (suc k) = rw (e, h, one-cell, le-ltb (suc k) 1 (omega arith), ne-eqb (suc k) 0 (λ z. omega arith))
+unfolding tooManyBits isKey inGrid bitOf used count step steps keyBits into stepBack stepsBack cellOf
+only-key-0 v e h zero = rw (cell-by-picks v 0, e, h)
+only-key-0 v e h (suc k) = rw (cell-by-picks v (suc k), e, h, one-cell, le-ltb (suc k) 1 (omega arith), ne-eqb (suc k) 0 (λ z. omega arith))
 
 -- ---- bounds
 -- a whole cell ends where the next one begins, and the last one ends with the volume

@@ -51,7 +51,7 @@ unfolding bitsFrom usedTurns
 bits-by-axis zero i g = refl
 bits-by-axis (suc n) i g = omega (arith, bits-by-axis n (suc i) g)
 
-pub key-bits-by-axis : (g : Extents) → keyBits g ≡ usedTurns 32 0 (g .x) + usedTurns 32 0 (g .y) + usedTurns 32 0 (g .z)
+key-bits-by-axis : (g : Extents) → keyBits g ≡ usedTurns 32 0 (g .x) + usedTurns 32 0 (g .y) + usedTurns 32 0 (g .z)
 key-bits-by-axis g = bits-is g ∙ bits-by-axis 32 0 g
 
 module _ (g : Extents) {a b d : ℕ} (x : AxisBits (g .x) a) (y : AxisBits (g .y) b) (z : AxisBits (g .z) d) where

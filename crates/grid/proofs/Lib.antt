@@ -1,3 +1,4 @@
+pub mod Answered
 pub mod Covers
 pub mod From
 pub mod Lengths
@@ -6,3 +7,6 @@ pub mod Ways
 pub mod Signed
 pub mod Laws
 pub mod Halves
+pub mod Threes
+pub mod Each
+pub mod Cases

@@ -1,5 +1,5 @@
 -- Signed numbers in locals: what a local's bits read back as, and what fits. Each law has the shape of a need.
-use Prim.Native.Nat.{ℕ, suc, _+_, _*_, _≤_, _<_, min}
+use Prim.Native.Nat.{ℕ, suc, _+_, _*_, _<_, min}
 use mathlib.Core.Path.{_≡_, sym, ap, ap₂, _∙_, subst}
 use mathlib.Core.Bool.{Bool, true, false, cond}
 use native.Mathlib.Omega.{arith}
@@ -13,7 +13,6 @@ use Rattle.grid.specs.declared.Cell.{Cell}
 use Rattle.grid.specs.declared.Volume.{Volume}
 use Rattle.grid.specs.declared.Point.{Point}
 use Rattle.grid.specs.Bounds.{beginOf, endOf, beginPoint, endPoint}
-use Rattle.grid.proofs.Covers.{next}
 
 mag-cond : (t : Bool) (a b k : ℕ) → a < k → b < k → mag (cond t (negsuc a) (pos b)) < k
 mag-cond true a b k p q = p
@@ -61,17 +60,9 @@ module _ (o : ℤ) (fo : SFits w32 o) where
     unfolding beginOf
     begins h e = stored (g * chunk) r (omega arith) e
 
-    pub ends-full : g * chunk + chunk < size → r ≡ toZ w32 (ofZ w32 o) +ℤ pos (g * chunk + chunk) → toZ w64 (ofZ w64 r) ≡ endOf o size chunk g
+    pub ends : {n : ℕ} → n ≡ min ((g + 1) * chunk) size → r ≡ toZ w32 (ofZ w32 o) +ℤ pos n → toZ w64 (ofZ w64 r) ≡ endOf o size chunk g
     unfolding endOf
-    ends-full h e =
-        let m : g * chunk + chunk ≡ min ((g + 1) * chunk) size = rw next (omega arith) in
-        stored (g * chunk + chunk) r (omega arith) e ∙ ap (λ (n : ℕ). o +ℤ pos n) m
-
-    pub ends-cut : size ≤ g * chunk + chunk → r ≡ toZ w32 (ofZ w32 o) +ℤ pos size → toZ w64 (ofZ w64 r) ≡ endOf o size chunk g
-    unfolding endOf
-    ends-cut h e =
-        let m : size ≡ min ((g + 1) * chunk) size = rw next (omega arith) in
-        stored size r (omega arith) e ∙ ap (λ (n : ℕ). o +ℤ pos n) m
+    ends {n} m e = stored n r (omega arith) e ∙ ap (λ (n : ℕ). o +ℤ pos n) m
 
 -- ---- three axes
 read-back : {o r : ℤ} (f : ℤ → ℤ) → SFits w32 o → SFits w64 r → r ≡ f (toZ w32 (ofZ w32 o)) → toZ w64 (ofZ w64 r) ≡ f o

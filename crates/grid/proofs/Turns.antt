@@ -1,9 +1,9 @@
 -- What a turn of each loop does to its invariant.
-use Prim.Native.Nat.{ℕ, zero, suc, _+_, _-_, _*_, _^_, _≤_, _<_}
-use mathlib.Core.Path.{_≡_, refl, sym, ap, _∙_}
-use mathlib.Core.Bool.{Bool}
+use Prim.Native.Nat.{ℕ, zero, suc, _+_, _-_, _*_, _%_, _^_, _≤_, _<_}
+use mathlib.Core.Path.{_≡_, ap, _∙_}
+use mathlib.Core.Bool.{Bool, true, false}
 use native.Mathlib.Omega.{arith}
-use native.Mathlib.Nat.{pow-suc, lt-of-lt-of-le, lt-of-le-of-lt, le-trans, le-refl, zero-add}
+use native.Mathlib.Nat.{pow-suc, lt-of-lt-of-le, mod-eq-of-lt}
 use native.Mathlib.Numerals.{add-one}
 use lib.Pow.{pow-mono}
 use mir.Syntax.{w32}
@@ -12,68 +12,52 @@ use Rattle.grid.specs.declared.Extents.{Extents}
 use Rattle.grid.specs.declared.Cell.{Cell}
 use Rattle.grid.specs.Key.{bitOf, used, keyBits, keyOf, cellOf}
 use Rattle.grid.specs.Turn.{put, low, rest, Top}
-use Rattle.grid.proofs.From.{bitsFrom, keyFrom, cellFrom, afterTurn, put-le, key-from-lt, bits-is, key-is, low-lt, cell-is, key-from-none, cell-from-none}
+use Rattle.grid.proofs.From.{keyFrom, cellFrom, afterTurn, key-is, key-below, low-lt, cell-is, key-from-none, cell-from-none}
 
 -- turn i - 1 comes before turn i
 down : (i : ℕ) → 0 < i → i ≤ 32 → (32 - (i - 1) ≡ suc (32 - i)) × (suc (i - 1) ≡ i)
 down i p h = (omega arith, omega arith)
 
+-- a bit put below what 64 bits hold of a key
+put-within : (u : Bool) (b n : ℕ) {k m : ℕ} → k ≡ n % 2 ^ 64 → m ≡ put u b k % 2 ^ 64 → m ≡ put u b n % 2 ^ 64
+unfolding put
+put-within true b n p q = omega arith
+put-within false b n p q = omega arith
+
 module _ (g : Extents) (c : Cell) where
-  -- the key that the turns from i on make
+  -- what 64 bits hold of the key that the turns from i on make
   pub record Packed (i k : ℕ) : Type 0 where
     pub most : i ≤ 32
-    pub made : k ≡ keyFrom (32 - i) i g c
+    pub made : k ≡ keyFrom (32 - i) i g c % 2 ^ 64
 
-  pub key-turn : (i : ℕ) → 0 < i → i ≤ 32
+  key-turn : (i : ℕ) → 0 < i → i ≤ 32
       → keyFrom (32 - (i - 1)) (i - 1) g c
       ≡ put (used (g .x) (i - 1)) (bitOf (c .x) (i - 1))
       (put (used (g .y) (i - 1)) (bitOf (c .y) (i - 1)) (put (used (g .z) (i - 1)) (bitOf (c .z) (i - 1)) (keyFrom (32 - i) i g c)))
   unfolding keyFrom
   key-turn i p h = let e = down i p h in rw (e .0, e .1)
 
-  bits-le : (i n : ℕ) → bitsFrom n i g ≤ bitsFrom (i + n) 0 g
-  bits-le zero n = rw zero-add (le-refl _)
-  bits-le (suc i) n =
-      let e : suc i + n ≡ i + suc n = omega arith in
-      rw e (le-trans one (bits-le i (suc n)))
-    where
-      one : bitsFrom n (suc i) g ≤ bitsFrom (suc n) i g
-      one = unfold bitsFrom in omega arith
-
-  bits-fit : (i : ℕ) → i ≤ 32 → bitsFrom (32 - i) i g ≤ keyBits g
-  bits-fit i h = let e : i + (32 - i) ≡ 32 = omega arith in rw bits-is (rw e at (bits-le i (32 - i)))
-
-  pub key-from-fits : (i : ℕ) → i ≤ 32 → keyBits g ≤ 64 → keyFrom (32 - i) i g c < 2 ^ 64
-  key-from-fits i h l = lt-of-lt-of-le (key-from-lt (32 - i) i g c) (pow-mono (le-trans (bits-fit i h) l))
-
   pub packed-none : (i : ℕ) → Top g i → Packed i 0
-  packed-none i t = record { most = t .most; made = sym (key-from-none g c _ i (t .x) (t .y) (t .z)) }
+  packed-none i t = record { most = t .most; made = rw (key-from-none g c (32 - i) i (t .x) (t .y) (t .z)) }
 
-  -- a turn of `key`: what it makes, and that each part of it fits
-  module _ (i k : ℕ) (p : 0 < i) (w : Packed i k) where
-    pub packed-more : {k₁ k₂ k₃ : ℕ} → k₁ ≡ put (used (g .z) (i - 1)) (bitOf (c .z) (i - 1)) k
-        → k₂ ≡ put (used (g .y) (i - 1)) (bitOf (c .y) (i - 1)) k₁
-        → k₃ ≡ put (used (g .x) (i - 1)) (bitOf (c .x) (i - 1)) k₂
-        → Packed (i - 1) k₃
-    packed-more q r s = record { most = omega (arith, w .most); made = rw (key-turn i p (w .most), ← w .made, ← q, ← r) s }
+  -- a turn of `key`
+  pub packed-more : (i k : ℕ) → 0 < i → Packed i k
+      → {k₁ k₂ k₃ : ℕ} → k₁ ≡ put (used (g .z) (i - 1)) (bitOf (c .z) (i - 1)) k % 2 ^ 64
+      → k₂ ≡ put (used (g .y) (i - 1)) (bitOf (c .y) (i - 1)) k₁ % 2 ^ 64
+      → k₃ ≡ put (used (g .x) (i - 1)) (bitOf (c .x) (i - 1)) k₂ % 2 ^ 64
+      → Packed (i - 1) k₃
+  packed-more i k p w q r s =
+      record {
+        most = omega (arith, w .most);
+        made = rw (key-turn i p (w .most)) (put-within _ _ _ (put-within _ _ _ (put-within _ _ _ (w .made) q) r) s);
+      }
 
-    module _ (l : keyBits g ≤ 64) where
-      pub fits-x : {k₁ k₂ : ℕ} → k₁ ≡ put (used (g .z) (i - 1)) (bitOf (c .z) (i - 1)) k
-          → k₂ ≡ put (used (g .y) (i - 1)) (bitOf (c .y) (i - 1)) k₁
-          → put (used (g .x) (i - 1)) (bitOf (c .x) (i - 1)) k₂ < 2 ^ 64
-      fits-x q r = let m = packed-more q r refl in rw (m .made) (key-from-fits (i - 1) (m .most) l)
-
-      pub fits-y : {k₁ : ℕ} → k₁ ≡ put (used (g .z) (i - 1)) (bitOf (c .z) (i - 1)) k
-          → put (used (g .y) (i - 1)) (bitOf (c .y) (i - 1)) k₁ < 2 ^ 64
-      fits-y q = lt-of-le-of-lt (put-le _ _ _) (fits-x q refl)
-
-      pub fits-z : put (used (g .z) (i - 1)) (bitOf (c .z) (i - 1)) k < 2 ^ 64
-      fits-z = lt-of-le-of-lt (put-le _ _ _) (fits-y refl)
-
-  pub packed-all : (i k : ℕ) → i ≤ 0 → Packed i k → k ≡ keyOf g c
-  packed-all i k l w =
+  -- after the last turn nothing is lost
+  pub packed-all : (i k : ℕ) → i ≤ 0 → Packed i k → keyBits g ≤ 64 → k ≡ keyOf g c
+  packed-all i k l w few =
       let e : i ≡ 0 = omega arith in
-      rw key-is (w .made ∙ ap (λ (n : ℕ). keyFrom (32 - n) n g c) e)
+      let m : keyOf g c < 2 ^ 64 = lt-of-lt-of-le (key-below g c) (pow-mono few) in
+      w .made ∙ ap (λ (n : ℕ). keyFrom (32 - n) n g c % 2 ^ 64) e ∙ rw (← key-is g c) (mod-eq-of-lt m)
 
 -- ---- turn i of `cell`
 up : (i : ℕ) → i < 32 → (32 - i ≡ suc (32 - (i + 1))) × (suc i ≡ i + 1)

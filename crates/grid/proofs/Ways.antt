@@ -5,11 +5,11 @@ use mathlib.Core.Bool.{Bool, true, false, not}
 use native.Mathlib.Omega.{arith}
 use lib.Dec.{ltb, leb, eqb}
 use borrow.Author.Needs.{needs}
-use borrow.Author.Tests.{not-true, not-false, ltb-true, eqb-false, leb-true, leb-false, lt-ltb, le-ltb, lt-leb, eq-eqb, ne-eqb}
+use borrow.Author.Tests.{not-true, not-false, ltb-true, ltb-false, eqb-false, leb-true, leb-false, lt-ltb, le-ltb, lt-leb, eq-eqb, ne-eqb}
 use lib.Pow.{shl-exact}
 use mir.Syntax.{w64}
 use mir.Val.{Fits}
-use Rattle.endian.proofs.Tests.{both, neither}
+use Rattle.refusal.proofs.Tests.{both, neither}
 use Rattle.grid.specs.declared.Extents.{Extents}
 use Rattle.grid.specs.declared.Cell.{Cell}
 use Rattle.grid.specs.declared.Volume.{Volume}
@@ -22,6 +22,7 @@ use Rattle.grid.specs.Grid.{gridSize, gridOf, hasZero, zeroExtent, inGri
 use Rattle.grid.specs.Key.{used, keyBits, tooManyBits, keyOf, cellOf, isKey}
 use Rattle.grid.specs.Bounds.{beginPoint, endPoint, boundsOf, BeginsInside}
 use Rattle.grid.specs.Answers.{noCell, gridAnswer, keyAnswer, cellAnswer, boundsAnswer}
+use Rattle.grid.proofs.Answered.{grid-by-picks, key-by-picks, cell-by-picks, bounds-by-picks}
 use Rattle.grid.proofs.Covers.{cell-begins-inside}
 
 positive : (n : ℕ) → eqb n 0 ≡ false → 0 < n
@@ -109,85 +110,96 @@ begins-within v c e o =
       z = cell-begins-inside _ _ (s .2) _ (h .2);
     }
 
--- ---- the entry points: z is whether an extent is 0, g the grid, o whether the cell is inside, b the number of key bits
+-- ---- the entry points: z is whether an extent is 0, g the grid, o whether the cell is inside, t whether there are too many key bits
 module _ (v : Volume) {z : Bool} (ez : z ≡ zeroExtent v) where
   pub tested : z ≡ false → zeroExtent v ≡ false
   tested h = sym ez ∙ h
 
   pub grid-2 : z ≡ true → GridRefused 2 ≡ gridAnswer v
-  unfolding gridAnswer
-  grid-2 h = rw (sym ez ∙ h)
+  grid-2 h = rw (grid-by-picks v, sym ez ∙ h)
 
   pub grid-yes : z ≡ false → {g : Extents} → g ≡ gridOf v → Grid g ≡ gridAnswer v
-  unfolding gridAnswer
-  grid-yes h eg = rw (tested h, eg)
+  grid-yes h eg = rw (grid-by-picks v, tested h, eg)
 
   module _ (c : Cell) where
+    none-2 : z ≡ true → noCell v c ≡ true
+    unfolding noCell
+    none-2 h = rw (sym ez ∙ h)
+
     pub key-2 : z ≡ true → KeyRefused 2 ≡ keyAnswer v c
-    unfolding keyAnswer noCell
-    key-2 h = rw (sym ez ∙ h)
+    key-2 h = rw (key-by-picks v c, none-2 h)
 
     pub bounds-2 : z ≡ true → BoundsRefused 2 ≡ boundsAnswer v c
-    unfolding boundsAnswer noCell
-    bounds-2 h = rw (sym ez ∙ h)
+    bounds-2 h = rw (bounds-by-picks v c, none-2 h)
 
     module _ (nz : z ≡ false) {g : Extents} (eg : g ≡ gridOf v) {o : Bool} (eo : o ≡ inGrid g c) where
       in-is : {t : Bool} → o ≡ t → inGrid (gridOf v) c ≡ t
       in-is h = rw eg at (sym eo ∙ h)
 
+      outside-2 : not o ≡ true → noCell v c ≡ true
+      unfolding noCell
+      outside-2 h = rw (tested nz, in-is (not-true o h))
+
       pub key-2-cell : not o ≡ true → KeyRefused 2 ≡ keyAnswer v c
-      unfolding keyAnswer noCell
-      key-2-cell h = rw (tested nz, in-is (not-true o h))
+      key-2-cell h = rw (key-by-picks v c, outside-2 h)
 
       pub bounds-2-cell : not o ≡ true → BoundsRefused 2 ≡ boundsAnswer v c
-      unfolding boundsAnswer noCell
-      bounds-2-cell h = rw (tested nz, in-is (not-true o h))
+      bounds-2-cell h = rw (bounds-by-picks v c, outside-2 h)
 
       module _ (no : not o ≡ false) where
         inside-is : inGrid (gridOf v) c ≡ true
         inside-is = in-is (not-false o no)
 
-        pub key-3 : {b : ℕ} → b ≡ keyBits g → 64 < b → KeyRefused 3 ≡ keyAnswer v c
-        unfolding keyAnswer noCell tooManyBits
-        key-3 eb l = rw (tested nz, inside-is, ← eg, ← eb, lt-ltb _ _ l)
+        a-cell : noCell v c ≡ false
+        unfolding noCell
+        a-cell = rw (tested nz, inside-is)
 
-        pub key-yes : {b k : ℕ} → b ≡ keyBits g → b ≤ 64 → k ≡ keyOf g c → Key k ≡ keyAnswer v c
-        unfolding keyAnswer noCell tooManyBits
-        key-yes eb l ek = rw (tested nz, inside-is, ← eg, ← eb, le-ltb _ _ l, ek)
+        pub key-3 : {t : Bool} → t ≡ tooManyBits g → t ≡ true → KeyRefused 3 ≡ keyAnswer v c
+        key-3 et h = rw (key-by-picks v c, a-cell, ← eg, ← et, h)
+
+        pub key-yes : {t : Bool} {k : ℕ} → t ≡ tooManyBits g → t ≡ false → k ≡ keyOf g c → Key k ≡ keyAnswer v c
+        key-yes et h ek = rw (key-by-picks v c, a-cell, ← eg, ← et, h, ek)
 
         pub within-is : BeginsInside v c
         within-is = begins-within v c (tested nz) inside-is
 
         pub bounds-yes : {p q : Point} → p ≡ beginPoint v c → q ≡ endPoint v c
             → Within (record { begin = p; end = q }) ≡ boundsAnswer v c
-        unfolding boundsAnswer noCell boundsOf
-        bounds-yes ep eq = rw (tested nz, inside-is, ep, eq)
+        unfolding boundsOf
+        bounds-yes ep eq = rw (bounds-by-picks v c, a-cell, ep, eq)
 
   module _ (key : ℕ) where
     pub cell-2 : z ≡ true → CellRefused 2 ≡ cellAnswer v key
-    unfolding cellAnswer
-    cell-2 h = rw (sym ez ∙ h)
+    cell-2 h = rw (cell-by-picks v key, sym ez ∙ h)
 
-    module _ (nz : z ≡ false) {g : Extents} (eg : g ≡ gridOf v) {b : ℕ} (eb : b ≡ keyBits g) where
-      pub cell-3 : 64 < b → CellRefused 3 ≡ cellAnswer v key
-      unfolding cellAnswer tooManyBits
-      cell-3 l = rw (tested nz, ← eg, ← eb, lt-ltb _ _ l)
+    module _ (nz : z ≡ false) {g : Extents} (eg : g ≡ gridOf v) {t : Bool} (et : t ≡ tooManyBits g) where
+      pub cell-3 : t ≡ true → CellRefused 3 ≡ cellAnswer v key
+      cell-3 h = rw (cell-by-picks v key, tested nz, ← eg, ← et, h)
 
-      module _ (l : b ≤ 64) {p : Bool} (ep : p ≡ leb (2 ^ b) key) where
+      module _ (nt : t ≡ false) {b : ℕ} (eb : b ≡ keyBits g) {p : Bool} (ep : p ≡ leb (2 ^ b) key) where
         pub cell-4-key : p ≡ true → CellRefused 4 ≡ cellAnswer v key
-        unfolding cellAnswer tooManyBits isKey
-        cell-4-key h = rw (tested nz, ← eg, ← eb, le-ltb _ _ l, le-ltb _ _ (leb-true _ _ (sym ep ∙ h)))
+        unfolding isKey
+        cell-4-key h = rw (cell-by-picks v key, tested nz, ← eg, ← et, nt, ← eb, le-ltb _ _ (leb-true _ _ (sym ep ∙ h)))
 
         module _ (np : p ≡ false) {c : Cell} (ec : c ≡ cellOf g key) {o : Bool} (eo : o ≡ inGrid g c) where
           pub cell-4-cell : not o ≡ true → CellRefused 4 ≡ cellAnswer v key
-          unfolding cellAnswer tooManyBits isKey
+          unfolding isKey
           cell-4-cell h =
-              rw (tested nz, ← eg, ← eb, le-ltb _ _ l, lt-ltb _ _ (leb-false _ _ (sym ep ∙ np)), ← ec, sym eo ∙ not-true o h)
+              rw (cell-by-picks v key, tested nz, ← eg, ← et, nt, ← eb, lt-ltb _ _ (leb-false _ _ (sym ep ∙ np)), ← ec, sym eo ∙ not-true o h)
 
           pub cell-yes : not o ≡ false → At c ≡ cellAnswer v key
-          unfolding cellAnswer tooManyBits isKey
+          unfolding isKey
           cell-yes h =
-              rw (tested nz, ← eg, ← eb, le-ltb _ _ l, lt-ltb _ _ (leb-false _ _ (sym ep ∙ np)), ← ec, sym eo ∙ not-false o h)
+              rw (cell-by-picks v key, tested nz, ← eg, ← et, nt, ← eb, lt-ltb _ _ (leb-false _ _ (sym ep ∙ np)), ← ec, sym eo ∙ not-false o h)
+
+-- the test for refusal 3 that was passed
+module _ (g : Extents) {t : Bool} (et : t ≡ tooManyBits g) (nt : t ≡ false) where
+  pub few : keyBits g ≤ 64
+  unfolding tooManyBits
+  few = ltb-false 64 (keyBits g) (sym et ∙ nt)
+
+  pub few-counted : {b : ℕ} → b ≡ keyBits g → b ≤ 64
+  few-counted e = rw e few
 
 -- ---- bits above the last used one
 pub one-shl : (k w : ℕ) → k < w → 1 * 2 ^ k % 2 ^ w ≡ 2 ^ k
@@ -220,5 +232,7 @@ pub ruleset ways = (
   bounds-2-cell,
   bounds-yes,
   within-is,
+  few,
+  few-counted,
   needs,
 )

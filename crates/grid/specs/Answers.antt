@@ -1,7 +1,8 @@
--- What each entry point answers. The refusals stand in the order of their numbers (01, "Refusal numbers").
+-- What each entry point answers: its checks in their fixed order (01, "Refusal numbers"), or else the result.
 use Prim.Native.Nat.{ℕ}
 use mathlib.Core.Bool.{Bool, not, _||_}
-use Rattle.endian.specs.Choice.{pick}
+use mathlib.Core.List.{List, [], _∷_}
+use Rattle.refusal.specs.Checks.{Check, check, answered}
 use Rattle.grid.specs.declared.Volume.{Volume}
 use Rattle.grid.specs.declared.Cell.{Cell}
 use Rattle.grid.specs.declared.GridAnswer.{GridAnswer}
@@ -20,21 +21,34 @@ use Rattle.grid.specs.Bounds.{boundsOf}
 unfoldable pub noCell : Volume → Cell → Bool
 noCell v c = zeroExtent v || not (inGrid (gridOf v) c)
 
+-- ---- the grid of a volume
+
+unfoldable pub gridChecks : Volume → List Check
+gridChecks v = check 2 (zeroExtent v) ∷ []
+
 unfoldable pub gridAnswer : Volume → GridAnswer
-gridAnswer v = pick (zeroExtent v) (GridRefused 2) (Grid (gridOf v))
+gridAnswer v = answered GridRefused (gridChecks v) (Grid (gridOf v))
+
+-- ---- the key of a cell
+
+unfoldable pub keyChecks : Volume → Cell → List Check
+keyChecks v c = check 2 (noCell v c) ∷ check 3 (tooManyBits (gridOf v)) ∷ []
 
 unfoldable pub keyAnswer : Volume → Cell → KeyAnswer
-keyAnswer v c =
-    pick (noCell v c) (KeyRefused 2)
-    (pick (tooManyBits (gridOf v)) (KeyRefused 3)
-    (Key (keyOf (gridOf v) c)))
+keyAnswer v c = answered KeyRefused (keyChecks v c) (Key (keyOf (gridOf v) c))
+
+-- ---- the cell of a key
+
+unfoldable pub cellChecks : Volume → ℕ → List Check
+cellChecks v key = check 2 (zeroExtent v) ∷ check 3 (tooManyBits (gridOf v)) ∷ check 4 (not (isKey (gridOf v) key)) ∷ []
 
 unfoldable pub cellAnswer : Volume → ℕ → CellAnswer
-cellAnswer v key =
-    pick (zeroExtent v) (CellRefused 2)
-    (pick (tooManyBits (gridOf v)) (CellRefused 3)
-    (pick (not (isKey (gridOf v) key)) (CellRefused 4)
-    (At (cellOf (gridOf v) key))))
+cellAnswer v key = answered CellRefused (cellChecks v key) (At (cellOf (gridOf v) key))
+
+-- ---- where a cell begins and ends
+
+unfoldable pub boundsChecks : Volume → Cell → List Check
+boundsChecks v c = check 2 (noCell v c) ∷ []
 
 unfoldable pub boundsAnswer : Volume → Cell → BoundsAnswer
-boundsAnswer v c = pick (noCell v c) (BoundsRefused 2) (Within (boundsOf v c))
+boundsAnswer v c = answered BoundsRefused (boundsChecks v c) (Within (boundsOf v c))

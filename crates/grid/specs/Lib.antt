@@ -3,4 +3,4 @@ pub mod Key
 pub mod Turn
 pub mod Bounds
 pub mod Answers
-pub mod Cases
+pub mod Batch

@@ -1,6 +1,6 @@
 // One axis of one turn of the steps, both ways.
 ghost use mathlib.Core.Path.{_≡_};
-ghost use Prim.Native.Nat.{_*_, _^_, _<_};
+ghost use Prim.Native.Nat.{_*_, _%_, _^_, _<_};
 ghost use Rattle.grid.specs.Key.{bitOf, used};
 ghost use Rattle.grid.specs.Turn.{put, low, rest, AxisBits};
 
@@ -22,13 +22,14 @@ pub fn uses(g: u32, i: u32) -> bool
     (1u32 << i) < g
 }
 
-// The key k with bit i of the coordinate v below it, where turn i uses the axis.
+// The key k with bit i of the coordinate v below it, where turn i uses the axis. A key that
+// would have more than 64 bits loses the highest.
 pub fn put_bit(g: u32, v: u32, i: u32, k: u64) -> u64
-    requires { ⌜ (i < 32) × (put (used g i) (bitOf v i) k < 2 ^ 64) ⌝ }
-    ensures { λ r. ⌜ r ≡ put (used g i) (bitOf v i) k ⌝ }
+    requires { ⌜ i < 32 ⌝ }
+    ensures { λ r. ⌜ r ≡ put (used g i) (bitOf v i) k % 2 ^ 64 ⌝ }
 {
     if uses(g, i) {
-        ((v >> i) % 2) as u64 + 2 * k
+        (k << 1) + ((v >> i) % 2) as u64
     } else {
         k
     }

@@ -3,7 +3,7 @@ ghost use mathlib.Core.Path.{_≡_};
 ghost use mathlib.Core.Bool.{false};
 ghost use Prim.Native.Nat.{_<_, _≤_};
 ghost use Rattle.grid.specs.Grid.{gridSize, gridOf, hasZero, zeroExtent, inGrid};
-ghost use Rattle.grid.specs.Key.{keyBits, keyOf, cellOf};
+ghost use Rattle.grid.specs.Key.{keyBits, tooManyBits, keyOf, cellOf};
 ghost use Rattle.grid.specs.Turn.{Top};
 use crate::Cell;
 use crate::Extents;
@@ -41,11 +41,7 @@ pub fn grid_size(extent: u32, chunk: u32) -> u32
     ensures { λ r. ⌜ r ≡ gridSize extent chunk ⌝ }
 {
     let whole = extent / chunk;
-    if extent % chunk == 0 {
-        whole
-    } else {
-        whole + 1
-    }
+    if 0 < extent % chunk { whole + 1 } else { whole }
 }
 
 // How many cells the volume has along each axis.
@@ -82,7 +78,14 @@ pub fn key_bits(grid: Extents) -> u32
     axis::axis_bits(grid.x) + axis::axis_bits(grid.y) + axis::axis_bits(grid.z)
 }
 
-// The same of a volume's grid: a card whose grid needs more than 64 is refused.
+// The grid needs more than 64: refusal 3.
+pub fn too_many_bits(grid: Extents) -> bool
+    ensures { λ r. ⌜ r ≡ tooManyBits grid ⌝ }
+{
+    64 < key_bits(grid)
+}
+
+// How many bits the keys of a volume's grid have: a card whose grid needs more than 64 is refused.
 pub fn volume_key_bits(volume: Volume) -> u32
     requires { ⌜ zeroExtent volume ≡ false ⌝ }
     ensures { λ r. ⌜ r ≡ keyBits (gridOf volume) ⌝ }

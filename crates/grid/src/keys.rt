@@ -20,7 +20,7 @@ pub fn key_of(volume: Volume, cell: Cell) -> KeyAnswer
     if !inner::inside(grid, cell) {
         return KeyAnswer::Refused(2);
     }
-    if 64 < inner::key_bits(grid) {
+    if inner::too_many_bits(grid) {
         return KeyAnswer::Refused(3);
     }
     KeyAnswer::Key(inner::key(grid, cell))
@@ -45,11 +45,10 @@ pub fn cell_of(volume: Volume, key: u64) -> CellAnswer
         return CellAnswer::Refused(2);
     }
     let grid = inner::grid(volume);
-    let bits = inner::key_bits(grid);
-    if 64 < bits {
+    if inner::too_many_bits(grid) {
         return CellAnswer::Refused(3);
     }
-    if reaches_past(key, bits) {
+    if reaches_past(key, inner::key_bits(grid)) {
         return CellAnswer::Refused(4);
     }
     let cell = inner::cell(grid, key);

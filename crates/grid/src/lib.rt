@@ -1,5 +1,6 @@
 // Volumes cut into chunks: the grid of cells, where each cell lies, and the key of each cell.
 mod axis;
+pub mod batch;
 pub mod inner;
 pub mod keys;
 pub mod sizes;
@@ -34,6 +35,7 @@ pub struct Cell {
     pub z: u32,
 }
 
+// A volume: its size and its chunks' size in voxels, and where its first voxel lies.
 #[repr(C)]
 pub struct Volume {
     pub size: Extents,

@@ -1,6 +1,6 @@
 // Where a cell begins and ends.
 ghost use mathlib.Core.Path.{_≡_};
-ghost use Prim.Native.Nat.{_*_, _^_, _<_};
+ghost use Prim.Native.Nat.{_+_, _*_, _^_, _<_, min};
 ghost use lib.IntN.{pos, _+ℤ_};
 ghost use Rattle.grid.specs.Bounds.{beginOf, endOf, beginPoint, endPoint, BeginsInside};
 ghost use Rattle.grid.specs.Answers.{boundsAnswer};
@@ -27,16 +27,25 @@ fn begin_of(offset: i32, size: u32, chunk: u32, g: u32) -> i64
     past(offset, g as u64 * chunk as u64)
 }
 
-// Where it ends: the last one is cut off.
+// How far from the offset it reaches: the last one is cut off.
+fn reach(size: u32, chunk: u32, g: u32) -> u64
+    requires { ⌜ g * chunk < size ⌝ }
+    ensures { λ r. ⌜ r ≡ min ((g + 1) * chunk) size ⌝ }
+{
+    let full = g as u64 * chunk as u64 + chunk as u64;
+    if full < size as u64 {
+        full
+    } else {
+        size as u64
+    }
+}
+
+// Where it ends.
 fn end_of(offset: i32, size: u32, chunk: u32, g: u32) -> i64
     requires { ⌜ g * chunk < size ⌝ }
     ensures { λ r. ⌜ r ≡ endOf offset size chunk g ⌝ }
 {
-    let full = g as u64 * chunk as u64 + chunk as u64;
-    if full < size as u64 {
-        return past(offset, full);
-    }
-    past(offset, size as u64)
+    past(offset, reach(size, chunk, g))
 }
 
 fn begin_point(volume: Volume, cell: Cell) -> Point

@@ -1,19 +1,33 @@
 // Reads a deposit card and then cells from standard input, and prints where each cell's chunk is stored: its key, the
 // shard's file and the minishard.
+mod blocks;
+mod frame;
+mod lines;
+
 ghost use mathlib.Core.Path.{_≡_};
-ghost use Rattle.grid.specs.Grid.{gridOf};
 ghost use lib.ListN.{length};
-ghost use Rattle.card.specs.Answers.{fault, Judged};
+ghost use Rattle.refusal.specs.Buffer.{over};
+ghost use Rattle.grid.specs.Grid.{gridOf};
+ghost use Rattle.card.specs.Answers.{fault};
+ghost use Rattle.locate.specs.Lines.{refusedLine};
+ghost use Rattle.locate.specs.Blocks.{blockBytes, Located, Printed, Said, Started};
 use card::Card;
 use card::CardAnswer;
 use grid::Extents;
 use libc::STDIN_FILENO;
 use libc::STDOUT_FILENO;
 
+// How many bytes of cells were read, and how many of text they gave.
+struct Block {
+    got: usize,
+    len: usize,
+}
+
 fn refuse(line: &mut [u8], number: u8)
     requires { ⌜ length (now line) ≡ 64 ⌝ }
+    ensures { λ _. ⌜ now (line .exit) ≡ over (refusedLine number) (now (line .entry)) ⌝ }
 {
-    let n = card::inner::refused_line(line, number);
+    let n = lines::put_refused(line, 0, number);
     io::write_all(STDOUT_FILENO, &line[..n]);
 }
 
@@ -22,29 +36,41 @@ fn print_refused(number: u8) {
     refuse(&mut line, number);
 }
 
-// One block: cells in, their lines out. Answers whether there may be more.
-fn locate_block(card: Card, grid: Extents, cells: &mut [u8], text: &mut [u8]) -> bool
-    requires { ⌜ (fault card ≡ 0) × (grid ≡ gridOf (card .volume)) × (length (now cells) ≡ 12000) × (length (now text) ≡ 65536) ⌝ }
+// One block: cells in, their lines out.
+fn locate_block(card: Card, grid: Extents, cells: &mut [u8], text: &mut [u8]) -> Block
+    requires { ⌜ (fault card ≡ 0) × (grid ≡ gridOf (card .volume)) × (length (now cells) ≡ blockBytes) × (length (now text) ≡ 65536) ⌝ }
+    ensures { λ r. ⌜ Located card (now (cells .exit)) (now (text .entry)) (now (text .exit)) r ⌝ }
 {
     let got = io::read_full(STDIN_FILENO, cells);
-    let n = card::inner::cells_text(text, card, grid, &cells[..got]);
-    let is_written = io::write_all(STDOUT_FILENO, &text[..n]);
-    is_written & (got == 12000)
+    let len = blocks::cells_text(text, card, grid, &cells[..got]);
+    Block { got, len }
+}
+
+// Prints a block's lines. Answers whether there may be more: a short block is the last.
+fn print_block(card: Card, grid: Extents, cells: &mut [u8], text: &mut [u8]) -> bool
+    requires { ⌜ (fault card ≡ 0) × (grid ≡ gridOf (card .volume)) × (length (now cells) ≡ blockBytes) × (length (now text) ≡ 65536) ⌝ }
+    ensures { λ r. ⌜ Printed card (now (cells .exit)) (now (text .entry)) (now (text .exit)) r ⌝ }
+{
+    let block = locate_block(card, grid, cells, text);
+    let len = block.len;
+    let is_written = io::write_all(STDOUT_FILENO, &text[..len]);
+    is_written & (block.got == 12000)
 }
 
 // A thousand cells a block; a line takes at most 64 bytes.
 fn locate_some(card: Card, grid: Extents, cells: &mut [u8; 12000], text: &mut [u8; 65536]) -> bool
     requires { ⌜ (fault card ≡ 0) × (grid ≡ gridOf (card .volume)) ⌝ }
+    ensures { λ r. ⌜ Printed card (now (cells .exit)) (now (text .entry)) (now (text .exit)) r ⌝ }
 {
-    locate_block(card, grid, cells, text)
+    print_block(card, grid, cells, text)
 }
 
-// A proved loop has to end, and nothing says that the input does: the turns are counted down from a number that no run
-// uses up.
+// Block by block, as `blocksOf` cuts what follows the card, up to the first that is short. A proved loop has to end, and
+// nothing says that the input does: the turns are counted down from a number that no run uses up.
 fn locate_all(card: Card)
     requires { ⌜ fault card ≡ 0 ⌝ }
 {
-    let grid = card::inner::grid_of(card);
+    let grid = blocks::grid_of(card);
     let mut cells = [0u8; 12000];
     let mut text = [0u8; 65536];
     let mut turns = u64::MAX;
@@ -55,19 +81,19 @@ fn locate_all(card: Card)
 
 // What a card says that has as many bytes as the buffer.
 fn read_body(bytes: &mut [u8]) -> CardAnswer
-    ensures { λ r. ⌜ Judged r ⌝ }
+    ensures { λ r. ⌜ Said (now (bytes .exit)) r ⌝ }
 {
     let got = io::read_full(STDIN_FILENO, bytes);
-    card::inner::framed_card(bytes.len(), &bytes[..got])
+    frame::framed_card(bytes.len(), &bytes[..got])
 }
 
 // What the card says whose length comes first.
 fn read_start(head: &mut [u8], bytes: &mut [u8]) -> CardAnswer
     requires { ⌜ (length (now head) ≡ 2) × (length (now bytes) ≡ 61) ⌝ }
-    ensures { λ r. ⌜ Judged r ⌝ }
+    ensures { λ r. ⌜ Started (now (head .exit)) (now (bytes .exit)) r ⌝ }
 {
     let got = io::read_full(STDIN_FILENO, head);
-    let n = card::inner::card_length(&head[..got]);
+    let n = frame::card_length(&head[..got]);
     read_body(&mut bytes[..n])
 }
 

@@ -2,11 +2,7 @@ pub mod Loops
 pub mod Sounds
 pub mod Patterns
 pub mod Above
-pub mod Zeros
-pub mod Interleaved
 pub mod Ways
+pub mod Judged
 pub mod Asked
-pub mod Steps
-pub mod Fragments
 pub mod Fields
-pub mod Worked

@@ -4,20 +4,20 @@ use mathlib.Core.Path.{_≡_, refl, sym, subst}
 use mathlib.Core.Bool.{Bool, true, false, not, _&&_, _||_}
 use mathlib.Core.List.{List}
 use native.Mathlib.Omega.{arith}
-use lib.Dec.{T, eqb, leb, ltb, leb→le, ltb→lt, eqb→eq}
+use lib.Dec.{T, eqb, leb, ltb, leb→le, eqb→eq}
 use borrow.Author.Needs.{needs}
 use borrow.Author.Tests.{lt-ltb, ltb-true, le-leb, eq-eqb}
 use lib.ListN.{length}
 use lib.Ieee.Bits.{is-true}
 use lib.Ieee.Fits.{and-l, and-r}
-use Rattle.endian.specs.Choice.{pick}
-use Rattle.endian.specs.Range.{every, sumTo}
+use Rattle.refusal.specs.Choice.{pick}
+use Rattle.refusal.specs.Checks.{firstNumber}
+use Rattle.endian.specs.Range.{every}
 use Rattle.endian.proofs.Ranges.{every-at, every-all, sum-none, sum-step, sum-grows}
-use Rattle.manifest.specs.Layout.{itemAt, levelsOf, isReal, countOf, nodesBefore, levelItem, fieldCount, sizeAt}
+use Rattle.manifest.specs.Layout.{itemAt, levelsOf, isReal, countOf, nodesBefore, levelItem, fieldCount}
 use Rattle.manifest.specs.Bits.{finiteBits, aboveZero}
-use Rattle.manifest.specs.Verdict.{rightLength, realFits, realsFit, inOrder, levelRises, riseAt, nodesRise, verdict}
+use Rattle.manifest.specs.Verdict.{rightLength, realFits, realsFit, inOrder, levelRises, riseAt, nodesRise, manifestChecks, verdict}
 use Rattle.manifest.specs.Soundness.{Sound}
-use Rattle.manifest.specs.Questions.{hasNode, levelBytes}
 
 pub record Shaped (s : List ℕ) : Type 0 where
   pub bytes : length s ≤ 16777216
@@ -70,13 +70,14 @@ pub level-fits : (s : List ℕ) (l : ℕ) {first n v : ℕ} → first ≡ levelI
     → 4 * (first + 4 * n) ≤ length s
 level-fits s l e f g h k = omega (arith, sum-step (countOf s) l, sum-grows (countOf s) (l + 1) (levelsOf s) (omega arith))
 
+-- where the level begins, from the node count before it
+pub read-fits : (s : List ℕ) (l : ℕ) {v k n : ℕ} → v ≡ levelsOf s → k ≡ nodesBefore s l → n ≡ countOf s l → l < v → length s ≡ 4 * fieldCount s
+    → 4 * (7 + 5 * v + 4 * k + 4 * n) ≤ length s
+read-fits s l f g h j k = level-fits s l (omega arith) h f j k
+
 pub level-within : (s : List ℕ) (l m : ℕ) {first n v : ℕ} → first ≡ levelItem s l → n ≡ countOf s l → l < m → m ≤ v → v ≡ levelsOf s → length s ≡ 4 * fieldCount s
     → 4 * (first + 4 * n) ≤ length s
 level-within s l m e f g h k q = level-fits s l e f k (omega arith) q
-
-pub level-bytes : (s : List ℕ) (l : ℕ) {first n t : ℕ} → t ≡ sumTo (sizeAt s first n) n → first ≡ levelItem s l → n ≡ countOf s l → t ≡ levelBytes s l
-unfolding levelBytes
-level-bytes s l {first} {n} {t} e f g = cc
 
 -- ---- a manifest that is not refused
 
@@ -102,7 +103,7 @@ implied false b t u = absurd u
 
 -- not refused, then sound
 pub sound-if : (s : List ℕ) → verdict s ≡ 0 → Sound s
-unfolding verdict rightLength realsFit nodesRise realFits levelRises riseAt
+unfolding verdict manifestChecks firstNumber rightLength realsFit nodesRise realFits levelRises riseAt
 sound-if s e =
     let p = picked (rightLength s) (realsFit s) (nodesRise s) e in
     let h = shaped s (sym (p .0)) refl in
@@ -129,7 +130,7 @@ sound-if s e =
 
 -- sound, then not refused
 pub sound-only : (s : List ℕ) → Sound s → verdict s ≡ 0
-unfolding verdict rightLength realsFit nodesRise realFits levelRises riseAt
+unfolding verdict manifestChecks firstNumber rightLength realsFit nodesRise realFits levelRises riseAt
 sound-only s h =
     let k : ℕ = 28 + 20 * levelsOf s + 16 * nodesBefore s (levelsOf s) in
     let r : every (realFits s) (7 + 4 * levelsOf s) ≡ true = every-all (realFits s) (7 + 4 * levelsOf s) (λ i _. either (isReal (levelsOf s) i) (finiteBits (itemAt s i)) (h .reals i)) in
@@ -177,28 +178,6 @@ module _ (s : List ℕ) (e : verdict s ≡ 0) where
   pub told-real : (i : ℕ) {v : ℕ} {p : Bool} → v ≡ levelsOf s → p ≡ isReal v i → p ≡ true → T (finiteBits (itemAt s i))
   told-real i {v} {p} f g t = subst T (sym (sound-if s e .reals i (cc))) tt
 
-module _ (s : List ℕ) (l i : ℕ) (e : hasNode s l i ≡ true) where
-  both : (l < levelsOf s) × (i < countOf s l)
-  unfolding hasNode
-  both = let t : T (ltb l (levelsOf s) && ltb i (countOf s l)) = subst T (sym e) tt in
-      (ltb→lt l (levelsOf s) (and-l (ltb l (levelsOf s)) (ltb i (countOf s l)) t), ltb→lt i (countOf s l) (and-r (ltb l (levelsOf s)) (ltb i (countOf s l)) t))
-
-  pub has-level : {v : ℕ} → v ≡ levelsOf s → l < v
-  has-level f = let b = both in omega (arith, b .0)
-
-  pub has-index : {n : ℕ} → n ≡ countOf s l → i < n
-  has-index f = let b = both in omega (arith, b .1)
-
-  pub has-to : {v : ℕ} → v ≡ levelsOf s → l ≤ v
-  has-to f = let b = both in omega (arith, b .0)
-
-  pub has-most : {n : ℕ} → n ≡ countOf s l → i ≤ n
-  has-most f = let b = both in omega (arith, b .1)
-
-  -- where the level begins, from the node count before it
-  pub made-fits : {v k n : ℕ} → v ≡ levelsOf s → k ≡ nodesBefore s l → n ≡ countOf s l → verdict s ≡ 0 → 4 * (7 + 5 * v + 4 * k + 4 * n) ≤ length s
-  made-fits f g h z = level-fits s l (omega arith) h f (has-level f) (sound-ends s z)
-
 pub ruleset sound = (
   shaped-head,
   shaped-ends,
@@ -208,7 +187,6 @@ pub ruleset sound = (
   level-next,
   level-fits,
   level-within,
-  level-bytes,
   head-ends,
   sound-ends,
   sound-bytes,
@@ -217,10 +195,5 @@ pub ruleset sound = (
   item-ends,
   head-real,
   told-real,
-  has-level,
-  has-to,
-  has-index,
-  has-most,
-  made-fits,
   needs,
 )

@@ -10,10 +10,11 @@ use borrow.Author.Needs.{needs}
 use borrow.Author.Tests.{lt-ltb, le-ltb, lt-leb, le-leb, ne-eqb}
 use Rattle.endian.specs.Range.{every}
 use Rattle.endian.proofs.Ranges.{every-fails, every-done}
-use Rattle.endian.proofs.Tests.{told-no, told-yes}
+use Rattle.refusal.specs.Checks.{firstNumber}
+use Rattle.refusal.proofs.Tests.{told-no, told-yes}
 use Rattle.manifest.specs.Layout.{itemAt, levelsOf, isReal, countOf, nodesBefore, levelItem}
 use Rattle.manifest.specs.Bits.{finiteBits, aboveZero}
-use Rattle.manifest.specs.Verdict.{rightLength, realFits, realsFit, inOrder, levelRises, riseAt, nodesRise, verdict}
+use Rattle.manifest.specs.Verdict.{rightLength, realFits, realsFit, inOrder, levelRises, riseAt, nodesRise, manifestChecks, verdict}
 
 -- ---- 15
 
@@ -21,6 +22,10 @@ unequal : (a b : Bool) (m n : ℕ) → (m ≡ n → ⊥) → false ≡ (a && (b 
 unequal true true m n h = sym (ne-eqb m n h)
 unequal true false m n h = refl
 unequal false b m n h = refl
+
+pub never : (a : Bool) → false ≡ (a && false)
+never true = refl
+never false = refl
 
 module _ (s : List ℕ) where
   pub length-above : 16777216 < length s → false ≡ rightLength s
@@ -31,9 +36,9 @@ module _ (s : List ℕ) where
   unfolding rightLength
   length-short h = unequal (leb (length s) 16777216) (leb (levelsOf s) 32) (length s) (28 + 20 * levelsOf s + 16 * nodesBefore s (levelsOf s)) (λ e. omega arith)
 
-  pub levels-above : {v : ℕ} → v ≡ levelsOf s → 32 < v → length s ≤ 16777216 → false ≡ rightLength s
+  pub levels-above : {v : ℕ} → v ≡ levelsOf s → 32 < v → false ≡ rightLength s
   unfolding rightLength
-  levels-above {v} e h k = let g : 32 < levelsOf s = omega arith in rw (le-leb (length s) 16777216 k, lt-leb (levelsOf s) 32 g)
+  levels-above {v} e h = rw (lt-leb (levelsOf s) 32 (omega arith)) (never (leb (length s) 16777216))
 
   pub length-short-of : {v : ℕ} → v ≡ levelsOf s → length s < 28 + 20 * v → false ≡ rightLength s
   unfolding rightLength
@@ -127,21 +132,21 @@ module _ (s : List ℕ) (l : ℕ) where
 
 module _ (s : List ℕ) {p : Bool} (e : p ≡ rightLength s) where
   pub verdict-15 : not p ≡ true → 15 ≡ verdict s
-  unfolding verdict
+  unfolding verdict manifestChecks firstNumber
   verdict-15 n = rw (told-no e n)
 
   module _ (k : not p ≡ false) {q : Bool} (f : q ≡ realsFit s) where
     pub verdict-16 : not q ≡ true → 16 ≡ verdict s
-    unfolding verdict
+    unfolding verdict manifestChecks firstNumber
     verdict-16 n = rw (told-yes e k, told-no f n)
 
     module _ (l : not q ≡ false) {r : Bool} (g : r ≡ nodesRise s) where
       pub verdict-17 : not r ≡ true → 17 ≡ verdict s
-      unfolding verdict
+      unfolding verdict manifestChecks firstNumber
       verdict-17 n = rw (told-yes e k, told-yes f l, told-no g n)
 
       pub verdict-0 : not r ≡ false → 0 ≡ verdict s
-      unfolding verdict
+      unfolding verdict manifestChecks firstNumber
       verdict-0 n = rw (told-yes e k, told-yes f l, told-yes g n)
 
 pub ruleset ways = (

@@ -3,7 +3,7 @@ use Prim.Native.Nat.{ℕ, _/_, _%_, _^_}
 use mathlib.Core.Bool.{Bool, not, _&&_}
 use mathlib.Core.List.{List}
 use lib.Dec.{ltb, eqb}
-use lib.Ieee.{Float, binary32, ofBits, toBits}
+use lib.Ieee.{Float, binary32, ofBits}
 use Rattle.manifest.specs.Layout.{itemAt}
 
 -- the pattern of a finite real: its exponent field is not all ones
@@ -17,7 +17,3 @@ aboveZero b = ltb 0 b && ltb b (2 ^ 31)
 -- the real in item i: the one whose pattern is the item's number
 unfoldable pub realAt : List ℕ → ℕ → Float
 realAt s i = ofBits binary32 (itemAt s i)
-
--- a computed real, judged by its bits
-unfoldable pub finite : Float → Bool
-finite x = finiteBits (toBits binary32 x)

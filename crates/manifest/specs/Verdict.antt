@@ -1,14 +1,14 @@
 -- The judgement on a manifest: refusals 15, 16 and 17 (01, "Refusal numbers").
 use Prim.Native.Nat.{ℕ, _+_, _-_, _*_}
 use mathlib.Core.Bool.{Bool, not, _&&_, _||_}
-use mathlib.Core.List.{List}
+use mathlib.Core.List.{List, [], _∷_}
 use lib.ListN.{length}
 use lib.Dec.{leb, eqb}
-use Rattle.endian.specs.Choice.{pick}
+use Rattle.refusal.specs.Checks.{Check, check, firstNumber, answered}
 use Rattle.endian.specs.Range.{every}
 use Rattle.manifest.specs.Layout.{itemAt, levelsOf, isReal, countOf, nodesBefore, levelItem, xAt, yAt, zAt}
 use Rattle.manifest.specs.Bits.{finiteBits, aboveZero}
-use Rattle.manifest.specs.Order.{zBefore}
+use Rattle.zorder.specs.Order.{zBefore}
 use Rattle.manifest.specs.declared.ManifestAnswer.{ManifestAnswer}
 use Rattle.manifest.specs.declared.ManifestAnswer.the-variants.{Sound, Refused}
 
@@ -50,16 +50,13 @@ riseAt s l = levelRises s (levelItem s l) (countOf s l)
 unfoldable pub nodesRise : List ℕ → Bool
 nodesRise s = every (riseAt s) (levelsOf s)
 
+-- the order of refusals
+unfoldable pub manifestChecks : List ℕ → List Check
+manifestChecks s = check 15 (not (rightLength s)) ∷ check 16 (not (realsFit s)) ∷ check 17 (not (nodesRise s)) ∷ []
+
 -- the first refusal that holds, or 0
 unfoldable pub verdict : List ℕ → ℕ
-verdict s =
-    pick (not (rightLength s)) 15
-    (pick (not (realsFit s)) 16
-    (pick (not (nodesRise s)) 17
-    0))
-
-abbrev pub refused : List ℕ → Bool
-refused s = not (eqb (verdict s) 0)
+verdict s = firstNumber (manifestChecks s)
 
 unfoldable pub manifestAnswer : List ℕ → ManifestAnswer
-manifestAnswer s = pick (refused s) (Refused (verdict s)) Sound
+manifestAnswer s = answered Refused (manifestChecks s) Sound

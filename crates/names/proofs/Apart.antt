@@ -8,8 +8,8 @@ use borrow.Author.Tests.{le-leb}
 use lib.Dec.{leb}
 use lib.IntN.{ℤ, pos, negsuc}
 use lib.ListN.{length}
-use Rattle.endian.specs.Choice.{pick}
-use Rattle.endian.proofs.Tests.{both, neither}
+use Rattle.refusal.specs.Choice.{pick}
+use Rattle.refusal.proofs.Tests.{both, neither}
 use Rattle.grid.specs.Answers.{noCell}
 use Rattle.grid.specs.Grid.{zeroExtent}
 use Rattle.grid.specs.Bounds.{beginPoint, boundsOf}

@@ -2,16 +2,17 @@
 use Prim.Native.Nat.{ℕ}
 use mathlib.Core.Path.{_≡_, refl, sym, ap, _∙_}
 use mathlib.Core.Bool.{Bool, true, false}
-use mathlib.Core.List.{List}
+use mathlib.Core.List.{List, [], _∷_}
 use native.Mathlib.Omega.{arith}
 use borrow.Author.Needs.{needs}
 use mir.Syntax.{w64}
 use mir.Val.{SFits}
 use mir.Facts.{toZ-ofZ}
-use Rattle.endian.specs.Choice.{pick}
-use Rattle.endian.specs.Buffer.{written, leftBy}
-use Rattle.endian.specs.declared.Written.{Written}
-use Rattle.endian.specs.declared.Written.the-variants.{Refused}
+use Rattle.refusal.specs.Choice.{pick}
+use Rattle.refusal.specs.Buffer.{room, written, leftBy}
+use Rattle.refusal.specs.declared.Written.{Written}
+use Rattle.refusal.specs.declared.Written.the-variants.{Refused}
+use Rattle.refusal.proofs.Picks.{by-picks}
 use Rattle.grid.specs.Answers.{noCell, boundsAnswer}
 use Rattle.grid.specs.Bounds.{boundsOf}
 use Rattle.grid.specs.declared.Bounds.{Bounds}
@@ -19,8 +20,9 @@ use Rattle.grid.specs.declared.Cell.{Cell}
 use Rattle.grid.specs.declared.Volume.{Volume}
 use Rattle.grid.specs.declared.BoundsAnswer.{BoundsAnswer}
 use Rattle.grid.specs.declared.BoundsAnswer.the-variants.{Within, Refused as BoundsRefused}
+use Rattle.grid.proofs.Answered.{bounds-by-picks}
 use Rattle.names.specs.Signs.{spanOf, spansText}
-use Rattle.names.specs.Chunks.{boundsName, chunkName, chunkNameAnswer, chunkNameLeft}
+use Rattle.names.specs.Chunks.{boundsName, chunkName, chunkNameChecks, chunkNameAnswer, chunkNameLeft}
 use Rattle.names.specs.declared.inner.Span.{Span}
 use Rattle.names.proofs.Texts.{back}
 
@@ -47,6 +49,19 @@ pub ruleset bounding = (bounds-answer, bounds-left, needs)
 
 -- ---- the ways out
 
+module _ (v : Volume) (c : Cell) (d : List ℕ) where
+  answer-picks : chunkNameAnswer v c d ≡ pick (noCell v c) (Refused 2) (written (chunkName v c) d)
+  unfolding chunkNameAnswer chunkNameChecks written
+  answer-picks =
+      by-picks Refused (chunkNameChecks v c d) _ refl
+      ∙ ap (λ (w : Written). pick (noCell v c) (Refused 2) w) (sym (by-picks Refused (room (chunkName v c) d ∷ []) _ refl))
+
+  left-picks : chunkNameLeft v c d ≡ pick (noCell v c) d (leftBy (chunkName v c) d)
+  unfolding chunkNameLeft chunkNameChecks leftBy
+  left-picks =
+      by-picks (λ k. d) (chunkNameChecks v c d) _ refl
+      ∙ ap (λ (w : List ℕ). pick (noCell v c) d w) (sym (by-picks (λ k. d) (room (chunkName v c) d ∷ []) _ refl))
+
 refused-by : (t : Bool) (b : Bounds) (k : ℕ) → pick t (BoundsRefused 2) (Within b) ≡ BoundsRefused k → (t ≡ true) × (k ≡ 2)
 refused-by true b k e = (refl, cc)
 refused-by false b k e = let z : _≡_ {A = ℕ} 0 1 = cc in absurd (omega arith)
@@ -58,28 +73,26 @@ within-by false a b e = (refl, cc)
 module _ (v : Volume) (c : Cell) (d : List ℕ) (r : BoundsAnswer) (p : r ≡ boundsAnswer v c) where
   module _ (k : ℕ) (q : r ≡ BoundsRefused k) where
     refused : (noCell v c ≡ true) × (k ≡ 2)
-    unfolding boundsAnswer
-    refused = refused-by (noCell v c) (boundsOf v c) k (sym p ∙ q)
+    refused = refused-by (noCell v c) (boundsOf v c) k (sym (p ∙ bounds-by-picks v c) ∙ q)
 
     pub no-name : Refused k ≡ chunkNameAnswer v c d
-    unfolding chunkNameAnswer
-    no-name = rw (refused .0, refused .1)
+    no-name = rw (answer-picks v c d, refused .0, refused .1)
 
     pub no-name-left : d ≡ chunkNameLeft v c d
-    unfolding chunkNameLeft
-    no-name-left = rw (refused .0)
+    no-name-left = sym (left-picks v c d ∙ rw (refused .0))
 
   module _ (b : Bounds) (q : r ≡ Within b) where
     within : (noCell v c ≡ false) × (b ≡ boundsOf v c)
-    unfolding boundsAnswer
-    within = within-by (noCell v c) b (boundsOf v c) (sym p ∙ q)
+    within = within-by (noCell v c) b (boundsOf v c) (sym (p ∙ bounds-by-picks v c) ∙ q)
+
+    name : boundsName b ≡ chunkName v c
+    unfolding chunkName
+    name = ap boundsName (within .1)
 
     pub cell-name : (a : Written) → a ≡ written (boundsName b) d → a ≡ chunkNameAnswer v c d
-    unfolding chunkNameAnswer chunkName
-    cell-name a w = w ∙ rw (within .0, within .1)
+    cell-name a w = w ∙ ap (λ (t : List ℕ). written t d) name ∙ sym (answer-picks v c d ∙ rw (within .0))
 
     pub cell-name-left : (s : List ℕ) → s ≡ leftBy (boundsName b) d → s ≡ chunkNameLeft v c d
-    unfolding chunkNameLeft chunkName
-    cell-name-left s w = w ∙ rw (within .0, within .1)
+    cell-name-left s w = w ∙ ap (λ (t : List ℕ). leftBy t d) name ∙ sym (left-picks v c d ∙ rw (within .0))
 
 pub ruleset celling = (no-name, no-name-left, cell-name, cell-name-left, needs)

@@ -6,22 +6,26 @@ use mathlib.Core.List.{List, [], _∷_, _++_}
 use native.Mathlib.Omega.{arith}
 use native.Mathlib.Nat.{pow-le-pow-right}
 use borrow.Author.Needs.{needs}
-use borrow.Author.Tests.{le-leb, lt-leb, not-true, not-false}
-use lib.Dec.{lit<}
+use lib.Dec.{lit<, leb}
 use lib.ListN.{length, take, replicate, length-append}
 use lib.Seq.{take-at}
 use Rattle.endian.specs.Little.{le}
 use Rattle.endian.specs.Place.{paste}
-use Rattle.endian.specs.Buffer.{written, leftBy}
-use Rattle.endian.specs.declared.Written.the-variants.{Length, Refused}
+use Rattle.refusal.specs.Choice.{pick}
+use Rattle.refusal.specs.Buffer.{room, written, leftBy}
+use Rattle.refusal.specs.declared.Written.{Written}
+use Rattle.refusal.specs.declared.Written.the-variants.{Length, Refused}
+use Rattle.refusal.proofs.Picks.{by-picks}
+use Rattle.refusal.proofs.Tests.{told-no, told-yes}
 use Rattle.endian.proofs.Paste.{paste-then, length-paste}
-use Rattle.endian.proofs.Buffer.{written-short, leftBy-short, written-fits, leftBy-paste}
-use Rattle.sharding.specs.Specification.{shardBits, allowed, shardCount}
+use Rattle.endian.proofs.Buffer.{too-long, kept-whole, at-front}
+use Rattle.sharding.specs.Specification.{shardBits, allowed, noSuchShard, shardCount}
 use Rattle.sharding.specs.declared.Sharding.{Sharding}
 use Rattle.sharding.proofs.Allowed.{allowed-within}
 use Rattle.names.specs.Digits.{digits, digitCount}
-use Rattle.names.specs.Shards.{shardDigits, suffix, shardName, shardNameAnswer, shardNameLeft}
+use Rattle.names.specs.Shards.{shardDigits, suffix, shardName, shardNameChecks, shardNameAnswer, shardNameLeft}
 use Rattle.names.proofs.Numerals.{length-digits, same-digits, padded, count-holds, count-least}
+use Rattle.names.proofs.Texts.{front-room, front-end}
 
 -- ---- how long
 
@@ -110,56 +114,74 @@ module _ (spec : Sharding) (n at : ℕ) (d : List ℕ) (l : at + length (shardNa
 
 pub ruleset naming = (digits-none, digits-some, suffix-put, digits-room, name-end, suffix-room, name-put, needs)
 
+-- ---- the name at the front of a buffer: m is its length
+
+module _ (spec : Sharding) (n : ℕ) (d : List ℕ) (m : ℕ) (g : m ≡ shardDigits spec + 6) where
+  fits : m ≡ length (shardName spec n)
+  fits = g ∙ sym (length-shard-name spec n)
+
+  pub file-short : length d < m → Refused 13 ≡ written (shardName spec n) d
+  file-short = too-long (shardName spec n) d m fits
+
+  pub file-kept : length d < m → d ≡ leftBy (shardName spec n) d
+  file-kept = kept-whole (shardName spec n) d m fits
+
+  module _ (h : m ≤ length d) where
+    pub file-room : 0 + length (shardName spec n) ≤ length d
+    file-room = front-room (shardName spec n) d m fits h
+
+    pub file-length : (k : ℕ) → k ≡ 0 + length (shardName spec n) → Length k ≡ written (shardName spec n) d
+    file-length = front-end (shardName spec n) d m fits h
+
+    pub file-left : (s : List ℕ) → s ≡ paste 0 (shardName spec n) d → s ≡ leftBy (shardName spec n) d
+    file-left = at-front (shardName spec n) d m fits h
+
+pub ruleset filing = (file-short, file-kept, file-room, file-length, file-left, needs)
+
 -- ---- the answers, a law for each way out
 
-module _ (spec : Sharding) (n : ℕ) (d : List ℕ) (r : Bool) (e : r ≡ allowed spec) where
-  pub refused-1 : not r ≡ true → Refused 1 ≡ shardNameAnswer spec n d
-  unfolding shardNameAnswer
-  refused-1 t = rw (sym e ∙ not-true r t)
+pub past-all : (spec : Sharding) (n : ℕ) {k : ℕ} → k ≡ shardCount spec → leb k n ≡ noSuchShard spec n
+past-all spec n e = ap (λ (k : ℕ). leb k n) e
 
-  pub left-1 : not r ≡ true → d ≡ shardNameLeft spec n d
-  unfolding shardNameLeft
-  left-1 t = rw (sym e ∙ not-true r t)
+module _ (spec : Sharding) (n : ℕ) (d : List ℕ) where
+  answer-picks : shardNameAnswer spec n d
+      ≡ pick (not (allowed spec)) (Refused 1) (pick (noSuchShard spec n) (Refused 5) (written (shardName spec n) d))
+  unfolding shardNameAnswer shardNameChecks written
+  answer-picks =
+      by-picks Refused (shardNameChecks spec n d) _ refl
+      ∙ ap (λ (w : Written). pick (not (allowed spec)) (Refused 1) (pick (noSuchShard spec n) (Refused 5) w))
+      (sym (by-picks Refused (room (shardName spec n) d ∷ []) _ refl))
 
-  module _ (t : not r ≡ false) where
-    pub is-allowed : allowed spec ≡ true
-    is-allowed = sym e ∙ not-false r t
+  left-picks : shardNameLeft spec n d ≡ pick (not (allowed spec)) d (pick (noSuchShard spec n) d (leftBy (shardName spec n) d))
+  unfolding shardNameLeft shardNameChecks leftBy
+  left-picks =
+      by-picks (λ k. d) (shardNameChecks spec n d) _ refl
+      ∙ ap (λ (w : List ℕ). pick (not (allowed spec)) d (pick (noSuchShard spec n) d w))
+      (sym (by-picks (λ k. d) (room (shardName spec n) d ∷ []) _ refl))
 
-    module _ (k : ℕ) (f : k ≡ shardCount spec) where
-      pub refused-5 : k ≤ n → Refused 5 ≡ shardNameAnswer spec n d
-      unfolding shardNameAnswer
-      refused-5 h = rw (is-allowed, ← f, le-leb k n h)
+  module _ (r : Bool) (e : r ≡ allowed spec) where
+    pub refused-1 : not r ≡ true → Refused 1 ≡ shardNameAnswer spec n d
+    refused-1 t = sym (answer-picks ∙ rw (told-no e t))
 
-      pub left-5 : k ≤ n → d ≡ shardNameLeft spec n d
-      unfolding shardNameLeft
-      left-5 h = rw (is-allowed, ← f, le-leb k n h)
+    pub left-1 : not r ≡ true → d ≡ shardNameLeft spec n d
+    left-1 t = sym (left-picks ∙ rw (told-no e t))
 
-      module _ (h : n < k) (m : ℕ) (g : m ≡ shardDigits spec + 6) where
-        fits : length (shardName spec n) ≡ m
-        fits = length-shard-name spec n ∙ sym g
+    module _ (t : not r ≡ false) where
+      pub is-allowed : allowed spec ≡ true
+      is-allowed = told-yes e t
 
-        answer-is : shardNameAnswer spec n d ≡ written (shardName spec n) d
-        unfolding shardNameAnswer
-        answer-is = rw (is-allowed, ← f, lt-leb k n h)
+      module _ (b : Bool) (f : b ≡ noSuchShard spec n) where
+        pub refused-5 : b ≡ true → Refused 5 ≡ shardNameAnswer spec n d
+        refused-5 h = sym (answer-picks ∙ rw (is-allowed, sym f ∙ h))
 
-        left-is : shardNameLeft spec n d ≡ leftBy (shardName spec n) d
-        unfolding shardNameLeft
-        left-is = rw (is-allowed, ← f, lt-leb k n h)
+        pub left-5 : b ≡ true → d ≡ shardNameLeft spec n d
+        left-5 h = sym (left-picks ∙ rw (is-allowed, sym f ∙ h))
 
-        pub refused-13 : length d < m → Refused 13 ≡ shardNameAnswer spec n d
-        refused-13 l = sym (answer-is ∙ written-short (shardName spec n) d (omega (arith, fits)))
+        module _ (h : b ≡ false) where
+          pub named : (w : Written) → w ≡ written (shardName spec n) d → w ≡ shardNameAnswer spec n d
+          named w q = q ∙ sym (answer-picks ∙ rw (is-allowed, sym f ∙ h))
 
-        pub left-13 : length d < m → d ≡ shardNameLeft spec n d
-        left-13 l = sym (left-is ∙ leftBy-short (shardName spec n) d (omega (arith, fits)))
+          pub named-left : (s : List ℕ) → s ≡ leftBy (shardName spec n) d → s ≡ shardNameLeft spec n d
+          named-left s q = q ∙ sym (left-picks ∙ rw (is-allowed, sym f ∙ h))
 
-        module _ (l : m ≤ length d) where
-          pub name-room : 0 + length (shardName spec n) ≤ length d
-          name-room = omega (arith, fits)
-
-          pub name-length : (q : ℕ) → q ≡ 0 + length (shardName spec n) → Length q ≡ shardNameAnswer spec n d
-          name-length q w = sym (answer-is ∙ written-fits (shardName spec n) d (omega (arith, fits)) ∙ ap Length (omega arith))
-
-          pub name-left : (s : List ℕ) → s ≡ paste 0 (shardName spec n) d → s ≡ shardNameLeft spec n d
-          name-left s w = w ∙ leftBy-paste (shardName spec n) d (omega (arith, fits)) ∙ sym left-is
-
-pub ruleset answering = (refused-1, left-1, is-allowed, refused-5, left-5, refused-13, left-13, name-room, name-length, name-left, needs)
+pub ruleset answering = (past-all, refused-1, left-1, is-allowed, refused-5, left-5, named, named-left, needs)

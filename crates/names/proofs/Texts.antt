@@ -11,8 +11,8 @@ use mir.Syntax.{w64}
 use mir.Val.{Fits, SFits, toZ, ofZ}
 use mir.Facts.{toZ-ofZ}
 use Rattle.endian.specs.Place.{paste}
-use Rattle.endian.specs.Buffer.{written}
-use Rattle.endian.specs.declared.Written.the-variants.{Length}
+use Rattle.refusal.specs.Buffer.{written}
+use Rattle.refusal.specs.declared.Written.the-variants.{Length}
 use Rattle.endian.proofs.Buffer.{too-long, kept-whole, how-long, at-front}
 use Rattle.endian.proofs.Paste.{paste-then, length-paste}
 use Rattle.names.specs.Digits.{digits, decimal}

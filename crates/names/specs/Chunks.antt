@@ -1,10 +1,11 @@
 -- The name of an unsharded chunk (01, 'Cells and keys').
 use Prim.Native.Nat.{ℕ}
-use mathlib.Core.List.{List}
-use Rattle.endian.specs.Choice.{pick}
-use Rattle.endian.specs.Buffer.{written, leftBy}
-use Rattle.endian.specs.declared.Written.{Written}
-use Rattle.endian.specs.declared.Written.the-variants.{Refused}
+use mathlib.Core.List.{List, [], _∷_}
+use lib.ListN.{length}
+use Rattle.refusal.specs.Checks.{Check, check, answered, left}
+use Rattle.refusal.specs.Buffer.{room, over}
+use Rattle.refusal.specs.declared.Written.{Written}
+use Rattle.refusal.specs.declared.Written.the-variants.{Length, Refused}
 use Rattle.grid.specs.Answers.{noCell}
 use Rattle.grid.specs.Bounds.{boundsOf}
 use Rattle.grid.specs.declared.Bounds.{Bounds}
@@ -23,10 +24,14 @@ boundsName b =
 unfoldable pub chunkName : Volume → Cell → List ℕ
 chunkName v c = boundsName (boundsOf v c)
 
--- what `chunk_name` answers: 2, then 13, or the name's length
-unfoldable pub chunkNameAnswer : Volume → Cell → List ℕ → Written
-chunkNameAnswer v c out = pick (noCell v c) (Refused 2) (written (chunkName v c) out)
+-- the refusals of `chunk_name`: 2, then 13
+unfoldable pub chunkNameChecks : Volume → Cell → List ℕ → List Check
+chunkNameChecks v c out = check 2 (noCell v c) ∷ room (chunkName v c) out ∷ []
 
--- and what it leaves in the buffer
+-- it answers the name's length
+unfoldable pub chunkNameAnswer : Volume → Cell → List ℕ → Written
+chunkNameAnswer v c out = answered Refused (chunkNameChecks v c out) (Length (length (chunkName v c)))
+
+-- and leaves the name at the front of the buffer
 unfoldable pub chunkNameLeft : Volume → Cell → List ℕ → List ℕ
-chunkNameLeft v c out = pick (noCell v c) out (leftBy (chunkName v c) out)
+chunkNameLeft v c out = left (chunkNameChecks v c out) (over (chunkName v c) out) out

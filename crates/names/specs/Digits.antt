@@ -2,7 +2,7 @@
 use Prim.Native.Nat.{ℕ, zero, suc, _+_, _-_, _*_, _/_, _%_}
 use mathlib.Core.List.{List, [], _∷_, _++_}
 use lib.Dec.{ltb}
-use Rattle.endian.specs.Choice.{pick}
+use Rattle.refusal.specs.Choice.{pick}
 
 -- the byte of a digit: `0` is byte 48, and after `9` come the lower-case letters, `a` being byte 97
 unfoldable pub digitByte : ℕ → ℕ

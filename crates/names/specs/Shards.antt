@@ -2,10 +2,11 @@
 use Prim.Native.Nat.{ℕ, _+_, _/_, max}
 use mathlib.Core.Bool.{not}
 use mathlib.Core.List.{List, [], _∷_, _++_}
-use Rattle.endian.specs.Choice.{pick}
-use Rattle.endian.specs.Buffer.{written, leftBy}
-use Rattle.endian.specs.declared.Written.{Written}
-use Rattle.endian.specs.declared.Written.the-variants.{Refused}
+use lib.ListN.{length}
+use Rattle.refusal.specs.Checks.{Check, check, answered, left}
+use Rattle.refusal.specs.Buffer.{room, over}
+use Rattle.refusal.specs.declared.Written.{Written}
+use Rattle.refusal.specs.declared.Written.the-variants.{Length, Refused}
 use Rattle.sharding.specs.Specification.{shardBits, allowed, noSuchShard}
 use Rattle.sharding.specs.declared.Sharding.{Sharding}
 use Rattle.names.specs.Digits.{digits}
@@ -22,16 +23,18 @@ suffix = 46 ∷ 115 ∷ 104 ∷ 97 ∷ 114 ∷ 100 ∷ []
 unfoldable pub shardName : Sharding → ℕ → List ℕ
 shardName spec shard = digits 16 (shardDigits spec) shard ++ suffix
 
--- what `shard_name` answers: 1, then 5, then 13, or the name's length
-unfoldable pub shardNameAnswer : Sharding → ℕ → List ℕ → Written
-shardNameAnswer spec shard out =
-    pick (not (allowed spec)) (Refused 1)
-    (pick (noSuchShard spec shard) (Refused 5)
-    (written (shardName spec shard) out))
+-- the refusals of `shard_name`: 1, then 5, then 13
+unfoldable pub shardNameChecks : Sharding → ℕ → List ℕ → List Check
+shardNameChecks spec shard out =
+    check 1 (not (allowed spec))
+    ∷ check 5 (noSuchShard spec shard)
+    ∷ room (shardName spec shard) out
+    ∷ []
 
--- and what it leaves in the buffer
+-- it answers the name's length
+unfoldable pub shardNameAnswer : Sharding → ℕ → List ℕ → Written
+shardNameAnswer spec shard out = answered Refused (shardNameChecks spec shard out) (Length (length (shardName spec shard)))
+
+-- and leaves the name at the front of the buffer
 unfoldable pub shardNameLeft : Sharding → ℕ → List ℕ → List ℕ
-shardNameLeft spec shard out =
-    pick (not (allowed spec)) out
-    (pick (noSuchShard spec shard) out
-    (leftBy (shardName spec shard) out))
+shardNameLeft spec shard out = left (shardNameChecks spec shard out) (over (shardName spec shard) out) out

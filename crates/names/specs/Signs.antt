@@ -3,7 +3,7 @@ use Prim.Native.Nat.{ℕ}
 use mathlib.Core.Bool.{Bool, true, false}
 use mathlib.Core.List.{List, _∷_, _++_}
 use lib.IntN.{ℤ, pos, negsuc, natAbs}
-use Rattle.endian.specs.Choice.{pick}
+use Rattle.refusal.specs.Choice.{pick}
 use Rattle.names.specs.declared.inner.Signed.{Signed}
 use Rattle.names.specs.declared.inner.Span.{Span}
 use Rattle.names.specs.Digits.{decimal}

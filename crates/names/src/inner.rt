@@ -1,17 +1,19 @@
 // Text at a place that the caller has tested.
 ghost use mathlib.Core.Path.{_≡_};
+ghost use mathlib.Core.Bool.{true};
 ghost use Prim.Native.Nat.{_+_, _<_, _≤_};
 ghost use lib.IntN.{natAbs};
 ghost use lib.ListN.{length};
 ghost use Rattle.endian.specs.Place.{paste};
+ghost use Rattle.sharding.specs.Specification.{allowed, noSuchShard};
 ghost use Rattle.names.specs.Digits.{digitByte, digits, digitCount, decimal};
 ghost use Rattle.names.specs.Signs.{negative, signed, signedText, spanOf, spanText, twoText, spansText};
-ghost use Rattle.endian.specs.Buffer.{written, leftBy};
+ghost use Rattle.refusal.specs.Buffer.{written, leftBy};
 ghost use Rattle.names.specs.Chunks.{boundsName};
 ghost use Rattle.names.specs.Shards.{shardDigits, suffix, shardName};
-use endian::Written;
 use endian::inner;
 use grid::Bounds;
+use refusal::Written;
 use sharding::Sharding;
 
 // A number as its text has it.
@@ -65,7 +67,7 @@ fn digit_count(v: u64, base: u64) -> usize
     n
 }
 
-pub fn decimal_len(v: u64) -> usize
+fn decimal_len(v: u64) -> usize
     ensures { λ r. ⌜ (r ≡ length (decimal v)) × (r ≤ 20) ⌝ }
 {
     digit_count(v, 10)
@@ -104,7 +106,7 @@ fn signed_of(z: i64) -> Signed
     }
 }
 
-pub fn span_of(begin: i64, end: i64) -> Span
+fn span_of(begin: i64, end: i64) -> Span
     ensures { λ r. ⌜ r ≡ spanOf begin end ⌝ }
 {
     let b = signed_of(begin);
@@ -167,13 +169,13 @@ fn put_two(out: &mut [u8], at: usize, y: Span, z: Span) -> usize
     put_span(out, m + 1, z)
 }
 
-pub fn spans_len(x: Span, y: Span, z: Span) -> usize
+fn spans_len(x: Span, y: Span, z: Span) -> usize
     ensures { λ r. ⌜ (r ≡ length (spansText x y z)) × (r ≤ 131) ⌝ }
 {
     span_len(x) + 1 + two_len(y, z)
 }
 
-pub fn put_spans(out: &mut [u8], at: usize, x: Span, y: Span, z: Span) -> usize
+fn put_spans(out: &mut [u8], at: usize, x: Span, y: Span, z: Span) -> usize
     requires { ⌜ at + length (spansText x y z) ≤ length (now out) ⌝ }
     ensures { λ r. ⌜ r ≡ at + length (spansText x y z) ⌝ }
     ensures { λ _. ⌜ now (out .exit) ≡ paste at (spansText x y z) (now (out .entry)) ⌝ }
@@ -204,6 +206,14 @@ pub fn bounds_name(bounds: Bounds, out: &mut [u8]) -> Written
     spans_name(span_of(b.x, e.x), span_of(b.y, e.y), span_of(b.z, e.z), out)
 }
 
+// Whether refusal 5 holds of a shard number.
+pub fn no_such_shard(spec: Sharding, shard: u64) -> bool
+    requires { ⌜ allowed spec ≡ true ⌝ }
+    ensures { λ r. ⌜ r ≡ noSuchShard spec shard ⌝ }
+{
+    sharding::inner::shard_count(spec) <= shard
+}
+
 // How many digits a shard number is padded to.
 fn shard_digits(spec: Sharding) -> usize
     ensures { λ r. ⌜ (r ≡ shardDigits spec) × (r ≤ 64) ⌝ }
@@ -214,7 +224,7 @@ fn shard_digits(spec: Sharding) -> usize
     (spec.shard_bits as usize + 3) / 4
 }
 
-pub fn shard_name_len(spec: Sharding) -> usize
+fn shard_name_len(spec: Sharding) -> usize
     ensures { λ r. ⌜ (r ≡ shardDigits spec + 6) × (r ≤ 70) ⌝ }
 {
     shard_digits(spec) + 6
@@ -238,4 +248,15 @@ pub fn put_shard_name(out: &mut [u8], at: usize, spec: Sharding, shard: u64) -> 
     put_digits(out, at, 16, n, shard);
     put_suffix(out, at + n);
     at + n + 6
+}
+
+// The name of a shard's file at the front of the buffer.
+pub fn file_name(spec: Sharding, shard: u64, out: &mut [u8]) -> Written
+    ensures { λ r. ⌜ r ≡ written (shardName spec shard) (now (out .entry)) ⌝ }
+    ensures { λ _. ⌜ now (out .exit) ≡ leftBy (shardName spec shard) (now (out .entry)) ⌝ }
+{
+    if out.len() < shard_name_len(spec) {
+        return Written::Refused(13);
+    }
+    Written::Length(put_shard_name(out, 0, spec, shard))
 }

@@ -4,10 +4,10 @@ pub mod inner;
 ghost use mathlib.Core.Path.{_≡_};
 ghost use Rattle.names.specs.Chunks.{chunkNameAnswer, chunkNameLeft};
 ghost use Rattle.names.specs.Shards.{shardNameAnswer, shardNameLeft};
-use endian::Written;
 use grid::BoundsAnswer;
 use grid::Cell;
 use grid::Volume;
+use refusal::Written;
 use sharding::Sharding;
 
 // The name of an unsharded chunk: refused with 2 or 13.
@@ -29,11 +29,8 @@ pub fn shard_name(spec: Sharding, shard: u64, out: &mut [u8]) -> Written
     if !sharding::inner::is_allowed(spec) {
         return Written::Refused(1);
     }
-    if sharding::inner::shard_count(spec) <= shard {
+    if inner::no_such_shard(spec, shard) {
         return Written::Refused(5);
     }
-    if out.len() < inner::shard_name_len(spec) {
-        return Written::Refused(13);
-    }
-    Written::Length(inner::put_shard_name(out, 0, spec, shard))
+    inner::file_name(spec, shard, out)
 }

@@ -1,8 +1,8 @@
 // The reading room's opened shard: the borrowed bytes with the specification and the shard number, opened once and asked many times.
 ghost use mathlib.Core.Path.{_≡_};
 ghost use Prim.Native.Nat.{_+_};
-ghost use Rattle.shard.specs.Find.{lookupAnswer, partStart, partBytes};
-use shard::LookupAnswer;
+ghost use Rattle.lookup.specs.Find.{lookupAnswer, partStart, partBytes};
+use lookup::LookupAnswer;
 use sharding::Sharding;
 
 pub struct Opened<'a> {
@@ -22,7 +22,7 @@ pub fn open_shard<'a>(spec: Sharding, number: u64, file: &'a [u8]) -> Opened<'a>
 pub fn lookup<'a>(o: Opened<'a>, id: u64) -> LookupAnswer
     ensures answer { λ r. ⌜ r ≡ lookupAnswer (o .entry .spec) (o .entry .number) (now (o .entry .file)) id ⌝ }
 {
-    shard::lookup(o.spec, o.number, o.file, id)
+    lookup::lookup(o.spec, o.number, o.file, id)
 }
 
 // The part that the plain call hands out, of the bytes that were lent to `open_shard`.
@@ -30,7 +30,7 @@ pub fn part<'a>(o: Opened<'a>, id: u64) -> &'a [u8]
     ensures answer { λ r. ⌜ now r ≡ partBytes (lookupAnswer (o .entry .spec) (o .entry .number) (now (o .entry .file)) id) (now (o .entry .file)) ⌝ }
     ensures place { λ r. ⌜ (r .ptr .0 ≡ o .entry .file .ptr .0) × (r .ptr .1 ≡ o .entry .file .ptr .1 + partStart (lookupAnswer (o .entry .spec) (o .entry .number) (now (o .entry .file)) id)) ⌝ }
 {
-    shard::part(o.spec, o.number, o.file, id)
+    lookup::part(o.spec, o.number, o.file, id)
 }
 
 // Both again with plain parameters: opened and asked once.

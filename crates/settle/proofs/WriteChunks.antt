@@ -14,19 +14,21 @@ use Rattle.endian.specs.Place.{paste}
 use Rattle.endian.specs.Range.{sumTo}
 use Rattle.endian.proofs.Copy.{part-length}
 use Rattle.endian.proofs.Paste.{paste-nil, paste-on}
+use Rattle.sharding.specs.declared.Sharding.{Sharding}
 use Rattle.shard.specs.Index.{startSteps, sizes, startAt, endAt, chunkAt}
 use Rattle.shard.specs.File.{mostShardBytes}
-use Rattle.settle.specs.Form.{Item, chunksOf, chunksLength}
-use Rattle.settle.specs.Content.{itemsFrom, itemsAt}
+use Rattle.shard.specs.Items.{Item}
+use Rattle.form.specs.Form.{chunksOf, chunksLength}
+use Rattle.form.specs.Content.{itemsFrom, itemsAt}
 use Rattle.settle.specs.Writing.{Readable, minishardLength, capped}
 use Rattle.settle.proofs.WriteRows.{items-cons, items-none, items-all}
 
 -- the items from entry i on
-abbrev pub restAt : List ℕ → ℕ → ℕ → ℕ → List Item
-restAt d s n i = itemsFrom d s n i (n - i)
+abbrev pub restAt : Sharding → List ℕ → ℕ → ℕ → ℕ → List Item
+restAt spec d s n i = itemsFrom spec d s n i (n - i)
 
-rest-all : (d : List ℕ) (s n : ℕ) → restAt d s n 0 ≡ itemsAt d s n
-rest-all d s n = rw (sub-zero, items-all d s n)
+rest-all : (spec : Sharding) (d : List ℕ) (s n : ℕ) → restAt spec d s n 0 ≡ itemsAt spec d s n
+rest-all spec d s n = rw (sub-zero, items-all spec d s n)
 
 chunks-nil : (xs : List Item) → xs ≡ [] → chunksOf xs ≡ []
 unfolding chunksOf
@@ -36,35 +38,35 @@ length-nil : (xs : List Item) → xs ≡ [] → chunksLength xs ≡ 0
 unfolding chunksLength
 length-nil xs e = rw e
 
-module _ (d : List ℕ) (s n i : ℕ) (l : i < n) where
-  next-chunks : chunksOf (restAt d s n i) ≡ chunkAt d s n i ++ chunksOf (restAt d s n (i + 1))
+module _ (spec : Sharding) (d : List ℕ) (s n i : ℕ) (l : i < n) where
+  next-chunks : chunksOf (restAt spec d s n i) ≡ chunkAt d s n i ++ chunksOf (restAt spec d s n (i + 1))
   unfolding chunksOf
   next-chunks =
       let e : n - i ≡ suc (n - (i + 1)) = omega arith in
-      rw (e, items-cons d s n i (n - (i + 1)), add-one i)
+      rw (e, items-cons spec d s n i (n - (i + 1)), add-one i)
 
-  pub next-length : endAt (startSteps d s n) (sizes d s n) i ≤ length d → chunksLength (restAt d s n i) ≡ sizes d s n i + chunksLength (restAt d s n (i + 1))
+  pub next-length : endAt (startSteps d s n) (sizes d s n) i ≤ length d → chunksLength (restAt spec d s n i) ≡ sizes d s n i + chunksLength (restAt spec d s n (i + 1))
   unfolding chunksLength
   next-length h =
       let e : n - i ≡ suc (n - (i + 1)) = omega arith in
       let t : length (chunkAt d s n i) ≡ sizes d s n i = part-length d _ _ h in
-      rw (e, items-cons d s n i (n - (i + 1)), add-one i, t) (omega arith)
+      rw (e, items-cons spec d s n i (n - (i + 1)), add-one i, t) (omega arith)
 
 -- ---- the loop that copies the chunks
 
 -- its head: out₀ is the output where it begins, at the place `at`; out is the output now
-pub record Copying (d : List ℕ) (s n : ℕ) (out₀ : List ℕ) (at : ℕ) (out : List ℕ) (i from to : ℕ) : Type 0 where
+pub record Copying (spec : Sharding) (d : List ℕ) (s n : ℕ) (out₀ : List ℕ) (at : ℕ) (out : List ℕ) (i from to : ℕ) : Type 0 where
   pub below : i ≤ n
   pub same : length out ≡ length out₀
   pub walked : from ≡ sumTo (startSteps d s n) i + sumTo (sizes d s n) i
-  pub room : to + chunksLength (restAt d s n i) ≡ at + chunksLength (itemsAt d s n)
-  pub left : paste to (chunksOf (restAt d s n i)) out ≡ paste at (chunksOf (itemsAt d s n)) out₀
+  pub room : to + chunksLength (restAt spec d s n i) ≡ at + chunksLength (itemsAt spec d s n)
+  pub left : paste to (chunksOf (restAt spec d s n i)) out ≡ paste at (chunksOf (itemsAt spec d s n)) out₀
 
-pub copying-first : (d : List ℕ) (s n : ℕ) (out : List ℕ) (at : ℕ) → Copying d s n out at out 0 0 at
+pub copying-first : (spec : Sharding) (d : List ℕ) (s n : ℕ) (out : List ℕ) (at : ℕ) → Copying spec d s n out at out 0 0 at
 unfolding sumTo
-copying-first d s n out at = record { below = omega arith; same = refl; walked = refl; room = rw (rest-all d s n); left = rw (rest-all d s n) }
+copying-first spec d s n out at = record { below = omega arith; same = refl; walked = refl; room = rw (rest-all spec d s n); left = rw (rest-all spec d s n) }
 
-module _ {d : List ℕ} {s n : ℕ} {out₀ : List ℕ} {at : ℕ} {out : List ℕ} {i from to : ℕ} (r : Readable d s n) (h : Copying d s n out₀ at out i from to) (l : i < n)
+module _ {spec : Sharding} {d : List ℕ} {s n : ℕ} {out₀ : List ℕ} {at : ℕ} {out : List ℕ} {i from to : ℕ} (r : Readable d s n) (h : Copying spec d s n out₀ at out i from to) (l : i < n)
     (u v : ℕ) (eu : u ≡ leAt 8 d (s + 8 * n + 8 * i)) (ev : v ≡ leAt 8 d (s + 16 * n + 8 * i)) where
   start-is : startAt (startSteps d s n) (sizes d s n) i ≡ from + u
   unfolding startAt sumTo
@@ -73,32 +75,32 @@ module _ {d : List ℕ} {s n : ℕ} {out₀ : List ℕ} {at : ℕ} {out : List �
   pub inside : from + u + v ≤ length d
   inside = omega (arith, r .inside i l, start-is)
 
-  rest-is : chunksLength (restAt d s n i) ≡ v + chunksLength (restAt d s n (i + 1))
-  rest-is = omega (arith, next-length d s n i l (r .inside i l))
+  rest-is : chunksLength (restAt spec d s n i) ≡ v + chunksLength (restAt spec d s n (i + 1))
+  rest-is = omega (arith, next-length spec d s n i l (r .inside i l))
 
-  outside : to + v ≤ at + chunksLength (itemsAt d s n)
+  outside : to + v ≤ at + chunksLength (itemsAt spec d s n)
   outside = omega (arith, h .room, rest-is)
 
-  pub to-fits : at + chunksLength (itemsAt d s n) ≤ length out₀ → length out₀ < 2 ^ 64 → Fits w64 (to + v)
+  pub to-fits : at + chunksLength (itemsAt spec d s n) ≤ length out₀ → length out₀ < 2 ^ 64 → Fits w64 (to + v)
   to-fits a b = record { fits = omega (arith, outside) }
 
-  pub room-out : at + chunksLength (itemsAt d s n) ≤ length out₀ → to + v ≤ length out
+  pub room-out : at + chunksLength (itemsAt spec d s n) ≤ length out₀ → to + v ≤ length out
   room-out a = omega (arith, outside, h .same)
 
   pub from-fits : length d < 2 ^ 64 → Fits w64 (from + u + v)
   from-fits b = record { fits = omega (arith, inside) }
 
-  pub copying-next : (out′ : List ℕ) → at + chunksLength (itemsAt d s n) ≤ length out₀ → length out′ ≡ length out
-      → out′ ≡ paste to (take v (drop (from + u) d)) out → Copying d s n out₀ at out′ (i + 1) (from + u + v) (to + v)
+  pub copying-next : (out′ : List ℕ) → at + chunksLength (itemsAt spec d s n) ≤ length out₀ → length out′ ≡ length out
+      → out′ ≡ paste to (take v (drop (from + u) d)) out → Copying spec d s n out₀ at out′ (i + 1) (from + u + v) (to + v)
   unfolding sumTo
   copying-next out′ g k e =
       let w = h .walked in
       let o = h .same in
       let f : chunkAt d s n i ≡ take v (drop (from + u) d) = rw (start-is, ← ev) in
       let p : length (take v (drop (from + u) d)) ≡ v = part-length d (from + u) v inside in
-      let t : paste (to + v) (chunksOf (restAt d s n (i + 1))) out′ ≡ paste to (chunksOf (restAt d s n i)) out =
-      rw (e, next-chunks d s n i l, f)
-      (paste-on to (take v (drop (from + u) d)) (chunksOf (restAt d s n (i + 1))) out (to + v) (omega (arith, room-out g)) (omega arith)) in
+      let t : paste (to + v) (chunksOf (restAt spec d s n (i + 1))) out′ ≡ paste to (chunksOf (restAt spec d s n i)) out =
+      rw (e, next-chunks spec d s n i l, f)
+      (paste-on to (take v (drop (from + u) d)) (chunksOf (restAt spec d s n (i + 1))) out (to + v) (omega (arith, room-out g)) (omega arith)) in
       record {
         below = omega arith;
         same = k ∙ h .same;
@@ -107,41 +109,41 @@ module _ {d : List ℕ} {s n : ℕ} {out₀ : List ℕ} {at : ℕ} {out : List �
         left = t ∙ h .left;
       }
 
-pub start-fits : {d : List ℕ} {s n : ℕ} {out₀ : List ℕ} {at : ℕ} {out : List ℕ} {i from to : ℕ} → Readable d s n → Copying d s n out₀ at out i from to → i < n
+pub start-fits : {spec : Sharding} {d : List ℕ} {s n : ℕ} {out₀ : List ℕ} {at : ℕ} {out : List ℕ} {i from to : ℕ} → Readable d s n → Copying spec d s n out₀ at out i from to → i < n
     → (u : ℕ) → u ≡ leAt 8 d (s + 8 * n + 8 * i) → length d < 2 ^ 64 → Fits w64 (from + u)
 start-fits r h l u e b = record { fits = omega (arith, inside r h l u _ e refl) }
 
 -- its end
-module _ {d : List ℕ} {s n : ℕ} {out₀ : List ℕ} {at : ℕ} {out : List ℕ} {i from to : ℕ} (h : Copying d s n out₀ at out i from to) (l : n ≤ i) where
-  none-left : restAt d s n i ≡ []
-  none-left = items-none d s n i (n - i) (omega arith)
+module _ {spec : Sharding} {d : List ℕ} {s n : ℕ} {out₀ : List ℕ} {at : ℕ} {out : List ℕ} {i from to : ℕ} (h : Copying spec d s n out₀ at out i from to) (l : n ≤ i) where
+  none-left : restAt spec d s n i ≡ []
+  none-left = items-none spec d s n i (n - i) (omega arith)
 
-  pub copied-length : to ≡ at + chunksLength (itemsAt d s n)
-  copied-length = omega (arith, h .room, length-nil (restAt d s n i) none-left)
+  pub copied-length : to ≡ at + chunksLength (itemsAt spec d s n)
+  copied-length = omega (arith, h .room, length-nil (restAt spec d s n i) none-left)
 
-  pub copied : out ≡ paste at (chunksOf (itemsAt d s n)) out₀
-  copied = sym (paste-nil to out) ∙ ap (λ (z : List ℕ). paste to z out) (sym (chunks-nil (restAt d s n i) none-left)) ∙ h .left
+  pub copied : out ≡ paste at (chunksOf (itemsAt spec d s n)) out₀
+  copied = sym (paste-nil to out) ∙ ap (λ (z : List ℕ). paste to z out) (sym (chunks-nil (restAt spec d s n i) none-left)) ∙ h .left
 
 pub ruleset copying = (copying-first, copying-next, inside, room-out, to-fits, from-fits, start-fits, copied-length, copied, needs)
 
 -- ---- the loop that adds up the sizes, up to the first length that is refused
 
-pub record Adding (d : List ℕ) (s n i sum : ℕ) : Type 0 where
+pub record Adding (spec : Sharding) (d : List ℕ) (s n i sum : ℕ) : Type 0 where
   pub below : i ≤ n
   pub most : sum ≤ mostShardBytes + 1
-  pub left : capped (sum + chunksLength (restAt d s n i)) ≡ capped (minishardLength d s n)
+  pub left : capped (sum + chunksLength (restAt spec d s n i)) ≡ capped (minishardLength spec d s n)
 
-pub adding-first : (d : List ℕ) (s n : ℕ) {sum : ℕ} → sum ≡ capped (0 + 24 * n) → Adding d s n 0 sum
-adding-first d s n e = record { below = omega arith; most = omega arith; left = rw (rest-all d s n) (omega arith) }
+pub adding-first : (spec : Sharding) (d : List ℕ) (s n : ℕ) {sum : ℕ} → sum ≡ capped (0 + 24 * n) → Adding spec d s n 0 sum
+adding-first spec d s n e = record { below = omega arith; most = omega arith; left = rw (rest-all spec d s n) (omega arith) }
 
-pub adding-next : {d : List ℕ} {s n i sum : ℕ} → Readable d s n → Adding d s n i sum → i < n → (v : ℕ) {sum′ : ℕ} → v ≡ leAt 8 d (s + 16 * n + 8 * i) → sum′ ≡ capped (sum + v)
-    → Adding d s n (i + 1) sum′
-adding-next {d} {s} {n} {i} r h l v ev e =
-    let t = next-length d s n i l (r .inside i l) in
+pub adding-next : {spec : Sharding} {d : List ℕ} {s n i sum : ℕ} → Readable d s n → Adding spec d s n i sum → i < n → (v : ℕ) {sum′ : ℕ} → v ≡ leAt 8 d (s + 16 * n + 8 * i) → sum′ ≡ capped (sum + v)
+    → Adding spec d s n (i + 1) sum′
+adding-next {spec} {d} {s} {n} {i} r h l v ev e =
+    let t = next-length spec d s n i l (r .inside i l) in
     let z = h .left in
     record { below = omega arith; most = omega arith; left = omega arith }
 
-pub added : {d : List ℕ} {s n i sum : ℕ} → Adding d s n i sum → n ≤ i → sum ≡ capped (minishardLength d s n)
-added {d} {s} {n} {i} h l = let m = h .most in omega (arith, h .left, length-nil (restAt d s n i) (items-none d s n i (n - i) (omega arith)))
+pub added : {spec : Sharding} {d : List ℕ} {s n i sum : ℕ} → Adding spec d s n i sum → n ≤ i → sum ≡ capped (minishardLength spec d s n)
+added {spec} {d} {s} {n} {i} h l = let m = h .most in omega (arith, h .left, length-nil (restAt spec d s n i) (items-none spec d s n i (n - i) (omega arith)))
 
 pub ruleset adding = (adding-first, adding-next, added, needs)

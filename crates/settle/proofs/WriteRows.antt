@@ -16,25 +16,27 @@ use Rattle.endian.proofs.Little.{le-leAt, length-le}
 use Rattle.endian.proofs.Copy.{part-length}
 use Rattle.endian.proofs.Paste.{paste-then}
 use Rattle.endian.proofs.Ranges.{sum-none}
+use Rattle.sharding.specs.declared.Sharding.{Sharding}
 use Rattle.shard.specs.Index.{idSteps, startSteps, sizes, idAt, endAt, chunkAt}
-use Rattle.settle.specs.Form.{chunksOf, chunksLength, idRow, startRow, sizeRow, indexOf, partOf}
-use Rattle.settle.specs.Content.{itemAt, itemsFrom, itemsAt}
+use Rattle.shard.specs.Items.{itemAt, leadLength}
+use Rattle.form.specs.Form.{chunksOf, chunksLength, idRow, startRow, sizeRow, indexOf, partOf}
+use Rattle.form.specs.Content.{itemsFrom, itemsAt}
 use Rattle.settle.specs.Writing.{Readable, minishardLength}
-use Rattle.settle.proofs.Measures.{length-chunks}
+use Rattle.form.proofs.Measures.{length-chunks}
 
 -- ---- the items of a minishard index, one after the other
 
-pub items-cons : (d : List ℕ) (s n i k : ℕ) → itemsFrom d s n i (suc k) ≡ record { id = idAt (idSteps d s) i; lead = []; body = chunkAt d s n i } ∷ itemsFrom d s n (suc i) k
-unfolding itemsFrom itemAt
-items-cons d s n i k = refl
+pub items-cons : (spec : Sharding) (d : List ℕ) (s n i k : ℕ) → itemsFrom spec d s n i (suc k) ≡ record { id = idAt (idSteps d s) i; lead = []; body = chunkAt d s n i } ∷ itemsFrom spec d s n (suc i) k
+unfolding itemsFrom itemAt leadLength
+items-cons spec d s n i k = refl
 
-pub items-none : (d : List ℕ) (s n i k : ℕ) → k ≡ 0 → itemsFrom d s n i k ≡ []
+pub items-none : (spec : Sharding) (d : List ℕ) (s n i k : ℕ) → k ≡ 0 → itemsFrom spec d s n i k ≡ []
 unfolding itemsFrom
-items-none d s n i k e = rw e
+items-none spec d s n i k e = rw e
 
-pub items-all : (d : List ℕ) (s n : ℕ) → itemsAt d s n ≡ itemsFrom d s n 0 n
+pub items-all : (spec : Sharding) (d : List ℕ) (s n : ℕ) → itemsAt spec d s n ≡ itemsFrom spec d s n 0 n
 unfolding itemsAt
-items-all d s n = refl
+items-all spec d s n = refl
 
 -- ---- rows that are read are bytes of the data
 
@@ -58,41 +60,41 @@ id-sum : (steps : ℕ → ℕ) (i : ℕ) → idAt steps i ≡ sumTo steps (suc i
 unfolding idAt
 id-sum steps i = refl
 
-ids-raw : (d : List ℕ) (s n i k : ℕ) → idRow (sumTo (idSteps d s) i) (itemsFrom d s n i k) ≡ raw d (s + 8 * i) k
+ids-raw : (spec : Sharding) (d : List ℕ) (s n i k : ℕ) → idRow (sumTo (idSteps d s) i) (itemsFrom spec d s n i k) ≡ raw d (s + 8 * i) k
 unfolding idRow raw
-ids-raw d s n i zero = rw (items-none d s n i 0 refl)
-ids-raw d s n i (suc k) =
+ids-raw spec d s n i zero = rw (items-none spec d s n i 0 refl)
+ids-raw spec d s n i (suc k) =
     let a = id-sum (idSteps d s) i in
     let b = id-step (idSteps d s) i in
     let e : s + 8 * i + 8 ≡ s + 8 * suc i = omega arith in
-    let r = ids-raw d s n (suc i) k in
-    rw (items-cons d s n i k) (cc)
+    let r = ids-raw spec d s n (suc i) k in
+    rw (items-cons spec d s n i k) (cc)
 
-sizes-raw : (d : List ℕ) (s n i k : ℕ) → ((j : ℕ) → j < n → endAt (startSteps d s n) (sizes d s n) j ≤ length d) → i + k ≤ n
-    → sizeRow (itemsFrom d s n i k) ≡ raw d (s + 16 * n + 8 * i) k
+sizes-raw : (spec : Sharding) (d : List ℕ) (s n i k : ℕ) → ((j : ℕ) → j < n → endAt (startSteps d s n) (sizes d s n) j ≤ length d) → i + k ≤ n
+    → sizeRow (itemsFrom spec d s n i k) ≡ raw d (s + 16 * n + 8 * i) k
 unfolding sizeRow raw
-sizes-raw d s n i zero h l = rw (items-none d s n i 0 refl)
-sizes-raw d s n i (suc k) h l =
+sizes-raw spec d s n i zero h l = rw (items-none spec d s n i 0 refl)
+sizes-raw spec d s n i (suc k) h l =
     let t : length (chunkAt d s n i) ≡ leAt 8 d (s + 16 * n + 8 * i) = part-length d _ _ (h i (omega arith)) in
     let e : s + 16 * n + 8 * i + 8 ≡ s + 16 * n + 8 * suc i = omega arith in
-    let r = sizes-raw d s n (suc i) k h (omega arith) in
-    rw (items-cons d s n i k) (cc)
+    let r = sizes-raw spec d s n (suc i) k h (omega arith) in
+    rw (items-cons spec d s n i k) (cc)
 
 -- ---- the start steps: the first is the place of the minishard, and as there are no leads the others are 0
 
-starts-zero : (d : List ℕ) (s n i k : ℕ) → row (startRow 0 (itemsFrom d s n i k)) ≡ replicate (8 * k) 0
+starts-zero : (spec : Sharding) (d : List ℕ) (s n i k : ℕ) → row (startRow 0 (itemsFrom spec d s n i k)) ≡ replicate (8 * k) 0
 unfolding row startRow le
-starts-zero d s n i zero = rw (items-none d s n i 0 refl)
-starts-zero d s n i (suc k) =
+starts-zero spec d s n i zero = rw (items-none spec d s n i 0 refl)
+starts-zero spec d s n i (suc k) =
     let e : 8 * suc k ≡ 8 + 8 * k = omega arith in
-    rw (items-cons d s n i k, starts-zero d s n (suc i) k, e, ← replicate-append-replicate {A = ℕ} 8 (8 * k) 0)
+    rw (items-cons spec d s n i k, starts-zero spec d s n (suc i) k, e, ← replicate-append-replicate {A = ℕ} 8 (8 * k) 0)
 
-starts-bytes : (d : List ℕ) (s n p : ℕ) → 0 < n → row (startRow p (itemsFrom d s n 0 n)) ≡ le 8 p ++ replicate (8 * n - 8) 0
+starts-bytes : (spec : Sharding) (d : List ℕ) (s n p : ℕ) → 0 < n → row (startRow p (itemsFrom spec d s n 0 n)) ≡ le 8 p ++ replicate (8 * n - 8) 0
 unfolding row startRow
-starts-bytes d s zero p l = absurd (not-suc-le-zero l)
-starts-bytes d s (suc k) p l =
+starts-bytes spec d s zero p l = absurd (not-suc-le-zero l)
+starts-bytes spec d s (suc k) p l =
     let e : 8 * suc k - 8 ≡ 8 * k = omega arith in
-    rw (items-cons d s (suc k) 0 k, starts-zero d s (suc k) 1 k, add-zero p, e)
+    rw (items-cons spec d s (suc k) 0 k, starts-zero spec d s (suc k) 1 k, add-zero p, e)
 
 pub starts-written : (p n at : ℕ) (o : List ℕ) {o₁ o₂ : List ℕ} → at + 8 * n ≤ length o → 0 < n → o₁ ≡ paste at (le 8 p) o
     → o₂ ≡ paste (at + 8) (replicate (8 * n - 8) 0) o₁ → o₂ ≡ paste at (le 8 p ++ replicate (8 * n - 8) 0) o
@@ -102,32 +104,32 @@ starts-written p n at o l h u v =
 -- ---- a settled minishard
 
 -- as it is written
-part-is : (d : List ℕ) (s n p : ℕ) → Readable d s n → ((i : ℕ) → getD d i 0 < 256)
-    → partOf p (itemsAt d s n) ≡ chunksOf (itemsAt d s n) ++ (take (8 * n) (drop s d) ++ ((le 8 p ++ replicate (8 * n - 8) 0) ++ take (8 * n) (drop (s + 16 * n) d)))
+part-is : (spec : Sharding) (d : List ℕ) (s n p : ℕ) → Readable d s n → ((i : ℕ) → getD d i 0 < 256)
+    → partOf p (itemsAt spec d s n) ≡ chunksOf (itemsAt spec d s n) ++ (take (8 * n) (drop s d) ++ ((le 8 p ++ replicate (8 * n - 8) 0) ++ take (8 * n) (drop (s + 16 * n) d)))
 unfolding partOf indexOf itemsAt
-part-is d s n p r b =
+part-is spec d s n p r b =
     let w = r .index in
-    let a : idRow 0 (itemsFrom d s n 0 n) ≡ raw d s n =
-    ap (λ (z : ℕ). idRow z (itemsFrom d s n 0 n)) (sum-none (idSteps d s)) ∙ ids-raw d s n 0 n ∙ ap (λ (z : ℕ). raw d z n) (omega arith) in
-    let z : sizeRow (itemsFrom d s n 0 n) ≡ raw d (s + 16 * n) n =
-    sizes-raw d s n 0 n (r .inside) (omega arith) ∙ ap (λ (z : ℕ). raw d z n) (omega arith) in
-    rw (a, z, row-raw d s n b (omega arith), row-raw d (s + 16 * n) n b (omega arith), starts-bytes d s n p (r .some))
+    let a : idRow 0 (itemsFrom spec d s n 0 n) ≡ raw d s n =
+    ap (λ (z : ℕ). idRow z (itemsFrom spec d s n 0 n)) (sum-none (idSteps d s)) ∙ ids-raw spec d s n 0 n ∙ ap (λ (z : ℕ). raw d z n) (omega arith) in
+    let z : sizeRow (itemsFrom spec d s n 0 n) ≡ raw d (s + 16 * n) n =
+    sizes-raw spec d s n 0 n (r .inside) (omega arith) ∙ ap (λ (z : ℕ). raw d z n) (omega arith) in
+    rw (a, z, row-raw d s n b (omega arith), row-raw d (s + 16 * n) n b (omega arith), starts-bytes spec d s n p (r .some))
 
 -- four writes make it
-pub part-written : (d : List ℕ) (s n p at ids : ℕ) (o : List ℕ) {o₁ o₂ o₃ o₄ : List ℕ} → Readable d s n → ((i : ℕ) → Fits w8 (getD d i 0))
-    → at + minishardLength d s n ≤ length o → ids ≡ at + chunksLength (itemsAt d s n)
-    → o₁ ≡ paste at (chunksOf (itemsAt d s n)) o
+pub part-written : (spec : Sharding) (d : List ℕ) (s n p at ids : ℕ) (o : List ℕ) {o₁ o₂ o₃ o₄ : List ℕ} → Readable d s n → ((i : ℕ) → Fits w8 (getD d i 0))
+    → at + minishardLength spec d s n ≤ length o → ids ≡ at + chunksLength (itemsAt spec d s n)
+    → o₁ ≡ paste at (chunksOf (itemsAt spec d s n)) o
     → o₂ ≡ paste ids (take (8 * n) (drop s d)) o₁
     → o₃ ≡ paste (ids + 8 * n) (le 8 p ++ replicate (8 * n - 8) 0) o₂
     → o₄ ≡ paste (ids + 8 * n + 8 * n) (take (8 * n) (drop (s + 16 * n) d)) o₃
-    → o₄ ≡ paste at (partOf p (itemsAt d s n)) o
-part-written d s n p at ids o r b l e h₁ h₂ h₃ h₄ =
+    → o₄ ≡ paste at (partOf p (itemsAt spec d s n)) o
+part-written spec d s n p at ids o r b l e h₁ h₂ h₃ h₄ =
     let w = r .index in
-    let A = chunksOf (itemsAt d s n) in
+    let A = chunksOf (itemsAt spec d s n) in
     let B = take (8 * n) (drop s d) in
     let C = le 8 p ++ replicate (8 * n - 8) 0 in
     let D = take (8 * n) (drop (s + 16 * n) d) in
-    let la = length-chunks (itemsAt d s n) in
+    let la = length-chunks (itemsAt spec d s n) in
     let lb : length B ≡ 8 * n = part-length d s (8 * n) (omega arith) in
     let lc : length C ≡ 8 * n = simp (length-append, length-le, length-replicate) (omega (arith, r .some)) in
     let lab = length-append A B in
@@ -135,7 +137,7 @@ part-written d s n p at ids o r b l e h₁ h₂ h₃ h₄ =
     let g₂ = paste-then at ids A B o h₁ h₂ (omega arith) (omega arith) in
     let g₃ = paste-then at (ids + 8 * n) (A ++ B) C o g₂ h₃ (omega arith) (omega arith) in
     let g₄ = paste-then at (ids + 8 * n + 8 * n) ((A ++ B) ++ C) D o g₃ h₄ (omega arith) (omega arith) in
-    g₄ ∙ rw (part-is d s n p r (λ i. b i .fits)) (simp append-assoc)
+    g₄ ∙ rw (part-is spec d s n p r (λ i. b i .fits)) (simp append-assoc)
 
 -- two writes make an entry of the shard index
 pub entry-written : (b e at : ℕ) (o : List ℕ) {o₁ o₂ : List ℕ} → at + 16 ≤ length o → o₁ ≡ paste at (le 8 b) o → o₂ ≡ paste (at + 8) (le 8 e) o₁

@@ -1,6 +1,7 @@
 -- A whole shard: a minishard with its entry, and a turn over the minishards, writing them and adding up their lengths.
 use Prim.Native.Nat.{ℕ, zero, suc, _+_, _*_, _-_, _/_, _^_, _≤_, _<_}
 use mathlib.Core.Path.{_≡_, refl, sym, ap, _∙_}
+use mathlib.Core.Bool.{true}
 use mathlib.Core.Logic.{_⊎_, ⊎-elim}
 use mathlib.Core.List.{List, [], _∷_, _++_, append-assoc, append-nil}
 use native.Mathlib.Omega.{arith}
@@ -11,23 +12,32 @@ use borrow.Author.Needs.{needs}
 use mir.Val.{Fits}
 use mir.Syntax.{w64}
 use lib.ListN.{length}
+use Rattle.refusal.specs.Buffer.{over}
 use Rattle.endian.specs.Little.{row}
 use Rattle.endian.specs.Place.{paste}
 use Rattle.endian.proofs.Little.{length-row}
-use Rattle.endian.proofs.Paste.{paste-nil, paste-on, paste-apart, paste-reach, length-paste}
+use Rattle.endian.proofs.Paste.{paste-nil, paste-front, paste-on, paste-apart, paste-reach, length-paste}
+use Rattle.sharding.specs.declared.Sharding.{Sharding}
+use Rattle.sharding.specs.Specification.{allowed, minishardCount}
 use Rattle.shard.specs.Index.{entryStart, entryEnd, entryCount}
 use Rattle.shard.specs.File.{mostShardBytes}
-use Rattle.settle.specs.Form.{Item, chunksOf, chunksLength, idRow, startRow, sizeRow, indexOf, partOf, partLength, partsFrom, partsLength, entryBegin, entryFinish, entriesFrom, settled}
-use Rattle.settle.specs.Content.{itemsFrom, itemsAt, itemsOf, contentFrom}
-use Rattle.settle.specs.Writing.{Readable, Settleable, SettleableIn, SettleableParts, minishardLength, lengthIn, wholeLength, entryBytes, capped}
-use Rattle.settle.proofs.Measures.{length-part, length-items, length-shard-index, length-content-from}
+use Rattle.shard.specs.Items.{Item, leadLength, itemAt}
+use Rattle.form.specs.Form.{chunksOf, chunksLength, idRow, startRow, sizeRow, indexOf, partOf, partLength, partsFrom, partsLength, entryBegin, entryFinish, entriesFrom, settled, settledLength}
+use Rattle.form.specs.Sorted.{sortBy}
+use Rattle.form.specs.Content.{itemsFrom, itemsAt, itemsOf, byId, contentFrom, contentOf, formOf, formLength}
+use Rattle.settle.specs.Writing.{volume, Readable, Settleable, SettleableIn, SettleableParts, SettleableShard, minishardLength, oneLength, wholeLength, entryBytes, capped}
+use Rattle.form.proofs.Measures.{length-part, length-items, part-by-id, length-shard-index, length-content-from, length-content}
+use Rattle.form.proofs.Stored.{by-id-stored}
 use Rattle.settle.proofs.WriteRows.{items-none, items-all}
 
 -- ---- one minishard and its entry
 
-part-length : (d : List ℕ) (s n : ℕ) → partLength (itemsAt d s n) ≡ minishardLength d s n
+stored-length : (spec : Sharding) (d : List ℕ) (s n : ℕ) → partLength (itemsAt spec d s n) ≡ minishardLength spec d s n
 unfolding partLength
-part-length d s n = rw (length-items d s n)
+stored-length spec d s n = rw (length-items spec d s n)
+
+sorted-length : (spec : Sharding) (index d : List ℕ) (m : ℕ) → partLength (byId (itemsOf spec index d m)) ≡ oneLength spec index d m
+sorted-length spec index d m = part-by-id (itemsOf spec index d m) ∙ stored-length spec d (entryStart index m) (entryCount (entryStart index m) (entryEnd index m))
 
 -- a minishard that is not empty has entries, and all of its minishard index
 readable : (d : List ℕ) (s e : ℕ) → Settleable d s e → (s ≡ e → ⊥) → Readable d s (entryCount s e)
@@ -41,75 +51,80 @@ readable d s e t h =
     apart : (a b : ℕ) → a ≤ b → (a ≡ b) ⊎ (a < b)
     apart a b q = eq-or-lt-of-le q
 
-none-items : (d : List ℕ) (s e : ℕ) → s ≡ e → itemsAt d s (entryCount s e) ≡ []
-none-items d s e q = items-all d s (entryCount s e) ∙ items-none d s (entryCount s e) 0 (entryCount s e) (omega arith)
+none-items : (spec : Sharding) (d : List ℕ) (s e : ℕ) → s ≡ e → itemsAt spec d s (entryCount s e) ≡ []
+none-items spec d s e q = items-all spec d s (entryCount s e) ∙ items-none spec d s (entryCount s e) 0 (entryCount s e) (omega arith)
 
-none-length : (d : List ℕ) (s e : ℕ) → s ≡ e → 0 ≡ minishardLength d s (entryCount s e)
+none-sorted : (spec : Sharding) (d : List ℕ) (s e : ℕ) → s ≡ e → byId (itemsAt spec d s (entryCount s e)) ≡ []
+unfolding byId sortBy
+none-sorted spec d s e q = rw (none-items spec d s e q)
+
+none-length : (spec : Sharding) (d : List ℕ) (s e : ℕ) → s ≡ e → 0 ≡ minishardLength spec d s (entryCount s e)
 unfolding chunksLength
-none-length d s e q = rw (none-items d s e q) (omega arith)
+none-length spec d s e q = rw (none-items spec d s e q) (omega arith)
 
-none-written : (d : List ℕ) (s e p at at′ : ℕ) (o : List ℕ) → s ≡ e
-    → paste at (row (0 ∷ 0 ∷ [])) o ≡ paste at (entryBytes p (itemsAt d s (entryCount s e))) (paste at′ (partOf p (itemsAt d s (entryCount s e))) o)
+none-written : (spec : Sharding) (d : List ℕ) (s e p at at′ : ℕ) (o : List ℕ) → s ≡ e
+    → paste at (row (0 ∷ 0 ∷ [])) o ≡ paste at (entryBytes p (byId (itemsAt spec d s (entryCount s e)))) (paste at′ (partOf p (byId (itemsAt spec d s (entryCount s e)))) o)
 unfolding entryBytes entryBegin entryFinish partOf chunksOf indexOf idRow startRow sizeRow row
-none-written d s e p at at′ o q = rw (none-items d s e q, paste-nil at′ o)
+none-written spec d s e p at at′ o q = rw (none-sorted spec d s e q, paste-nil at′ o)
 
-some-entry : (d : List ℕ) (s n p : ℕ) → 0 < n → entryBytes p (itemsAt d s n) ≡ row ((p + chunksLength (itemsAt d s n)) ∷ (p + minishardLength d s n) ∷ [])
+some-entry : (spec : Sharding) (d : List ℕ) (s n p : ℕ) → 0 < n → entryBytes p (itemsAt spec d s n) ≡ row ((p + chunksLength (itemsAt spec d s n)) ∷ (p + minishardLength spec d s n) ∷ [])
 unfolding entryBytes entryBegin entryFinish itemsAt itemsFrom
-some-entry d s zero p l = absurd (not-suc-le-zero l)
-some-entry d s (suc k) p l = ap (λ (z : ℕ). row ((p + chunksLength (itemsAt d s (suc k))) ∷ (p + z) ∷ [])) (part-length d s (suc k))
+some-entry spec d s zero p l = absurd (not-suc-le-zero l)
+some-entry spec d s (suc k) p l = ap (λ (z : ℕ). row ((p + chunksLength (itemsAt spec d s (suc k))) ∷ (p + z) ∷ [])) (stored-length spec d s (suc k))
 
 -- of a minishard whose entry was read: s and e are what was read
-module _ (index d : List ℕ) (m : ℕ) {s e : ℕ} (es : s ≡ entryStart index m) (ee : e ≡ entryEnd index m) where
+module _ (spec : Sharding) (index d : List ℕ) (m : ℕ) {s e : ℕ} (es : s ≡ entryStart index m) (ee : e ≡ entryEnd index m) where
   pub ordered-read : SettleableIn index d m → s ≤ e
   ordered-read t = rw (es, ee) (t .ordered)
 
   pub readable-read : SettleableIn index d m → (s ≡ e → ⊥) → Readable d s ((e - s) / 24)
   readable-read t h = readable d s e (rw (es, ee) t) h
 
-  pub none-length-read : s ≡ e → 0 ≡ lengthIn index d m
-  none-length-read q = none-length d (entryStart index m) (entryEnd index m) (rw (es, ee) at q)
+  pub none-length-read : s ≡ e → 0 ≡ oneLength spec index d m
+  none-length-read q = none-length spec d (entryStart index m) (entryEnd index m) (rw (es, ee) at q)
 
-  pub none-capped-read : s ≡ e → 0 ≡ capped (lengthIn index d m)
+  pub none-capped-read : s ≡ e → 0 ≡ capped (oneLength spec index d m)
   none-capped-read q = omega (arith, none-length-read q)
 
   pub none-read : (base p : ℕ) (o : List ℕ) {o₁ : List ℕ} → s ≡ e → o₁ ≡ paste (16 * m) (row (0 ∷ 0 ∷ [])) o
-      → o₁ ≡ paste (16 * m) (entryBytes p (itemsOf index d m)) (paste (base + p) (partOf p (itemsOf index d m)) o)
-  none-read base p o q w = w ∙ none-written d (entryStart index m) (entryEnd index m) p (16 * m) (base + p) o (rw (es, ee) at q)
+      → o₁ ≡ paste (16 * m) (entryBytes p (byId (itemsOf spec index d m))) (paste (base + p) (partOf p (byId (itemsOf spec index d m))) o)
+  none-read base p o q w = w ∙ none-written spec d (entryStart index m) (entryEnd index m) p (16 * m) (base + p) o (rw (es, ee) at q)
 
-  pub length-read : {len : ℕ} → len ≡ minishardLength d s ((e - s) / 24) → len ≡ lengthIn index d m
+  pub length-read : {len : ℕ} → len ≡ minishardLength spec d s ((e - s) / 24) → len ≡ oneLength spec index d m
   length-read h = h ∙ rw (es, ee)
 
-  pub capped-read : {len : ℕ} → len ≡ capped (minishardLength d s ((e - s) / 24)) → len ≡ capped (lengthIn index d m)
+  pub capped-read : {len : ℕ} → len ≡ capped (minishardLength spec d s ((e - s) / 24)) → len ≡ capped (oneLength spec index d m)
   capped-read h = h ∙ rw (es, ee)
 
-  pub room-read : (base p : ℕ) (out : List ℕ) → base + p + lengthIn index d m ≤ length out → base + p + minishardLength d s ((e - s) / 24) ≤ length out
+  pub room-read : (base p : ℕ) (out : List ℕ) → base + p + oneLength spec index d m ≤ length out → base + p + minishardLength spec d s ((e - s) / 24) ≤ length out
   room-read base p out h = rw (es, ee) h
 
-  pub end-read : (base p : ℕ) (out : List ℕ) (len : ℕ) → len ≡ minishardLength d s ((e - s) / 24) → base + p + lengthIn index d m ≤ length out
+  pub end-read : (base p : ℕ) (out : List ℕ) (len : ℕ) → len ≡ minishardLength spec d s ((e - s) / 24) → base + p + oneLength spec index d m ≤ length out
       → length out < 2 ^ 64 → Fits w64 (p + len)
   end-read base p out len h r f = record { fits = omega (arith, length-read h) }
 
-  pub one-read : (base p : ℕ) (o : List ℕ) {len : ℕ} {o₁ o₂ : List ℕ} → SettleableIn index d m → (s ≡ e → ⊥) → len ≡ minishardLength d s ((e - s) / 24)
-      → o₁ ≡ paste (base + p) (partOf p (itemsAt d s ((e - s) / 24))) o
+  pub one-read : (base p : ℕ) (o : List ℕ) {len : ℕ} {o₁ o₂ : List ℕ} → SettleableIn index d m → (s ≡ e → ⊥) → len ≡ minishardLength spec d s ((e - s) / 24)
+      → o₁ ≡ paste (base + p) (partOf p (itemsAt spec d s ((e - s) / 24))) o
       → o₂ ≡ paste (16 * m) (row ((p + len - 24 * ((e - s) / 24)) ∷ (p + len) ∷ [])) o₁
-      → o₂ ≡ paste (16 * m) (entryBytes p (itemsOf index d m)) (paste (base + p) (partOf p (itemsOf index d m)) o)
+      → o₂ ≡ paste (16 * m) (entryBytes p (byId (itemsOf spec index d m))) (paste (base + p) (partOf p (byId (itemsOf spec index d m))) o)
   one-read base p o {len} t h el w₁ w₂ =
       let n = (e - s) / 24 in
-      let a : p + len - 24 * n ≡ p + chunksLength (itemsAt d s n) = omega arith in
-      let b : p + len ≡ p + minishardLength d s n = omega arith in
-      w₂ ∙ rw (a, b, w₁, ← some-entry d s n p (readable-read t h .some), es, ee)
+      let a : p + len - 24 * n ≡ p + chunksLength (itemsAt spec d s n) = omega arith in
+      let b : p + len ≡ p + minishardLength spec d s n = omega arith in
+      let k = by-id-stored spec d (entryStart index m) (entryCount (entryStart index m) (entryEnd index m)) (t .rising) in
+      w₂ ∙ rw (k, a, b, w₁, ← some-entry spec d s n p (readable-read t h .some), es, ee)
 
 pub ruleset reading = (ordered-read, readable-read, none-length-read, none-capped-read, none-read, length-read, capped-read, room-read, end-read, one-read, needs)
 
 -- ---- the shard
 
-content-cons : (index d : List ℕ) (m k : ℕ) → contentFrom index d m (suc k) ≡ itemsOf index d m ∷ contentFrom index d (suc m) k
+content-cons : (spec : Sharding) (index d : List ℕ) (m k : ℕ) → contentFrom spec index d m (suc k) ≡ byId (itemsOf spec index d m) ∷ contentFrom spec index d (suc m) k
 unfolding contentFrom
-content-cons index d m k = refl
+content-cons spec index d m k = refl
 
-content-none : (index d : List ℕ) (m k : ℕ) → k ≡ 0 → contentFrom index d m k ≡ []
+content-none : (spec : Sharding) (index d : List ℕ) (m k : ℕ) → k ≡ 0 → contentFrom spec index d m k ≡ []
 unfolding contentFrom
-content-none index d m k e = rw e
+content-none spec index d m k e = rw e
 
 entries-cons : (p : ℕ) (xs : List Item) (c : List (List Item)) → row (entriesFrom p (xs ∷ c)) ≡ entryBytes p xs ++ row (entriesFrom (p + partLength xs) c)
 unfolding entriesFrom row entryBytes
@@ -140,20 +155,20 @@ unfolding entryBytes
 length-entry p xs = length-row (entryBegin p xs ∷ entryFinish p xs ∷ [])
 
 -- minishards from m on
-abbrev pub from : List ℕ → List ℕ → ℕ → ℕ → List (List Item)
-from index d n m = contentFrom index d m (n - m)
+abbrev pub from : Sharding → List ℕ → List ℕ → ℕ → ℕ → List (List Item)
+from spec index d n m = contentFrom spec index d m (n - m)
 
-module _ (index d : List ℕ) (n m : ℕ) (l : m < n) where
-  from-cons : from index d n m ≡ itemsOf index d m ∷ from index d n (m + 1)
+module _ (spec : Sharding) (index d : List ℕ) (n m : ℕ) (l : m < n) where
+  from-cons : from spec index d n m ≡ byId (itemsOf spec index d m) ∷ from spec index d n (m + 1)
   from-cons =
       let e : n - m ≡ suc (n - (m + 1)) = omega arith in
-      rw (e, content-cons index d m (n - (m + 1)), add-one m)
+      rw (e, content-cons spec index d m (n - (m + 1)), add-one m)
 
-  length-next : partsLength (from index d n m) ≡ lengthIn index d m + partsLength (from index d n (m + 1))
-  length-next = rw from-cons (length-cons _ _ ∙ rw (part-length d (entryStart index m) (entryCount (entryStart index m) (entryEnd index m))))
+  length-next : partsLength (from spec index d n m) ≡ oneLength spec index d m + partsLength (from spec index d n (m + 1))
+  length-next = rw from-cons (length-cons _ _ ∙ rw (sorted-length spec index d m))
 
-length-none : (index d : List ℕ) (n m : ℕ) → n ≤ m → partsLength (from index d n m) ≡ 0
-length-none index d n m l = length-nil (from index d n m) (content-none index d m (n - m) (omega arith))
+length-none : (spec : Sharding) (index d : List ℕ) (n m : ℕ) → n ≤ m → partsLength (from spec index d n m) ≡ 0
+length-none spec index d n m l = length-nil (from spec index d n m) (content-none spec index d m (n - m) (omega arith))
 
 -- two writes go on, each where it ended before: the entries and the minishards
 paste-both : (a a′ : ℕ) (E I : List ℕ) (b b′ : ℕ) (P B d : List ℕ) → a + length E ≡ a′ → b + length P ≡ b′ → a′ ≤ b → b′ ≤ length d
@@ -170,19 +185,19 @@ paste-done : (at : ℕ) (xs d : List ℕ) {e : List ℕ} → xs ≡ [] → paste
 paste-done at xs d n h = sym (paste-nil at d) ∙ ap (λ (z : List ℕ). paste at z d) (sym n) ∙ h
 
 -- the loop's head: out₀ is the output where it begins; out is the output now
-pub record Settling (index d : List ℕ) (n : ℕ) (out₀ out : List ℕ) (m p : ℕ) : Type 0 where
+pub record Settling (spec : Sharding) (index d : List ℕ) (n : ℕ) (out₀ out : List ℕ) (m p : ℕ) : Type 0 where
   pub below : m ≤ n
   pub same : length out ≡ length out₀
-  pub room : p + partsLength (from index d n m) ≡ partsLength (contentFrom index d 0 n)
-  pub left : paste (16 * m) (row (entriesFrom p (from index d n m))) (paste (16 * n + p) (partsFrom p (from index d n m)) out)
-      ≡ paste 0 (settled (contentFrom index d 0 n)) out₀
+  pub room : p + partsLength (from spec index d n m) ≡ partsLength (contentFrom spec index d 0 n)
+  pub left : paste (16 * m) (row (entriesFrom p (from spec index d n m))) (paste (16 * n + p) (partsFrom p (from spec index d n m)) out)
+      ≡ paste 0 (settled (contentFrom spec index d 0 n)) out₀
 
-pub settling-first : (index d : List ℕ) (n : ℕ) (out : List ℕ) → wholeLength index d n ≤ length out → Settling index d n out out 0 0
+pub settling-first : (spec : Sharding) (index d : List ℕ) (n : ℕ) (out : List ℕ) → wholeLength spec index d n ≤ length out → Settling spec index d n out out 0 0
 unfolding settled
-settling-first index d n out h =
-    let c = contentFrom index d 0 n in
+settling-first spec index d n out h =
+    let c = contentFrom spec index d 0 n in
     let E = row (entriesFrom 0 c) in
-    let l : length E ≡ 16 * n = length-shard-index 0 c ∙ ap (λ (z : ℕ). 16 * z) (length-content-from index d 0 n) in
+    let l : length E ≡ 16 * n = length-shard-index 0 c ∙ ap (λ (z : ℕ). 16 * z) (length-content-from spec index d 0 n) in
     record {
       below = omega arith;
       same = refl;
@@ -193,49 +208,49 @@ settling-first index d n out h =
           ∙ paste-on 0 E (partsFrom 0 c) out (16 * n + 0) (omega arith) (omega arith));
     }
 
-module _ {index d : List ℕ} {n : ℕ} {out₀ out : List ℕ} {m p : ℕ} (h : Settling index d n out₀ out m p) (b : wholeLength index d n ≤ length out₀) where
-  pub one-room : m < n → 16 * n + p + lengthIn index d m ≤ length out
-  one-room l = omega (arith, length-next index d n m l, h .room, h .same)
+module _ {spec : Sharding} {index d : List ℕ} {n : ℕ} {out₀ out : List ℕ} {m p : ℕ} (h : Settling spec index d n out₀ out m p) (b : wholeLength spec index d n ≤ length out₀) where
+  pub one-room : m < n → 16 * n + p + oneLength spec index d m ≤ length out
+  one-room l = omega (arith, length-next spec index d n m l, h .room, h .same)
 
-  pub place-fits : (len : ℕ) → m < n → length out₀ < 2 ^ 64 → len ≡ lengthIn index d m → Fits w64 (p + len)
+  pub place-fits : (len : ℕ) → m < n → length out₀ < 2 ^ 64 → len ≡ oneLength spec index d m → Fits w64 (p + len)
   place-fits len l f e = record { fits = omega (arith, one-room l, h .same) }
 
-  pub settling-next : (len : ℕ) (out′ : List ℕ) → m < n → length out′ ≡ length out → len ≡ lengthIn index d m
-      → out′ ≡ paste (16 * m) (entryBytes p (itemsOf index d m)) (paste (16 * n + p) (partOf p (itemsOf index d m)) out)
-      → Settling index d n out₀ out′ (m + 1) (p + len)
+  pub settling-next : (len : ℕ) (out′ : List ℕ) → m < n → length out′ ≡ length out → len ≡ oneLength spec index d m
+      → out′ ≡ paste (16 * m) (entryBytes p (byId (itemsOf spec index d m))) (paste (16 * n + p) (partOf p (byId (itemsOf spec index d m))) out)
+      → Settling spec index d n out₀ out′ (m + 1) (p + len)
   settling-next len out′ l k e w =
       let s = h .same in
-      let xs = itemsOf index d m in
-      let c = from index d n (m + 1) in
-      let pl : partLength xs ≡ len = part-length d (entryStart index m) (entryCount (entryStart index m) (entryEnd index m)) ∙ sym e in
+      let xs = byId (itemsOf spec index d m) in
+      let c = from spec index d n (m + 1) in
+      let pl : partLength xs ≡ len = sorted-length spec index d m ∙ sym e in
       let lp = length-part p xs in
-      let E : row (entriesFrom p (from index d n m)) ≡ entryBytes p xs ++ row (entriesFrom (p + len) c) =
-      rw (from-cons index d n m l) (entries-cons p xs c ∙ rw pl) in
-      let B : partsFrom p (from index d n m) ≡ partOf p xs ++ partsFrom (p + len) c = rw (from-cons index d n m l) (parts-cons p xs c ∙ rw pl) in
+      let E : row (entriesFrom p (from spec index d n m)) ≡ entryBytes p xs ++ row (entriesFrom (p + len) c) =
+      rw (from-cons spec index d n m l) (entries-cons p xs c ∙ rw pl) in
+      let B : partsFrom p (from spec index d n m) ≡ partOf p xs ++ partsFrom (p + len) c = rw (from-cons spec index d n m l) (parts-cons p xs c ∙ rw pl) in
       let t : paste (16 * (m + 1)) (row (entriesFrom (p + len) c)) (paste (16 * n + (p + len)) (partsFrom (p + len) c) out′)
-      ≡ paste (16 * m) (row (entriesFrom p (from index d n m))) (paste (16 * n + p) (partsFrom p (from index d n m)) out) =
+      ≡ paste (16 * m) (row (entriesFrom p (from spec index d n m))) (paste (16 * n + p) (partsFrom p (from spec index d n m)) out) =
       rw (w, E, B)
       (paste-both (16 * m) (16 * (m + 1)) (entryBytes p xs) (row (entriesFrom (p + len) c)) (16 * n + p) (16 * n + (p + len)) (partOf p xs) (partsFrom (p + len) c) out
       (omega (arith, length-entry p xs)) (omega arith) (omega arith) (omega (arith, one-room l))) in
       record {
         below = omega arith;
         same = k ∙ h .same;
-        room = omega (arith, h .room, length-next index d n m l);
+        room = omega (arith, h .room, length-next spec index d n m l);
         left = t ∙ h .left;
       }
 
   module _ (l : n ≤ m) where
     pub end-fits : length out₀ < 2 ^ 64 → Fits w64 (16 * n + p)
-    end-fits f = record { fits = omega (arith, h .room, length-none index d n m l) }
+    end-fits f = record { fits = omega (arith, h .room, length-none spec index d n m l) }
 
-    pub end-is : 16 * n + p ≡ wholeLength index d n
-    end-is = omega (arith, h .room, length-none index d n m l)
+    pub end-is : 16 * n + p ≡ wholeLength spec index d n
+    end-is = omega (arith, h .room, length-none spec index d n m l)
 
-    pub all-there : out ≡ paste 0 (settled (contentFrom index d 0 n)) out₀
+    pub all-there : out ≡ paste 0 (settled (contentFrom spec index d 0 n)) out₀
     all-there =
-        let z = content-none index d m (n - m) (omega arith) in
-        paste-done (16 * n + p) (partsFrom p (from index d n m)) out (parts-nil p (from index d n m) z)
-        (paste-done (16 * m) (row (entriesFrom p (from index d n m))) _ (entries-nil p (from index d n m) z) (h .left))
+        let z = content-none spec index d m (n - m) (omega arith) in
+        paste-done (16 * n + p) (partsFrom p (from spec index d n m)) out (parts-nil p (from spec index d n m) z)
+        (paste-done (16 * m) (row (entriesFrom p (from spec index d n m))) _ (entries-nil p (from spec index d n m) z) (h .left))
 
 module _ {index d : List ℕ} {n m : ℕ} (a : SettleableParts index d n) (l : m < n) where
   pub each-at : SettleableIn index d m
@@ -248,45 +263,77 @@ pub ruleset settling = (settling-first, settling-next, each-at, entry-at, one-ro
 
 -- ---- the loop that adds up the lengths, up to the first one that is refused
 
-pub record Summing (index d : List ℕ) (n m sum : ℕ) : Type 0 where
+pub record Summing (spec : Sharding) (index d : List ℕ) (n m sum : ℕ) : Type 0 where
   pub below : m ≤ n
   pub most : sum ≤ mostShardBytes + 1
-  pub left : capped (sum + partsLength (from index d n m)) ≡ capped (wholeLength index d n)
+  pub left : capped (sum + partsLength (from spec index d n m)) ≡ capped (wholeLength spec index d n)
 
-pub summing-first : (index d : List ℕ) (n : ℕ) {sum : ℕ} → sum ≡ capped (0 + 16 * n) → Summing index d n 0 sum
-summing-first index d n e = record { below = omega arith; most = omega arith; left = rw sub-zero (omega arith) }
+pub summing-first : (spec : Sharding) (index d : List ℕ) (n : ℕ) {sum : ℕ} → sum ≡ capped (0 + 16 * n) → Summing spec index d n 0 sum
+summing-first spec index d n e = record { below = omega arith; most = omega arith; left = rw sub-zero (omega arith) }
 
-pub summing-next : {index d : List ℕ} {n m sum : ℕ} → Summing index d n m sum → m < n → (len : ℕ) {sum′ : ℕ} → len ≡ capped (lengthIn index d m) → sum′ ≡ capped (sum + len)
-    → Summing index d n (m + 1) sum′
-summing-next {index} {d} {n} {m} {sum} h l len {sum′} el e =
-    let t = length-next index d n m l in
-    let g : capped (sum + (lengthIn index d m + partsLength (from index d n (m + 1)))) ≡ capped (wholeLength index d n) = rw t at (h .left) in
-    record { below = omega arith; most = omega arith; left = step sum (lengthIn index d m) (partsLength (from index d n (m + 1))) len sum′ el e ∙ g }
+pub summing-next : {spec : Sharding} {index d : List ℕ} {n m sum : ℕ} → Summing spec index d n m sum → m < n → (len : ℕ) {sum′ : ℕ} → len ≡ capped (oneLength spec index d m) → sum′ ≡ capped (sum + len)
+    → Summing spec index d n (m + 1) sum′
+summing-next {spec} {index} {d} {n} {m} {sum} h l len {sum′} el e =
+    let t = length-next spec index d n m l in
+    let g : capped (sum + (oneLength spec index d m + partsLength (from spec index d n (m + 1)))) ≡ capped (wholeLength spec index d n) = rw t at (h .left) in
+    record { below = omega arith; most = omega arith; left = step sum (oneLength spec index d m) (partsLength (from spec index d n (m + 1))) len sum′ el e ∙ g }
   where
     step : (a x r len b : ℕ) → len ≡ capped x → b ≡ capped (a + len) → capped (b + r) ≡ capped (a + (x + r))
     step a x r len b p q = omega arith
 
-pub summed : {index d : List ℕ} {n m sum : ℕ} → Summing index d n m sum → n ≤ m → sum ≡ capped (wholeLength index d n)
-summed {index} {d} {n} {m} h l = let g = h .most in omega (arith, h .left, length-none index d n m l)
+pub summed : {spec : Sharding} {index d : List ℕ} {n m sum : ℕ} → Summing spec index d n m sum → n ≤ m → sum ≡ capped (wholeLength spec index d n)
+summed {spec} {index} {d} {n} {m} h l = let g = h .most in omega (arith, h .left, length-none spec index d n m l)
 
 pub ruleset summing = (summing-first, summing-next, summed, each-at, entry-at, falls, needs)
 
--- ---- of n minishards, where that is the number k that the specification gives
+-- ---- of n minishards of a volume, where n is the number that the specification gives
 
-module _ (index d : List ℕ) {n k : ℕ} (e : n ≡ k) where
-  pub parts-counted : SettleableParts index d k → SettleableParts index d n
-  parts-counted h = rw e h
+item-volume : (spec : Sharding) (d : List ℕ) (s n i : ℕ) → itemAt spec d s n i ≡ itemAt volume d s n i
+unfolding itemAt leadLength
+item-volume spec d s n i = refl
 
-  pub room-counted : (out : List ℕ) → wholeLength index d k ≤ length out → wholeLength index d n ≤ length out
-  room-counted out h = rw e h
+items-volume : (spec : Sharding) (d : List ℕ) (s n i k : ℕ) → itemsFrom spec d s n i k ≡ itemsFrom volume d s n i k
+unfolding itemsFrom
+items-volume spec d s n i zero = refl
+items-volume spec d s n i (suc k) = rw (item-volume spec d s n i, items-volume spec d s n (suc i) k)
 
-  pub length-counted : {r : ℕ} → r ≡ wholeLength index d n → r ≡ wholeLength index d k
-  length-counted h = rw e at h
+content-volume : (spec : Sharding) (index d : List ℕ) (m k : ℕ) → contentFrom spec index d m k ≡ contentFrom volume index d m k
+unfolding contentFrom itemsAt
+content-volume spec index d m zero = refl
+content-volume spec index d m (suc k) =
+    let s = entryStart index m in
+    let n = entryCount s (entryEnd index m) in
+    rw (items-volume spec d s n 0 n, content-volume spec index d (suc m) k)
 
-  pub capped-counted : {r : ℕ} → r ≡ capped (wholeLength index d n) → r ≡ capped (wholeLength index d k)
-  capped-counted h = rw e at h
+pub permitted-shard : {spec : Sharding} {index d : List ℕ} → SettleableShard spec index d → allowed spec ≡ true
+permitted-shard h = h .permitted
 
-  pub form-counted : (o : List ℕ) {out : List ℕ} → out ≡ paste 0 (settled (contentFrom index d 0 n)) o → out ≡ paste 0 (settled (contentFrom index d 0 k)) o
-  form-counted o h = rw e at h
+module _ (spec : Sharding) (index d : List ℕ) {n : ℕ} (e : n ≡ minishardCount spec) where
+  whole-content : contentFrom volume index d 0 n ≡ contentOf spec index d
+  unfolding contentOf
+  whole-content = rw e (sym (content-volume spec index d 0 (minishardCount spec)))
 
-pub ruleset counting = (parts-counted, room-counted, length-counted, capped-counted, form-counted, needs)
+  whole-length : wholeLength volume index d n ≡ formLength spec index d
+  unfolding formLength settledLength
+  whole-length = rw whole-content (omega (arith, length-content spec index d))
+
+  whole-form : settled (contentFrom volume index d 0 n) ≡ formOf spec index d
+  unfolding formOf
+  whole-form = ap settled whole-content
+
+  pub parts-counted : SettleableShard spec index d → SettleableParts index d n
+  parts-counted h = rw e (h .parts)
+
+  pub room-counted : (out : List ℕ) → formLength spec index d ≤ length out → wholeLength volume index d n ≤ length out
+  room-counted out h = rw whole-length h
+
+  pub length-counted : {r : ℕ} → r ≡ wholeLength volume index d n → r ≡ formLength spec index d
+  length-counted h = h ∙ whole-length
+
+  pub capped-counted : {r : ℕ} → r ≡ capped (wholeLength volume index d n) → r ≡ capped (formLength spec index d)
+  capped-counted h = h ∙ ap (λ (x : ℕ). capped x) whole-length
+
+  pub form-counted : (o : List ℕ) {out : List ℕ} → out ≡ paste 0 (settled (contentFrom volume index d 0 n)) o → out ≡ over (formOf spec index d) o
+  form-counted o h = rw whole-form at h ∙ paste-front (formOf spec index d) o (length (formOf spec index d)) refl
+
+pub ruleset counting = (permitted-shard, parts-counted, room-counted, length-counted, capped-counted, form-counted, needs)

@@ -1,53 +1,53 @@
--- What settling answers and leaves: the refusals of the check, then 13 where the form is longer than the output or than 1 GiB.
-use Prim.Native.Nat.{ℕ, zero, suc}
+-- What settling answers and leaves: the refusals of the check, then 13 (01, 'Refusal numbers').
+use Prim.Native.Nat.{ℕ}
 use mathlib.Core.Bool.{Bool, _||_}
-use mathlib.Core.List.{List, _++_}
+use mathlib.Core.List.{List, [], _∷_, _++_}
 use lib.Dec.{ltb}
-use lib.ListN.{length, drop}
-use Rattle.endian.specs.Choice.{pick}
-use Rattle.endian.specs.declared.Written.{Written}
-use Rattle.endian.specs.declared.Written.the-variants.{Length, Refused}
+use lib.ListN.{length}
+use Rattle.refusal.specs.Checks.{Check, check, answered, left}
+use Rattle.refusal.specs.Buffer.{over}
+use Rattle.refusal.specs.declared.Written.{Written}
+use Rattle.refusal.specs.declared.Written.the-variants.{Length, Refused}
 use Rattle.sharding.specs.declared.Sharding.{Sharding}
-use Rattle.shard.specs.declared.CheckAnswer.{CheckAnswer}
-use Rattle.shard.specs.declared.CheckAnswer.the-variants.{Sound, Faulty, Refused as CheckRefused}
-use Rattle.shard.specs.File.{mostShardBytes, checkAnswer}
-use Rattle.settle.specs.Content.{formOf, formLength}
+use Rattle.shard.specs.File.{mostShardBytes, indexPart, dataPart, shardChecks}
+use Rattle.form.specs.Content.{formOf, formLength, fileForm, fileFormLength}
 
--- the number of a check's refusal, 0 for a sound shard; settling does not pass the minishard on
-abbrev pub checkNumber : CheckAnswer → ℕ
-checkNumber Sound = 0
-checkNumber (CheckRefused k) = k
-checkNumber (Faulty k m) = k
+-- ---- a shard of two parts that passed the check: 13 is left
 
-unfoldable pub refusedBy : ℕ → Written → Written
-refusedBy zero later = later
-refusedBy (suc k) later = Refused (suc k)
+-- "a settled form would exceed 1,073,741,824 bytes"
+unfoldable pub lengthCheck : Sharding → List ℕ → List ℕ → Check
+lengthCheck spec index d = check 13 (ltb mostShardBytes (formLength spec index d))
 
--- ---- the settled length
-
-unfoldable pub lengthAnswer : Sharding → ℕ → List ℕ → Written
-lengthAnswer spec shard file =
-    refusedBy (checkNumber (checkAnswer spec shard file))
-    (pick (ltb mostShardBytes (formLength spec file)) (Refused 13) (Length (formLength spec file)))
-
--- ---- settling into a lent output
+unfoldable pub lengthIn : Sharding → List ℕ → List ℕ → Written
+lengthIn spec index d = answered Refused (lengthCheck spec index d ∷ []) (Length (formLength spec index d))
 
 -- a form of n bytes is longer than the output or than 1 GiB
 unfoldable pub tooLong : ℕ → List ℕ → Bool
 tooLong n out = ltb (length out) n || ltb mostShardBytes n
 
-unfoldable pub settleAnswer : Sharding → ℕ → List ℕ → List ℕ → Written
-settleAnswer spec shard file out =
-    refusedBy (checkNumber (checkAnswer spec shard file))
-    (pick (tooLong (formLength spec file) out) (Refused 13) (Length (formLength spec file)))
+unfoldable pub settleCheck : Sharding → List ℕ → List ℕ → List ℕ → Check
+settleCheck spec index d out = check 13 (tooLong (formLength spec index d) out)
 
-unfoldable pub unlessRefused : ℕ → List ℕ → List ℕ → List ℕ
-unlessRefused zero after before = after
-unlessRefused (suc k) after before = before
+unfoldable pub settleIn : Sharding → List ℕ → List ℕ → List ℕ → Written
+settleIn spec index d out = answered Refused (settleCheck spec index d out ∷ []) (Length (formLength spec index d))
 
 -- the output then: the form and, past it, what was there; refused, all that was there
+unfoldable pub leftIn : Sharding → List ℕ → List ℕ → List ℕ → List ℕ
+leftIn spec index d out = left (settleCheck spec index d out ∷ []) (over (formOf spec index d) out) out
+
+-- ---- a file: all that the check refuses, and then 13
+
+unfoldable pub lengthChecks : Sharding → ℕ → List ℕ → List Check
+lengthChecks spec shard file = shardChecks spec shard file ++ (lengthCheck spec (indexPart spec file) (dataPart spec file) ∷ [])
+
+unfoldable pub lengthAnswer : Sharding → ℕ → List ℕ → Written
+lengthAnswer spec shard file = answered Refused (lengthChecks spec shard file) (Length (fileFormLength spec file))
+
+unfoldable pub settleChecks : Sharding → ℕ → List ℕ → List ℕ → List Check
+settleChecks spec shard file out = shardChecks spec shard file ++ (settleCheck spec (indexPart spec file) (dataPart spec file) out ∷ [])
+
+unfoldable pub settleAnswer : Sharding → ℕ → List ℕ → List ℕ → Written
+settleAnswer spec shard file out = answered Refused (settleChecks spec shard file out) (Length (fileFormLength spec file))
+
 unfoldable pub settleLeft : Sharding → ℕ → List ℕ → List ℕ → List ℕ
-settleLeft spec shard file out =
-    unlessRefused (checkNumber (checkAnswer spec shard file))
-    (pick (tooLong (formLength spec file) out) out (formOf spec file ++ drop (formLength spec file) out))
-    out
+settleLeft spec shard file out = left (settleChecks spec shard file out) (over (fileForm spec file) out) out

@@ -1,5 +1,3 @@
--- The settled form and settling (01, 'Settled form').
-pub mod Form
-pub mod Content
+-- Settling (01, 'Settled form').
 pub mod Answers
 pub mod Writing

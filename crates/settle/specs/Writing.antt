@@ -1,5 +1,5 @@
 -- What the inner functions of settling take and make, over a shard index and the data behind it.
-use Prim.Native.Nat.{ℕ, _+_, _*_, _-_, _%_, _≤_, _<_, min}
+use Prim.Native.Nat.{ℕ, suc, _+_, _*_, _-_, _%_, _≤_, _<_, min}
 use mathlib.Core.Path.{_≡_}
 use mathlib.Core.Bool.{true}
 use mathlib.Core.Logic.{_⊎_}
@@ -7,11 +7,16 @@ use mathlib.Core.List.{List, [], _∷_}
 use lib.ListN.{length}
 use Rattle.endian.specs.Little.{row}
 use Rattle.sharding.specs.declared.Sharding.{Sharding}
-use Rattle.sharding.specs.Specification.{allowed, minishardCount}
-use Rattle.shard.specs.Index.{entryStart, entryEnd, entryCount, startSteps, sizes, endAt}
-use Rattle.shard.specs.File.{mostShardBytes, indexLength, indexPart, dataPart}
-use Rattle.settle.specs.Form.{Item, chunksLength, partsLength, entryBegin, entryFinish}
-use Rattle.settle.specs.Content.{itemsAt, contentFrom}
+use Rattle.sharding.specs.Specification.{identity, allowed, minishardCount}
+use Rattle.shard.specs.Index.{entryStart, entryEnd, entryCount, idSteps, startSteps, sizes, idAt, endAt}
+use Rattle.shard.specs.File.{mostShardBytes}
+use Rattle.shard.specs.Items.{Item}
+use Rattle.form.specs.Form.{chunksLength, partsLength, entryBegin, entryFinish}
+use Rattle.form.specs.Content.{itemsAt, contentFrom}
+
+-- what is written are the items of a volume, whose chunks have no leads: those of any specification of one
+abbrev pub volume : Sharding
+volume = record { preshift = 0; hash = identity; «minishard_bits» = 0; «shard_bits» = 0 }
 
 -- the minishard index of n entries at s, and each chunk that it lists, lie within d
 pub record Readable (d : List ℕ) (s n : ℕ) : Type 0 where
@@ -19,11 +24,12 @@ pub record Readable (d : List ℕ) (s n : ℕ) : Type 0 where
   pub index : s + 24 * n ≤ length d
   pub inside : (i : ℕ) → i < n → endAt (startSteps d s n) (sizes d s n) i ≤ length d
 
--- 7, 8 and 11 do not hold of a minishard whose minishard index stands in d from s to e: all that settling it relies on
+-- of 7, 8, 9 and 11 all that settling a minishard relies on, whose minishard index stands in d from s to e
 pub record Settleable (d : List ℕ) (s e : ℕ) : Type 0 where
   pub ordered : s ≤ e
   pub within : (s ≡ e) ⊎ (e ≤ length d)
   pub whole : (e - s) % 24 ≡ 0
+  pub rising : (i : ℕ) → suc i < entryCount s e → idAt (idSteps d s) i < idAt (idSteps d s) (suc i)
   pub inside : (i : ℕ) → i < entryCount s e → endAt (startSteps d s (entryCount s e)) (sizes d s (entryCount s e)) i ≤ length d
 
 abbrev pub SettleableIn : List ℕ → List ℕ → ℕ → Type 0
@@ -34,21 +40,20 @@ pub record SettleableParts (index d : List ℕ) (n : ℕ) : Type 0 where
   pub held : 16 * n ≤ length index
   pub each : (m : ℕ) → m < n → SettleableIn index d m
 
--- the same of a file, by its two parts
-pub record SettleableFile (spec : Sharding) (file : List ℕ) : Type 0 where
+-- a shard of two parts that can be settled
+pub record SettleableShard (spec : Sharding) (index d : List ℕ) : Type 0 where
   pub permitted : allowed spec ≡ true
-  pub held : indexLength spec ≤ length file
-  pub parts : SettleableParts (indexPart spec file) (dataPart spec file) (minishardCount spec)
+  pub parts : SettleableParts index d (minishardCount spec)
 
--- the length of a settled minishard, and of the whole form, by the counts that are read
-abbrev pub minishardLength : List ℕ → ℕ → ℕ → ℕ
-minishardLength d s n = chunksLength (itemsAt d s n) + 24 * n
+-- the length of a settled minishard, and of the whole form of n, by the counts that are read
+abbrev pub minishardLength : Sharding → List ℕ → ℕ → ℕ → ℕ
+minishardLength spec d s n = chunksLength (itemsAt spec d s n) + 24 * n
 
-abbrev pub lengthIn : List ℕ → List ℕ → ℕ → ℕ
-lengthIn index d m = minishardLength d (entryStart index m) (entryCount (entryStart index m) (entryEnd index m))
+abbrev pub oneLength : Sharding → List ℕ → List ℕ → ℕ → ℕ
+oneLength spec index d m = minishardLength spec d (entryStart index m) (entryCount (entryStart index m) (entryEnd index m))
 
-abbrev pub wholeLength : List ℕ → List ℕ → ℕ → ℕ
-wholeLength index d n = 16 * n + partsLength (contentFrom index d 0 n)
+abbrev pub wholeLength : Sharding → List ℕ → List ℕ → ℕ → ℕ
+wholeLength spec index d n = 16 * n + partsLength (contentFrom spec index d 0 n)
 
 -- the entry in the settled shard index of a minishard at p
 unfoldable pub entryBytes : ℕ → List Item → List ℕ

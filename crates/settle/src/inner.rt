@@ -1,27 +1,22 @@
 // The writer of a settled form, over a shard index and the data behind it.
 ghost use mathlib.Core.Path.{_≡_};
-ghost use mathlib.Core.Bool.{true};
 ghost use mathlib.Core.List.{[], _∷_, _++_};
 ghost use Prim.Native.Nat.{_+_, _*_, _-_, _/_, _<_, _≤_};
-ghost use lib.Dec.{ltb};
-ghost use lib.ListN.{length, drop, replicate};
-ghost use Rattle.endian.specs.Choice.{pick};
+ghost use lib.ListN.{length, replicate};
+ghost use Rattle.refusal.specs.Buffer.{over};
 ghost use Rattle.endian.specs.Little.{le, row};
 ghost use Rattle.endian.specs.Place.{paste};
-ghost use Rattle.endian.specs.declared.Written.the-variants.{Length, Refused};
-ghost use Rattle.sharding.specs.Specification.{allowed, minishardCount};
 ghost use Rattle.shard.specs.File.{mostShardBytes};
-ghost use Rattle.settle.specs.Form.{chunksOf, chunksLength, partOf, settled};
-ghost use Rattle.settle.specs.Content.{itemsAt, itemsOf, contentFrom, formOf, formLength};
-ghost use Rattle.settle.specs.Answers.{tooLong};
-ghost use Rattle.settle.specs.Writing.{Readable, SettleableIn, SettleableParts, SettleableFile, minishardLength, lengthIn, wholeLength, entryBytes, capped};
-use endian::Written;
+ghost use Rattle.form.specs.Form.{chunksOf, chunksLength, partOf, settled};
+ghost use Rattle.form.specs.Content.{itemsAt, itemsOf, byId, contentFrom, formOf, formLength};
+ghost use Rattle.settle.specs.Answers.{lengthIn, settleIn, leftIn};
+ghost use Rattle.settle.specs.Writing.{volume, Readable, SettleableIn, SettleableParts, SettleableShard, minishardLength, oneLength, wholeLength, entryBytes, capped};
 use endian::inner::copy_bytes;
 use endian::inner::fill_zero;
 use endian::inner::put_u64;
 use endian::inner::read_u64;
+use refusal::Written;
 use shard::inner::MOST_SHARD_BYTES;
-use shard::inner::index_length;
 use sharding::Sharding;
 use sharding::inner::minishard_count;
 
@@ -33,9 +28,9 @@ const TOO_LONG: usize = MOST_SHARD_BYTES + 1;
 // The chunks that the minishard index of n entries at s lists, one after the other; answers the place behind them.
 fn copy_chunks(data: &[u8], s: usize, n: usize, out: &mut [u8], at: usize) -> usize
     requires { ⌜ Readable (now «data») s n ⌝ }
-    requires { ⌜ at + chunksLength (itemsAt (now «data») s n) ≤ length (now out) ⌝ }
-    ensures { λ r. ⌜ r ≡ at + chunksLength (itemsAt (now («data» .entry)) s n) ⌝ }
-    ensures { λ _. ⌜ now (out .exit) ≡ paste at (chunksOf (itemsAt (now («data» .entry)) s n)) (now (out .entry)) ⌝ }
+    requires { ⌜ at + chunksLength (itemsAt volume (now «data») s n) ≤ length (now out) ⌝ }
+    ensures { λ r. ⌜ r ≡ at + chunksLength (itemsAt volume (now («data» .entry)) s n) ⌝ }
+    ensures { λ _. ⌜ now (out .exit) ≡ paste at (chunksOf (itemsAt volume (now («data» .entry)) s n)) (now (out .entry)) ⌝ }
 {
     let starts = s + 8 * n;
     let sizes = s + 16 * n;
@@ -65,9 +60,9 @@ fn put_starts(out: &mut [u8], at: usize, n: usize, p: usize)
 // A minishard at the place p, which counts from `base`. The id steps and the sizes stay what they were: their rows are copied.
 fn settle_part(data: &[u8], s: usize, n: usize, out: &mut [u8], base: usize, p: usize) -> usize
     requires { ⌜ Readable (now «data») s n ⌝ }
-    requires { ⌜ base + p + minishardLength (now «data») s n ≤ length (now out) ⌝ }
-    ensures { λ r. ⌜ r ≡ minishardLength (now («data» .entry)) s n ⌝ }
-    ensures { λ _. ⌜ now (out .exit) ≡ paste (base + p) (partOf p (itemsAt (now («data» .entry)) s n)) (now (out .entry)) ⌝ }
+    requires { ⌜ base + p + minishardLength volume (now «data») s n ≤ length (now out) ⌝ }
+    ensures { λ r. ⌜ r ≡ minishardLength volume (now («data» .entry)) s n ⌝ }
+    ensures { λ _. ⌜ now (out .exit) ≡ paste (base + p) (partOf p (itemsAt volume (now («data» .entry)) s n)) (now (out .entry)) ⌝ }
 {
     let begin = base + p;
     let ids = copy_chunks(data, s, n, out, begin);
@@ -92,9 +87,9 @@ fn put_entry(out: &mut [u8], at: usize, begin: usize, end: usize)
 fn settle_one(index: &[u8], data: &[u8], base: usize, m: usize, p: usize, out: &mut [u8]) -> usize
     requires { ⌜ (16 * m + 16 ≤ base) × (16 * m + 16 ≤ length (now index)) ⌝ }
     requires { ⌜ SettleableIn (now index) (now «data») m ⌝ }
-    requires { ⌜ base + p + lengthIn (now index) (now «data») m ≤ length (now out) ⌝ }
-    ensures { λ r. ⌜ r ≡ lengthIn (now (index .entry)) (now («data» .entry)) m ⌝ }
-    ensures { λ _. ⌜ now (out .exit) ≡ paste (16 * m) (entryBytes p (itemsOf (now (index .entry)) (now («data» .entry)) m)) (paste (base + p) (partOf p (itemsOf (now (index .entry)) (now («data» .entry)) m)) (now (out .entry))) ⌝ }
+    requires { ⌜ base + p + oneLength volume (now index) (now «data») m ≤ length (now out) ⌝ }
+    ensures { λ r. ⌜ r ≡ oneLength volume (now (index .entry)) (now («data» .entry)) m ⌝ }
+    ensures { λ _. ⌜ now (out .exit) ≡ paste (16 * m) (entryBytes p (byId (itemsOf volume (now (index .entry)) (now («data» .entry)) m))) (paste (base + p) (partOf p (byId (itemsOf volume (now (index .entry)) (now («data» .entry)) m))) (now (out .entry))) ⌝ }
 {
     let s = read_u64(index, 16 * m) as usize;
     let e = read_u64(index, 16 * m + 8) as usize;
@@ -114,9 +109,9 @@ fn settle_one(index: &[u8], data: &[u8], base: usize, m: usize, p: usize, out: &
 // The settled form of n minishards.
 fn settle_all(index: &[u8], data: &[u8], n: usize, out: &mut [u8]) -> usize
     requires { ⌜ SettleableParts (now index) (now «data») n ⌝ }
-    requires { ⌜ wholeLength (now index) (now «data») n ≤ length (now out) ⌝ }
-    ensures { λ r. ⌜ r ≡ wholeLength (now (index .entry)) (now («data» .entry)) n ⌝ }
-    ensures { λ _. ⌜ now (out .exit) ≡ paste 0 (settled (contentFrom (now (index .entry)) (now («data» .entry)) 0 n)) (now (out .entry)) ⌝ }
+    requires { ⌜ wholeLength volume (now index) (now «data») n ≤ length (now out) ⌝ }
+    ensures { λ r. ⌜ r ≡ wholeLength volume (now (index .entry)) (now («data» .entry)) n ⌝ }
+    ensures { λ _. ⌜ now (out .exit) ≡ paste 0 (settled (contentFrom volume (now (index .entry)) (now («data» .entry)) 0 n)) (now (out .entry)) ⌝ }
 {
     let base = 16 * n;
     let mut m = 0;
@@ -128,13 +123,12 @@ fn settle_all(index: &[u8], data: &[u8], n: usize, out: &mut [u8]) -> usize
     base + p
 }
 
-// The settled form of a shard of two parts, into an output that has room for it.
-pub fn settle_parts(spec: Sharding, index: &[u8], data: &[u8], out: &mut [u8]) -> usize
-    requires { ⌜ allowed spec ≡ true ⌝ }
-    requires { ⌜ SettleableParts (now index) (now «data») (minishardCount spec) ⌝ }
-    requires { ⌜ wholeLength (now index) (now «data») (minishardCount spec) ≤ length (now out) ⌝ }
-    ensures { λ r. ⌜ r ≡ wholeLength (now (index .entry)) (now («data» .entry)) (minishardCount spec) ⌝ }
-    ensures { λ _. ⌜ now (out .exit) ≡ paste 0 (settled (contentFrom (now (index .entry)) (now («data» .entry)) 0 (minishardCount spec))) (now (out .entry)) ⌝ }
+// The settled form of a shard, into an output that has room for it.
+fn settle_parts(spec: Sharding, index: &[u8], data: &[u8], out: &mut [u8]) -> usize
+    requires { ⌜ SettleableShard spec (now index) (now «data») ⌝ }
+    requires { ⌜ formLength spec (now index) (now «data») ≤ length (now out) ⌝ }
+    ensures { λ r. ⌜ r ≡ formLength spec (now (index .entry)) (now («data» .entry)) ⌝ }
+    ensures { λ _. ⌜ now (out .exit) ≡ over (formOf spec (now (index .entry)) (now («data» .entry))) (now (out .entry)) ⌝ }
 {
     let n = minishard_count(spec) as usize;
     settle_all(index, data, n, out)
@@ -156,7 +150,7 @@ fn add_capped(a: usize, b: usize) -> usize
 // The length of a settled minishard whose minishard index of n entries stands at s.
 fn part_length(data: &[u8], s: usize, n: usize) -> usize
     requires { ⌜ Readable (now «data») s n ⌝ }
-    ensures { λ r. ⌜ r ≡ capped (minishardLength (now («data» .entry)) s n) ⌝ }
+    ensures { λ r. ⌜ r ≡ capped (minishardLength volume (now («data» .entry)) s n) ⌝ }
 {
     let sizes = s + 16 * n;
     let mut sum = add_capped(0, 24 * n);
@@ -172,7 +166,7 @@ fn part_length(data: &[u8], s: usize, n: usize) -> usize
 fn one_length(index: &[u8], data: &[u8], m: usize) -> usize
     requires { ⌜ 16 * m + 16 ≤ length (now index) ⌝ }
     requires { ⌜ SettleableIn (now index) (now «data») m ⌝ }
-    ensures { λ r. ⌜ r ≡ capped (lengthIn (now (index .entry)) (now («data» .entry)) m) ⌝ }
+    ensures { λ r. ⌜ r ≡ capped (oneLength volume (now (index .entry)) (now («data» .entry)) m) ⌝ }
 {
     let s = read_u64(index, 16 * m) as usize;
     let e = read_u64(index, 16 * m + 8) as usize;
@@ -185,7 +179,7 @@ fn one_length(index: &[u8], data: &[u8], m: usize) -> usize
 // The length of the settled form of n minishards.
 fn length_of_all(index: &[u8], data: &[u8], n: usize) -> usize
     requires { ⌜ SettleableParts (now index) (now «data») n ⌝ }
-    ensures { λ r. ⌜ r ≡ capped (wholeLength (now (index .entry)) (now («data» .entry)) n) ⌝ }
+    ensures { λ r. ⌜ r ≡ capped (wholeLength volume (now (index .entry)) (now («data» .entry)) n) ⌝ }
 {
     let mut sum = add_capped(0, 16 * n);
     let mut m = 0;
@@ -196,63 +190,42 @@ fn length_of_all(index: &[u8], data: &[u8], n: usize) -> usize
     sum
 }
 
-// The length of the settled form of a shard of two parts, or 1 GiB and a byte where it is longer than 1 GiB.
-pub fn form_length(spec: Sharding, index: &[u8], data: &[u8]) -> usize
-    requires { ⌜ allowed spec ≡ true ⌝ }
-    requires { ⌜ SettleableParts (now index) (now «data») (minishardCount spec) ⌝ }
-    ensures { λ r. ⌜ r ≡ capped (wholeLength (now (index .entry)) (now («data» .entry)) (minishardCount spec)) ⌝ }
+// The length of the settled form of a shard, or 1 GiB and a byte where it is longer than 1 GiB.
+fn form_length(spec: Sharding, index: &[u8], data: &[u8]) -> usize
+    requires { ⌜ SettleableShard spec (now index) (now «data») ⌝ }
+    ensures { λ r. ⌜ r ≡ capped (formLength spec (now (index .entry)) (now («data» .entry))) ⌝ }
 {
     let n = minishard_count(spec) as usize;
     length_of_all(index, data, n)
 }
 
-// ---- a file, by its two parts
+// ---- a shard of two parts that passed the check
 
-// The length of the settled form of a file.
-fn file_length(spec: Sharding, file: &[u8]) -> usize
-    requires { ⌜ SettleableFile spec (now file) ⌝ }
-    ensures { λ r. ⌜ r ≡ capped (formLength spec (now (file .entry))) ⌝ }
+// The length of its settled form, or refusal 13.
+pub fn length_answer(spec: Sharding, index: &[u8], data: &[u8]) -> Written
+    requires { ⌜ SettleableShard spec (now index) (now «data») ⌝ }
+    ensures { λ r. ⌜ r ≡ lengthIn spec (now (index .entry)) (now («data» .entry)) ⌝ }
 {
-    let n = index_length(spec);
-    form_length(spec, &file[..n], &file[n..])
-}
-
-// The length of the settled form of a file that passed the check, or refusal 13.
-pub fn length_answer(spec: Sharding, file: &[u8]) -> Written
-    requires { ⌜ SettleableFile spec (now file) ⌝ }
-    ensures { λ r. ⌜ r ≡ pick (ltb mostShardBytes (formLength spec (now (file .entry)))) (Refused 13) (Length (formLength spec (now (file .entry)))) ⌝ }
-{
-    let len = file_length(spec, file);
+    let len = form_length(spec, index, data);
     if MOST_SHARD_BYTES < len {
         return Written::Refused(13);
     }
     Written::Length(len)
 }
 
-// The settled form of a file, into an output that has room for it.
-fn settle_file(spec: Sharding, file: &[u8], out: &mut [u8]) -> usize
-    requires { ⌜ SettleableFile spec (now file) ⌝ }
-    requires { ⌜ formLength spec (now file) ≤ length (now out) ⌝ }
-    ensures { λ r. ⌜ r ≡ formLength spec (now (file .entry)) ⌝ }
-    ensures { λ _. ⌜ now (out .exit) ≡ formOf spec (now (file .entry)) ++ drop (formLength spec (now (file .entry))) (now (out .entry)) ⌝ }
+// Its settled form at the front of `out`, or refusal 13, decided before the first byte is written.
+pub fn settle_answer(spec: Sharding, index: &[u8], data: &[u8], out: &mut [u8]) -> Written
+    requires { ⌜ SettleableShard spec (now index) (now «data») ⌝ }
+    ensures { λ r. ⌜ r ≡ settleIn spec (now (index .entry)) (now («data» .entry)) (now (out .entry)) ⌝ }
+    ensures { λ _. ⌜ now (out .exit) ≡ leftIn spec (now (index .entry)) (now («data» .entry)) (now (out .entry)) ⌝ }
 {
-    let n = index_length(spec);
-    settle_parts(spec, &file[..n], &file[n..], out)
-}
-
-// The settled form of a file that passed the check, or refusal 13, decided before the first byte is written.
-pub fn settle_answer(spec: Sharding, file: &[u8], out: &mut [u8]) -> Written
-    requires { ⌜ SettleableFile spec (now file) ⌝ }
-    ensures { λ r. ⌜ r ≡ pick (tooLong (formLength spec (now (file .entry))) (now (out .entry))) (Refused 13) (Length (formLength spec (now (file .entry)))) ⌝ }
-    ensures { λ _. ⌜ now (out .exit) ≡ pick (tooLong (formLength spec (now (file .entry))) (now (out .entry))) (now (out .entry)) (formOf spec (now (file .entry)) ++ drop (formLength spec (now (file .entry))) (now (out .entry))) ⌝ }
-{
-    let len = file_length(spec, file);
+    let len = form_length(spec, index, data);
     if MOST_SHARD_BYTES < len {
         return Written::Refused(13);
     }
     if out.len() < len {
         return Written::Refused(13);
     }
-    let written = settle_file(spec, file, out);
+    let written = settle_parts(spec, index, data, out);
     Written::Length(written)
 }

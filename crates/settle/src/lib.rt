@@ -2,11 +2,12 @@
 pub mod inner;
 
 ghost use mathlib.Core.Path.{_≡_};
-ghost use Rattle.shard.specs.File.{checkAnswer};
-ghost use Rattle.settle.specs.Answers.{checkNumber, lengthAnswer, settleAnswer, settleLeft};
-use endian::Written;
+ghost use Rattle.shard.specs.File.{checkAnswer, checkNumber};
+ghost use Rattle.settle.specs.Answers.{lengthAnswer, settleAnswer, settleLeft};
+use refusal::Written;
 use shard::CheckAnswer;
 use shard::check::check;
+use shard::inner::index_length;
 use sharding::Sharding;
 
 fn number_of(answer: CheckAnswer) -> u8
@@ -37,7 +38,8 @@ pub fn settled_length(spec: Sharding, shard: u64, file: &[u8]) -> Written
     if number != 0 {
         return Written::Refused(number);
     }
-    inner::length_answer(spec, file)
+    let n = index_length(spec);
+    inner::length_answer(spec, &file[..n], &file[n..])
 }
 
 // Writes the settled form of a sound shard to the front of `out`. A refusal leaves `out` as it was.
@@ -49,5 +51,6 @@ pub fn settle(spec: Sharding, shard: u64, file: &[u8], out: &mut [u8]) -> Writte
     if number != 0 {
         return Written::Refused(number);
     }
-    inner::settle_answer(spec, file, out)
+    let n = index_length(spec);
+    inner::settle_answer(spec, &file[..n], &file[n..], out)
 }

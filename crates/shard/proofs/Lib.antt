@@ -1,16 +1,13 @@
 -- Laws of the definitions.
+pub mod Tests
 pub mod Walks
 pub mod Faulted
-pub mod Seek
-pub mod Passed
-pub mod Answers
-pub mod Split
-pub mod Handed
+pub mod Loops
 pub mod Judged
-pub mod Retrieval
-pub mod Depends
-pub mod Entries
-pub mod Listings
+pub mod Numbers
+pub mod Passed
+pub mod Tally
+pub mod Split
 pub mod Whole
-pub mod WholeLoops
 pub mod WholeAnswers
+pub mod Chunks

@@ -1,16 +1,38 @@
--- The two parts of a file.
-use Prim.Native.Nat.{ℕ, _-_, _≤_}
+-- The two parts of a file, and its length.
+use Prim.Native.Nat.{ℕ, _-_, _<_, _≤_}
 use mathlib.Core.List.{List}
 use mathlib.Core.Path.{_≡_, sym, _∙_, ap}
+use mathlib.Core.Bool.{true, false, or-true}
 use native.Mathlib.Omega.{arith}
 use lib.ListN.{length, take, drop, length-drop}
 use lib.Seq.{length-take-le, take-all}
+use lib.Dec.{ltb}
+use borrow.Author.Tests.{lt-ltb, le-ltb}
 use Rattle.sharding.specs.declared.Sharding.{Sharding}
-use Rattle.shard.specs.declared.inner.Fault.{Fault}
-use Rattle.shard.specs.declared.LookupAnswer.{LookupAnswer}
-use Rattle.shard.specs.File.{mostShardBytes, indexLength, indexPart, dataPart}
+use Rattle.sharding.specs.Specification.{allowed}
+use Rattle.sharding.proofs.Allowed.{minishards-most}
+use Rattle.shard.specs.declared.judge.Fault.{Fault}
+use Rattle.shard.specs.File.{mostShardBytes, indexLength, indexPart, dataPart, badFileLength}
 use Rattle.shard.specs.Faults.{faultOf}
-use Rattle.shard.specs.Find.{lookupIn}
+
+-- ---- 6, as the code finds it
+
+pub length-short : (spec : Sharding) {n k : ℕ} → k ≡ indexLength spec → n < k → badFileLength spec n ≡ true
+unfolding badFileLength
+length-short spec {n} {k} e l = rw (← e, lt-ltb n k l)
+
+pub length-long : (spec : Sharding) (n : ℕ) → mostShardBytes < n → badFileLength spec n ≡ true
+unfolding badFileLength
+length-long spec n l = rw (lt-ltb mostShardBytes n l) (or-true (ltb n (indexLength spec)))
+
+pub length-good : (spec : Sharding) {n k : ℕ} → k ≡ indexLength spec → k ≤ n → n ≤ mostShardBytes → badFileLength spec n ≡ false
+unfolding badFileLength
+length-good spec {n} {k} e l h = rw (← e, le-ltb n k l, le-ltb mostShardBytes n h)
+
+-- ---- the two parts
+
+pub index-short : (spec : Sharding) {n : ℕ} → n ≡ indexLength spec → allowed spec ≡ true → n ≤ mostShardBytes
+index-short spec e a = omega (arith, minishards-most spec a)
 
 -- as the code takes the data: so many bytes from n on
 abbrev pub restOf : ℕ → List ℕ → List ℕ
@@ -19,7 +41,7 @@ restOf n file = take (length file - n) (drop n file)
 pub rest-whole : (n : ℕ) (file : List ℕ) → restOf n file ≡ drop n file
 rest-whole n file = take-all (length file - n) (drop n file) (omega (arith, length-drop n file))
 
-pub rest-length : (n : ℕ) (file : List ℕ) → length (restOf n file) ≡ length file - n
+rest-length : (n : ℕ) (file : List ℕ) → length (restOf n file) ≡ length file - n
 rest-length n file = rw (rest-whole n file) (length-drop n file)
 
 module _ (spec : Sharding) (file : List ℕ) {n : ℕ} (e : n ≡ indexLength spec) where
@@ -31,9 +53,6 @@ module _ (spec : Sharding) (file : List ℕ) {n : ℕ} (e : n ≡ indexLength sp
 
   pub rest-short : length file ≤ mostShardBytes → length (restOf n file) ≤ mostShardBytes
   rest-short l = omega (arith, rest-length n file)
-
-  pub parts-lookup : (shard id : ℕ) {a : LookupAnswer} → a ≡ lookupIn spec shard (take n file) (restOf n file) id → a ≡ lookupIn spec shard (indexPart spec file) (dataPart spec file) id
-  parts-lookup shard id r = rw (rest-whole n file, e) at r
 
   pub parts-fault : (shard m : ℕ) {r : Fault} → r ≡ faultOf spec shard (take n file) (restOf n file) m → r .number ≡ faultOf spec shard (indexPart spec file) (dataPart spec file) m .number
   parts-fault shard m r = ap (λ (f : Fault). f .number) (rw (rest-whole n file, e) at r)

@@ -7,10 +7,10 @@ use native.Mathlib.Omega.{arith}
 use lib.Dec.{leb, eqb}
 use mir.Val.{Fits}
 use mir.Syntax.{w64}
-use borrow.Author.Tests.{lt-ltb, le-ltb, le-leb, lt-leb, leb-false, ltb-false}
+use borrow.Author.Tests.{lt-ltb, le-ltb, le-leb, lt-leb, leb-false}
 use Rattle.endian.specs.Range.{sumTo, anyBelow, first}
 use Rattle.endian.proofs.Ranges.{sum-none, sum-step, any-none, any-more, any-miss, first-none, first-hit}
-use Rattle.endian.proofs.Tests.{neither}
+use Rattle.refusal.proofs.Tests.{neither}
 use Rattle.sharding.specs.declared.Sharding.{Sharding}
 use Rattle.sharding.specs.declared.Place.{Place}
 use Rattle.sharding.specs.Place.{placeOf}
@@ -38,7 +38,7 @@ good-id f (suc i) p h =
     let ne = p (omega arith) in
     rw (lt-leb (sumTo f i + f i + f (suc i)) (sumTo f i + f i) (omega arith), lt-leb _ _ h)
 
-pub id-fits : (f : ℕ → ℕ) (i : ℕ) → badId f i ≡ false → sumTo f i + f i < 2 ^ 64
+id-fits : (f : ℕ → ℕ) (i : ℕ) → badId f i ≡ false → sumTo f i + f i < 2 ^ 64
 unfolding badId idAt sumTo
 id-fits f zero h = leb-false _ _ h
 id-fits f (suc i) h = leb-false _ _ (neither (leb (sumTo f i + f i + f (suc i)) (sumTo f i + f i)) _ h .1)
@@ -63,6 +63,9 @@ walk-turn {steps} {test} {n} {i} {sum} {x} r l e f q =
 
 pub walk-end : {steps : ℕ → ℕ} {test : ℕ → Bool} {n i sum : ℕ} → Walk steps test n i sum → n ≤ i → n ≡ first test n
 walk-end {steps} {test} {n} {i} r l = let e : i ≡ n = omega arith in sym (first-none test n (rw e at (r .none)))
+
+pub walk-none : {steps : ℕ → ℕ} {test : ℕ → Bool} {n i sum : ℕ} → Walk steps test n i sum → n ≤ i → anyBelow n test ≡ false
+walk-none {steps} {test} {n} {i} r l = let e : i ≡ n = omega arith in rw e at (r .none)
 
 pub rising-same : {f : ℕ → ℕ} {n i id x : ℕ} → Walk f (badId f) n i id → i < n → x ≡ f i → 0 < i → x ≡ 0 → i ≡ first (badId f) n
 rising-same {f} {n} {i} r l e z q = walk-hit r l (bad-same f i z (sym e ∙ q))
@@ -113,10 +116,6 @@ pub record Span (starts size : ℕ → ℕ) (len n i end : ℕ) : Type 0 where
 pub span-start : (g h : ℕ → ℕ) (len n : ℕ) → Span g h len n 0 0
 span-start g h len n =
     record { within = omega arith; total = omega (arith, sum-none g, sum-none h); fits = omega arith; none = any-none _ }
-
-pub within-data : (g h : ℕ → ℕ) (len n i : ℕ) → anyBelow n (outside len g h) ≡ false → i < n → sumTo g i + g i + sumTo h i + h i ≤ len
-unfolding outside startAt sumTo
-within-data g h len n i p l = ltb-false _ _ (any-miss (outside len g h) n i p l)
 
 module _ {g h : ℕ → ℕ} {len n i end : ℕ} (r : Span g h len n i end) where
   span-hit : i < n → len < sumTo g i + g i + sumTo h i + h i → i ≡ first (outside len g h) n

@@ -1,127 +1,227 @@
--- The whole-shard check passes exactly the sound shards.
-use Prim.Native.Nat.{ℕ, zero, suc, _<_}
-use mathlib.Core.Path.{_≡_, refl, ap}
-use mathlib.Core.Bool.{Bool, true, false, not}
+-- The whole-shard check: its number is that of the first check that holds, it passes exactly the sound shards, and it names the first minishard with a fault.
+use Prim.Native.Nat.{ℕ, zero, suc, _+_, _-_, _≤_, _<_}
+use mathlib.Core.Path.{_≡_, refl, sym, subst, ap, _∙_}
+use mathlib.Core.Logic.{_⊎_, inl, inr, ⊎-elim, _↔_}
 use mathlib.Core.List.{List}
+use native.Mathlib.Nat.{eq-or-lt-of-le}
 use native.Mathlib.Omega.{arith}
-use lib.Dec.{ltb}
-use lib.ListN.{length}
-use borrow.Author.Tests.{ltb-true, ltb-false, lt-ltb, le-ltb, leb-false, lt-leb, eqb-true, eqb-false, eq-eqb, not-true, not-false}
-use Rattle.endian.specs.Choice.{pick}
-use Rattle.endian.specs.Range.{anyBelow, first}
-use Rattle.endian.proofs.Ranges.{any-miss, any-no, first-none, first-lt, first-holds, first-before}
-use Rattle.endian.proofs.Tests.{neither}
+use borrow.Author.Tests.{leb-false, lt-leb, eq-eqb, ne-eqb}
+use Rattle.refusal.specs.Checks.{firstNumber, unless, Refuses}
+use Rattle.refusal.proofs.Refusing.{orElse, first-both, refuses}
 use Rattle.sharding.specs.declared.Sharding.{Sharding}
-use Rattle.sharding.specs.Specification.{allowed, minishardCount, shardCount, noSuchShard}
-use Rattle.shard.specs.declared.inner.Fault.{Fault}
-use Rattle.shard.specs.declared.CheckAnswer.{CheckAnswer}
+use Rattle.sharding.specs.Specification.{minishardCount, shardCount, noSuchShard}
+use Rattle.shard.specs.declared.judge.Fault.{Fault}
+use Rattle.shard.specs.declared.judge.ShardFault.{ShardFault}
 use Rattle.shard.specs.declared.CheckAnswer.the-variants.{Sound, Refused, Faulty}
-use Rattle.shard.specs.Faults.{faultOf, faulty, firstFault, shardFault}
-use Rattle.shard.specs.File.{mostShardBytes, indexLength, indexPart, dataPart, badFileLength, verdict, checkAnswer}
-use Rattle.shard.specs.Sound.{SoundMinishard, SoundShard}
+use Rattle.shard.specs.Faults.{faultOf, noFault, orLater, firstFault, shardFault}
+use Rattle.shard.specs.Checks.{minishardsChecks}
+use Rattle.shard.specs.File.{indexPart, dataPart, fileChecks, shardChecks, verdict, checkAnswer, checkNumber}
+use Rattle.shard.specs.Sound.{SoundShard, FirstFaultIs}
 use Rattle.shard.proofs.Judged.{passes-minishard, minishard-passes}
+use Rattle.shard.proofs.Numbers.{unless-some, Called, file-called, called-file, file-in, minishard-number, minishards-number}
 
--- ---- the first fault of n minishards
+-- ---- the first fault of k minishards from m on
 
-pub faulty-not : (f : ℕ → Fault) (m : ℕ) → faulty f m ≡ false → f m .number ≡ 0
-unfolding faulty
-faulty-not f m p = eqb-true _ _ (not-false _ p)
+zero-or : (k : ℕ) → (k ≡ 0) ⊎ (k ≡ 0 → ⊥)
+zero-or zero = inl refl
+zero-or (suc k) = inr (λ z. omega arith)
 
-pub not-faulty : (f : ℕ → Fault) (m : ℕ) → f m .number ≡ 0 → faulty f m ≡ false
-unfolding faulty
-not-faulty f m p = rw (eq-eqb (f m .number) 0 p)
+later-none : (m : ℕ) (f : Fault) (later : ShardFault) → f .number ≡ 0 → orLater m f later ≡ later
+unfolding orLater
+later-none m f later e = rw (eq-eqb (f .number) 0 e)
 
-pub is-faulty : (f : ℕ → Fault) (m : ℕ) → faulty f m ≡ true → f m .number ≡ 0 → ⊥
-unfolding faulty
-is-faulty f m p = eqb-false _ _ (not-true _ p)
+later-some : (m : ℕ) (f : Fault) (later : ShardFault) → (f .number ≡ 0 → ⊥) → orLater m f later ≡ record { number = f .number; minishard = m; entry = f .entry }
+unfolding orLater
+later-some m f later n = rw (ne-eqb (f .number) 0 n)
 
-pub faultless-each : (f : ℕ → Fault) (n : ℕ) → firstFault f n .number ≡ 0 → (m : ℕ) → m < n → f m .number ≡ 0
-unfolding firstFault
-faultless-each f n p m l = go (anyBelow n (faulty f)) refl
-  where
-    go : (b : Bool) → anyBelow n (faulty f) ≡ b → f m .number ≡ 0
-    go true e =
-        let l = first-lt (faulty f) n e in
-        absurd (is-faulty f _ (first-holds (faulty f) n l) (rw (lt-ltb (first (faulty f) n) n l) at p))
-    go false e = faulty-not f m (any-miss (faulty f) n m e l)
+-- what is found where it is not nothing: the first of them with a fault
+pub record FirstFaulty (f : ℕ → Fault) (m k : ℕ) (r : ShardFault) : Type 0 where
+  pub from : m ≤ r .minishard
+  pub below : r .minishard < m + k
+  pub number : f (r .minishard) .number ≡ r .number
+  pub entry : f (r .minishard) .entry ≡ r .entry
+  pub earlier : (j : ℕ) → m ≤ j → j < r .minishard → f j .number ≡ 0
 
-pub each-faultless : (f : ℕ → Fault) (n : ℕ) → ((m : ℕ) → m < n → f m .number ≡ 0) → firstFault f n ≡ record { number = 0; minishard = 0; entry = 0 }
-unfolding firstFault
-each-faultless f n h =
-    rw (
-      first-none (faulty f) n (any-no (faulty f) n (λ m l. not-faulty f m (h m l))),
-      le-ltb n n (omega arith),
-    )
+module _ (f : ℕ → Fault) where
+  faultless-each : (m k : ℕ) → firstFault f m k .number ≡ 0 → (j : ℕ) → m ≤ j → j < m + k → f j .number ≡ 0
+  unfolding firstFault
+  faultless-each m zero p j l h = absurd (omega arith)
+  faultless-each m (suc k) p j l h = go (faultless-each (suc m) k) (zero-or (f m .number))
+    where
+      go : (firstFault f (suc m) k .number ≡ 0 → (i : ℕ) → suc m ≤ i → i < suc m + k → f i .number ≡ 0) → (f m .number ≡ 0) ⊎ (f m .number ≡ 0 → ⊥) → f j .number ≡ 0
+      go ih (inl z) =
+          ⊎-elim
+          (λ e. subst (λ (i : ℕ). f i .number ≡ 0) e z)
+          (λ o. ih (rw (later-none m (f m) (firstFault f (suc m) k) z) at p) j o (omega arith))
+          (eq-or-lt-of-le l)
+      go ih (inr n) = absurd (n (rw (later-some m (f m) (firstFault f (suc m) k) n) at p))
 
--- ---- the verdict
+  each-faultless : (m k : ℕ) → ((j : ℕ) → m ≤ j → j < m + k → f j .number ≡ 0) → firstFault f m k ≡ noFault
+  unfolding firstFault
+  each-faultless m zero h = refl
+  each-faultless m (suc k) h =
+      later-none m (f m) _ (h m (omega arith) (omega arith))
+      ∙ each-faultless (suc m) k (λ j l o. h j (omega arith) (omega arith))
 
-accepted : (b : Bool) (k : ℕ) (later : CheckAnswer) → pick b (Refused k) later ≡ Sound → (b ≡ false) × (later ≡ Sound)
-accepted true k later e = let z : _≡_ {A = ℕ} 0 1 = cc in absurd (omega arith)
-accepted false k later e = (refl, e)
+  pub first-faulty : (m k : ℕ) → (firstFault f m k .number ≡ 0 → ⊥) → FirstFaulty f m k (firstFault f m k)
+  unfolding firstFault
+  first-faulty m zero p = absurd (p refl)
+  first-faulty m (suc k) p = go (first-faulty (suc m) k) (zero-or (f m .number))
+    where
+      go : ((firstFault f (suc m) k .number ≡ 0 → ⊥) → FirstFaulty f (suc m) k (firstFault f (suc m) k)) → (f m .number ≡ 0) ⊎ (f m .number ≡ 0 → ⊥)
+          → FirstFaulty f m (suc k) (orLater m (f m) (firstFault f (suc m) k))
+      go ih (inl z) =
+          let none = later-none m (f m) (firstFault f (suc m) k) z in
+          let r = ih (rw none at p) in
+          rw none
+          (record {
+            from = omega (arith, r .from);
+            below = omega (arith, r .below);
+            number = r .number;
+            entry = r .entry;
+            earlier = λ j l h. ⊎-elim (λ e. subst (λ (i : ℕ). f i .number ≡ 0) e z) (λ o. r .earlier j o h) (eq-or-lt-of-le l);
+          })
+      go ih (inr n) =
+          rw (later-some m (f m) (firstFault f (suc m) k) n)
+          (record { from = omega arith; below = omega arith; number = refl; entry = refl; earlier = λ j l h. absurd (omega arith) })
 
-verdict-sound : (number m : ℕ) → verdict number m ≡ Sound → number ≡ 0
-unfolding verdict
-verdict-sound zero m e = refl
-verdict-sound (suc k) m e = let z : _≡_ {A = ℕ} 0 1 = cc in absurd (omega arith)
+  -- and minishard i is it, where it has a fault and none before it has
+  first-is : (m k i : ℕ) → m ≤ i → i < m + k → ((j : ℕ) → m ≤ j → j < i → f j .number ≡ 0) → (f i .number ≡ 0 → ⊥)
+      → firstFault f m k ≡ record { number = f i .number; minishard = i; entry = f i .entry }
+  unfolding firstFault
+  first-is m zero i l h p n = absurd (omega arith)
+  first-is m (suc k) i l h p n =
+      ⊎-elim
+      (λ e. subst (λ (j : ℕ). orLater m (f m) (firstFault f (suc m) k) ≡ record { number = f j .number; minishard = j; entry = f j .entry }) e
+      (later-some m (f m) (firstFault f (suc m) k) (λ z. n (subst (λ (j : ℕ). f j .number ≡ 0) e z))))
+      (λ o. later-none m (f m) (firstFault f (suc m) k) (p m (omega arith) o)
+      ∙ first-is (suc m) k i o (omega arith) (λ j a b. p j (omega arith) b) n)
+      (eq-or-lt-of-le l)
+
+  -- over one minishard it is that minishard's own
+  one-fault : (m : ℕ) → (f m .number ≡ 0 → f m .entry ≡ 0) → (firstFault f m 1 .number ≡ f m .number) × (firstFault f m 1 .entry ≡ f m .entry)
+  unfolding firstFault
+  one-fault m h = go (zero-or (f m .number))
+    where
+      go : (f m .number ≡ 0) ⊎ (f m .number ≡ 0 → ⊥) → (orLater m (f m) noFault .number ≡ f m .number) × (orLater m (f m) noFault .entry ≡ f m .entry)
+      go (inl z) = rw (later-none m (f m) noFault z) (sym z, sym (h z))
+      go (inr n) = rw (later-some m (f m) noFault n) (refl, refl)
+
+-- the fault of minishard m, told by the judge of m alone
+pub own-fault : (spec : Sharding) (shard : ℕ) (x d : List ℕ) (m : ℕ) {r : ShardFault} → r ≡ firstFault (faultOf spec shard x d) m (m + 1 - m) → record { number = r .number; entry = r .entry } ≡ faultOf spec shard x d m
+own-fault spec shard x d m e =
+    let one : m + 1 - m ≡ 1 = omega arith in
+    let q = one-fault (faultOf spec shard x d) m (λ z. ap (λ (g : Fault). g .entry) (minishard-passes spec shard x d m (passes-minishard spec shard x d m z))) in
+    rw (e, one) (λ i. record { number = q .0 i; entry = q .1 i })
+
+-- ---- its answer: a refusal of the call, with the number a, or else a fault of minishard m, with the number n
+
+check-of : (a n m : ℕ) → checkNumber (unless Refused a (unless (λ k. Faulty k m) n Sound)) ≡ orElse a n
+unfolding unless orElse
+check-of zero zero m = refl
+check-of zero (suc n) m = refl
+check-of (suc a) n m = refl
+
+given-sound : (a n m : ℕ) → unless Refused a (unless (λ k. Faulty k m) n Sound) ≡ Sound → (a ≡ 0) × (n ≡ 0)
+unfolding unless
+given-sound zero zero m e = (refl, refl)
+given-sound zero (suc n) m e = let z : _≡_ {A = ℕ} 0 1 = cc in absurd (omega arith)
+given-sound (suc a) n m e = let z : _≡_ {A = ℕ} 0 1 = cc in absurd (omega arith)
+
+given-none : (a n m : ℕ) → checkNumber (unless Refused a (unless (λ k. Faulty k m) n Sound)) ≡ 0 → unless Refused a (unless (λ k. Faulty k m) n Sound) ≡ Sound
+unfolding unless
+given-none zero zero m e = refl
+given-none zero (suc n) m e = absurd (omega arith)
+given-none (suc a) n m e = absurd (omega arith)
+
+given-faulty : (a n i k m : ℕ) → unless Refused a (unless (λ j. Faulty j i) n Sound) ≡ Faulty k m → (a ≡ 0) × (n ≡ 0 → ⊥) × (n ≡ k) × (i ≡ m)
+unfolding unless
+given-faulty zero zero i k m e = let z : _≡_ {A = ℕ} 0 1 = cc in absurd (omega arith)
+given-faulty zero (suc n) i k m e = (refl, λ z. omega arith, cc, cc)
+given-faulty (suc a) n i k m e = let z : _≡_ {A = ℕ} 0 1 = cc in absurd (omega arith)
+
+never-refused : (n i k : ℕ) → unless (λ j. Faulty j i) n Sound ≡ Refused k → _≡_ {A = ℕ} 0 1
+unfolding unless
+never-refused zero i k e = cc
+never-refused (suc n) i k e = cc
 
 module _ (spec : Sharding) (shard : ℕ) (file : List ℕ) where
+  abbrev index : List ℕ
+  index = indexPart spec file
+
+  abbrev d : List ℕ
+  d = dataPart spec file
+
+  abbrev f : ℕ → Fault
+  f = faultOf spec shard index d
+
+  -- the number that it gives is that of the first check of the shard that holds
+  pub check-number : checkNumber (checkAnswer spec shard file) ≡ firstNumber (shardChecks spec shard file)
+  unfolding checkAnswer shardChecks shardFault
+  check-number =
+      check-of (firstNumber (fileChecks spec (noSuchShard spec shard) file)) (firstFault f 0 (minishardCount spec) .number) (firstFault f 0 (minishardCount spec) .minishard)
+      ∙ sym
+      (first-both (fileChecks spec (noSuchShard spec shard) file) (minishardsChecks spec shard index d 0 (minishardCount spec)) (file-in spec (noSuchShard spec shard) file)
+      ∙ ap (orElse (firstNumber (fileChecks spec (noSuchShard spec shard) file))) (minishards-number spec shard index d 0 (minishardCount spec)))
+
+  -- 1, 5 and 6 come alone
+  pub check-refuses : Refuses (checkAnswer spec shard file) Refused (fileChecks spec (noSuchShard spec shard) file)
+  unfolding checkAnswer fileChecks
+  check-refuses = refuses Refused (λ j k e. cc) (fileChecks spec (noSuchShard spec shard) file) _ refl (never-refused _ _)
+
   pub check-passes-sound : checkAnswer spec shard file ≡ Sound → SoundShard spec shard file
-  unfolding checkAnswer badFileLength shardFault
+  unfolding checkAnswer shardFault
   check-passes-sound p =
-      let q1 = accepted (not (allowed spec)) 1 _ p in
-      let q5 = accepted (noSuchShard spec shard) 5 _ (q1 .1) in
-      let q6 = accepted (badFileLength spec (length file)) 6 _ (q5 .1) in
-      let o = neither (ltb (length file) (indexLength spec)) _ (q6 .0) in
-      let z = verdict-sound _ _ (q6 .1) in
+      let q = given-sound _ _ _ p in
+      let c = file-called spec (noSuchShard spec shard) file (q .0) in
       record {
-        permitted = not-false _ (q1 .0);
-        numbered = leb-false _ _ (q5 .0);
-        held = ltb-false _ _ (o .0);
-        short = ltb-false _ _ (o .1);
-        each = λ m l. passes-minishard spec shard _ _ m (faultless-each (faultOf spec shard (indexPart spec file) (dataPart spec file)) (minishardCount spec) z m l);
+        permitted = c .permitted;
+        numbered = leb-false _ _ (c .other);
+        held = c .held;
+        short = c .short;
+        each = λ m l. passes-minishard spec shard index d m (faultless-each f 0 (minishardCount spec) (q .1) m (omega arith) (omega arith));
       }
 
   pub sound-passes-check : SoundShard spec shard file → checkAnswer spec shard file ≡ Sound
-  unfolding checkAnswer badFileLength shardFault verdict
+  unfolding checkAnswer shardFault unless
   sound-passes-check g =
+      let c : Called spec (noSuchShard spec shard) file = record { permitted = g .permitted; other = lt-leb (shardCount spec) shard (g .numbered); held = g .held; short = g .short } in
       rw (
-        g .permitted,
-        lt-leb (shardCount spec) shard (g .numbered),
-        le-ltb (length file) (indexLength spec) (g .held),
-        le-ltb mostShardBytes (length file) (g .short),
-        each-faultless (faultOf spec shard (indexPart spec file) (dataPart spec file)) (minishardCount spec)
-            (λ m l. ap (λ (x : Fault). x .number) (minishard-passes spec shard _ _ m (g .each m l))),
+        called-file c,
+        each-faultless f 0 (minishardCount spec) (λ m o l. ap (λ (x : Fault). x .number) (minishard-passes spec shard index d m (g .each m (omega arith)))),
       )
 
--- ---- where the check names a minishard, it is the first with a fault
+  -- it passes exactly where no check of the shard holds
+  pub check-passes : (checkAnswer spec shard file ≡ Sound) ↔ (firstNumber (shardChecks spec shard file) ≡ 0)
+  unfolding checkAnswer
+  check-passes = ((λ e. sym check-number ∙ ap checkNumber e), (λ z. given-none _ _ _ (check-number ∙ z)))
 
-kept : (b : Bool) (i k m : ℕ) (later : CheckAnswer) → pick b (Refused i) later ≡ Faulty k m → later ≡ Faulty k m
-kept true i k m later e = let z : _≡_ {A = ℕ} 0 1 = cc in absurd (omega arith)
-kept false i k m later e = e
+  -- it names minishard m with k exactly where m is the first with a fault and k is the first number that holds of it
+  pub check-names : (k m : ℕ) → (checkAnswer spec shard file ≡ Faulty k m) ↔ FirstFaultIs spec shard file k m
+  unfolding checkAnswer shardFault unless
+  check-names k m = ((λ p. told p), (λ g. tells g))
+    where
+      told : unless Refused (firstNumber (fileChecks spec (noSuchShard spec shard) file)) (verdict (firstFault f 0 (minishardCount spec))) ≡ Faulty k m → FirstFaultIs spec shard file k m
+      told p =
+          let v = given-faulty _ _ _ k m p in
+          let h = first-faulty f 0 (minishardCount spec) (v .1) in
+          let same = v .3 in
+          record {
+            called = v .0;
+            below = omega (arith, h .below, same);
+            earlier = λ j l. passes-minishard spec shard index d j (h .earlier j (omega arith) (omega (arith, same)));
+            number = minishard-number spec shard index d m ∙ (rw same at (h .number)) ∙ v .2;
+            faulty = λ z. v .1 (v .2 ∙ z);
+          }
 
-verdict-faulty : (number i k m : ℕ) → verdict number i ≡ Faulty k m → (number ≡ 0 → ⊥) × (number ≡ k) × (i ≡ m)
-unfolding verdict
-verdict-faulty zero i k m e = let z : _≡_ {A = ℕ} 0 1 = cc in absurd (omega arith)
-verdict-faulty (suc number) i k m e = (λ z. omega arith, cc, cc)
-
-first-named : (f : ℕ → Fault) (n k m : ℕ) → (firstFault f n .number ≡ 0 → ⊥) → firstFault f n .number ≡ k → firstFault f n .minishard ≡ m → (m < n) × (f m .number ≡ k) × ((j : ℕ) → j < m → f j .number ≡ 0)
-unfolding firstFault
-first-named f n k m z p q = go (ltb (first (faulty f) n) n) refl
-  where
-    go : (b : Bool) → ltb (first (faulty f) n) n ≡ b → (m < n) × (f m .number ≡ k) × ((j : ℕ) → j < m → f j .number ≡ 0)
-    go true e =
-        let s : first (faulty f) n ≡ m = rw e at q in (
-          rw s at (ltb-true (first (faulty f) n) n e),
-          rw (e, s) at p,
-          λ j l. faulty-not f j (first-before (faulty f) n j (rw s l)),
-        )
-    go false e = absurd ((rw e at z) refl)
-
-pub check-names-first : (spec : Sharding) (shard : ℕ) (file : List ℕ) (k m : ℕ) → checkAnswer spec shard file ≡ Faulty k m → (m < minishardCount spec) × (faultOf spec shard (indexPart spec file) (dataPart spec file) m .number ≡ k) × ((j : ℕ) → j < m → SoundMinishard spec shard (indexPart spec file) (dataPart spec file) j)
-unfolding checkAnswer shardFault
-check-names-first spec shard file k m p =
-    let q5 = kept (not (allowed spec)) 1 k m _ p in
-    let q6 = kept (noSuchShard spec shard) 5 k m _ q5 in
-    let v = verdict-faulty _ _ k m (kept (badFileLength spec (length file)) 6 k m _ q6) in
-    let h = first-named (faultOf spec shard (indexPart spec file) (dataPart spec file)) (minishardCount spec) k m (v .0) (v .1) (v .2) in
-    (h .0, h .1, λ j l. passes-minishard spec shard _ _ j (h .2 j l))
+      tells : FirstFaultIs spec shard file k m → unless Refused (firstNumber (fileChecks spec (noSuchShard spec shard) file)) (verdict (firstFault f 0 (minishardCount spec))) ≡ Faulty k m
+      tells g =
+          let number : f m .number ≡ k = sym (minishard-number spec shard index d m) ∙ g .number in
+          rw (
+            g .called,
+            first-is f 0 (minishardCount spec) m (omega arith) (omega (arith, g .below))
+                (λ j a b. ap (λ (x : Fault). x .number) (minishard-passes spec shard index d j (g .earlier j b)))
+                (λ z. g .faulty (sym number ∙ z)),
+            number,
+          )
+          (sym (unless-some (λ j. Faulty j m) k Sound (g .faulty)))

@@ -1,17 +1,17 @@
 -- The tests 7 to 11 of a minishard (01, 'Refusal numbers'): each runs over all entries before the next.
--- A fault has the number of the test and the entry, counted from 0, that fails it first; number 0 is no fault.
+-- A fault has the number of the test and the entry, counted from 0, that fails it first (0 for 7 and 8, which speak of no entry); number 0 is no fault.
 use Prim.Native.Nat.{ℕ, zero, suc, _-_, _%_, _^_}
 use mathlib.Core.Bool.{Bool, not, _||_, _&&_}
-use mathlib.Core.List.{List}
+use mathlib.Core.List.{List, [], _∷_}
 use lib.Dec.{ltb, leb, eqb}
 use lib.ListN.{length}
-use Rattle.endian.specs.Choice.{pick}
+use Rattle.refusal.specs.Choice.{pick}
 use Rattle.endian.specs.Range.{anyBelow, first}
 use Rattle.sharding.specs.declared.Sharding.{Sharding}
 use Rattle.sharding.specs.Specification.{minishardCount}
 use Rattle.sharding.specs.Place.{shardOf, minishardOf}
-use Rattle.shard.specs.declared.inner.Fault.{Fault}
-use Rattle.shard.specs.declared.inner.ShardFault.{ShardFault}
+use Rattle.shard.specs.declared.judge.Fault.{Fault}
+use Rattle.shard.specs.declared.judge.ShardFault.{ShardFault}
 use Rattle.shard.specs.Index.{entryStart, entryEnd, entryCount, idSteps, startSteps, sizes, idAt, endAt}
 
 abbrev pub fault : ℕ → ℕ → Fault
@@ -41,9 +41,36 @@ foreignAt spec shard m steps i = foreign spec shard m (idAt steps i)
 unfoldable pub outside : ℕ → (ℕ → ℕ) → (ℕ → ℕ) → ℕ → Bool
 outside n starts size i = ltb n (endAt starts size i)
 
--- the fault of one test over n entries, or what comes after it
-abbrev pub orFirst : ℕ → ℕ → (ℕ → Bool) → Fault → Fault
-orFirst number n test later = pick (anyBelow n test) (fault number (first test n)) later
+-- ---- the tests over entries, as a list
+
+-- a test: its number, and whether entry i fails it
+pub record EntryTest : Type 0 where
+  pub number : ℕ
+  pub fails : ℕ → Bool
+
+abbrev pub entryTest : ℕ → (ℕ → Bool) → EntryTest
+entryTest number fails = record { number = number; fails = fails }
+
+-- those of the minishard index of n entries at s
+abbrev pub idTest : List ℕ → ℕ → EntryTest
+idTest d s = entryTest 9 (badId (idSteps d s))
+
+abbrev pub placeTest : Sharding → ℕ → ℕ → List ℕ → ℕ → EntryTest
+placeTest spec shard m d s = entryTest 10 (foreignAt spec shard m (idSteps d s))
+
+abbrev pub endTest : List ℕ → ℕ → ℕ → EntryTest
+endTest d s n = entryTest 11 (outside (length d) (startSteps d s n) (sizes d s n))
+
+-- in the order in which they run
+unfoldable pub entryTests : Sharding → ℕ → ℕ → List ℕ → ℕ → ℕ → List EntryTest
+entryTests spec shard m d s n = idTest d s ∷ placeTest spec shard m d s ∷ endTest d s n ∷ []
+
+-- each test runs over all n entries before the next: the first that some entry fails, with the first entry that fails it
+unfoldable pub firstOf : ℕ → List EntryTest → Fault
+firstOf n [] = fault 0 0
+firstOf n (t ∷ ts) = pick (anyBelow n (t .fails)) (fault (t .number) (first (t .fails) n)) (firstOf n ts)
+
+-- ---- a minishard
 
 -- the fault of minishard m, whose minishard index stands in d from s to e
 unfoldable pub faultAt : Sharding → ℕ → ℕ → List ℕ → ℕ → ℕ → Fault
@@ -51,25 +78,25 @@ faultAt spec shard m d s e =
     let n = entryCount s e in
     pick (badEntry d s e) (fault 7 0)
     (pick (badLength s e) (fault 8 0)
-    (orFirst 9 n (badId (idSteps d s))
-    (orFirst 10 n (foreignAt spec shard m (idSteps d s))
-    (orFirst 11 n (outside (length d) (startSteps d s n) (sizes d s n))
-    (fault 0 0)))))
+    (firstOf n (entryTests spec shard m d s n)))
 
 unfoldable pub faultOf : Sharding → ℕ → List ℕ → List ℕ → ℕ → Fault
 faultOf spec shard index d m = faultAt spec shard m d (entryStart index m) (entryEnd index m)
 
--- ---- a whole shard: the first minishard, in number order, with a fault
+-- ---- minishards in number order, the first with a fault
 
-unfoldable pub faulty : (ℕ → Fault) → ℕ → Bool
-faulty f m = not (eqb (f m .number) 0)
+abbrev pub noFault : ShardFault
+noFault = record { number = 0; minishard = 0; entry = 0 }
 
--- of n minishards with the faults f
-unfoldable pub firstFault : (ℕ → Fault) → ℕ → ShardFault
-firstFault f n =
-    let m = first (faulty f) n in
-    pick (ltb m n) (record { number = f m .number; minishard = m; entry = f m .entry })
-    (record { number = 0; minishard = 0; entry = 0 })
+-- the fault of minishard m, or, where it has none, what comes later
+unfoldable pub orLater : ℕ → Fault → ShardFault → ShardFault
+orLater m f later = pick (eqb (f .number) 0) later (record { number = f .number; minishard = m; entry = f .entry })
 
+-- of k minishards from m on, with the faults f
+unfoldable pub firstFault : (ℕ → Fault) → ℕ → ℕ → ShardFault
+firstFault f m zero = noFault
+firstFault f m (suc k) = orLater m (f m) (firstFault f (suc m) k)
+
+-- of a whole shard
 unfoldable pub shardFault : Sharding → ℕ → List ℕ → List ℕ → ShardFault
-shardFault spec shard index d = firstFault (faultOf spec shard index d) (minishardCount spec)
+shardFault spec shard index d = firstFault (faultOf spec shard index d) 0 (minishardCount spec)

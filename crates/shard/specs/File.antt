@@ -1,16 +1,17 @@
 -- A shard as one file, and the verdict of the whole-shard check (01, 'Refusal numbers', 1, 5, 6, then 7 to 11 by minishards).
-use Prim.Native.Nat.{ℕ, zero, suc, _*_}
+use Prim.Native.Nat.{ℕ, _*_}
 use mathlib.Core.Bool.{Bool, not, _||_}
-use mathlib.Core.List.{List}
+use mathlib.Core.List.{List, [], _∷_, _++_}
 use lib.Dec.{ltb}
 use lib.ListN.{length, take, drop}
-use Rattle.endian.specs.Choice.{pick}
+use Rattle.refusal.specs.Checks.{Check, check, unless, answered}
 use Rattle.sharding.specs.declared.Sharding.{Sharding}
 use Rattle.sharding.specs.Specification.{allowed, minishardCount, noSuchShard}
-use Rattle.shard.specs.declared.inner.ShardFault.{ShardFault}
+use Rattle.shard.specs.declared.judge.ShardFault.{ShardFault}
 use Rattle.shard.specs.declared.CheckAnswer.{CheckAnswer}
 use Rattle.shard.specs.declared.CheckAnswer.the-variants.{Sound, Refused, Faulty}
 use Rattle.shard.specs.Faults.{shardFault}
+use Rattle.shard.specs.Checks.{minishardsChecks}
 
 -- the longest shard
 abbrev pub mostShardBytes : ℕ
@@ -31,17 +32,31 @@ dataPart spec file = drop (indexLength spec) file
 unfoldable pub badFileLength : Sharding → ℕ → Bool
 badFileLength spec n = ltb n (indexLength spec) || ltb mostShardBytes n
 
--- what the check says of the first fault
-unfoldable pub verdict : ℕ → ℕ → CheckAnswer
-verdict zero m = Sound
-verdict (suc k) m = Faulty (suc k) m
+-- ---- the checks
 
-abbrev pub verdictOf : ShardFault → CheckAnswer
-verdictOf f = verdict (f .number) (f .minishard)
+-- 1, 5 and 6 of a call on a file; what 5 is depends on the call
+unfoldable pub fileChecks : Sharding → Bool → List ℕ → List Check
+fileChecks spec five file = check 1 (not (allowed spec)) ∷ check 5 five ∷ check 6 (badFileLength spec (length file)) ∷ []
+
+-- all of a shard
+unfoldable pub shardChecks : Sharding → ℕ → List ℕ → List Check
+shardChecks spec shard file =
+    fileChecks spec (noSuchShard spec shard) file
+    ++ minishardsChecks spec shard (indexPart spec file) (dataPart spec file) 0 (minishardCount spec)
+
+-- ---- the whole-shard check
+
+-- what it says of the first fault: 7 to 11 come with the minishard
+abbrev pub verdict : ShardFault → CheckAnswer
+verdict f = unless (λ k. Faulty k (f .minishard)) (f .number) Sound
 
 unfoldable pub checkAnswer : Sharding → ℕ → List ℕ → CheckAnswer
 checkAnswer spec shard file =
-    pick (not (allowed spec)) (Refused 1)
-    (pick (noSuchShard spec shard) (Refused 5)
-    (pick (badFileLength spec (length file)) (Refused 6)
-    (verdictOf (shardFault spec shard (indexPart spec file) (dataPart spec file)))))
+    answered Refused (fileChecks spec (noSuchShard spec shard) file)
+    (verdict (shardFault spec shard (indexPart spec file) (dataPart spec file)))
+
+-- the number in its answer; 0 where it passes
+abbrev pub checkNumber : CheckAnswer → ℕ
+checkNumber Sound = 0
+checkNumber (Refused k) = k
+checkNumber (Faulty k m) = k

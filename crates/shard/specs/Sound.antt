@@ -5,11 +5,13 @@ use mathlib.Core.Bool.{true}
 use mathlib.Core.Logic.{_⊎_}
 use mathlib.Core.List.{List}
 use lib.ListN.{length}
+use Rattle.refusal.specs.Checks.{firstNumber}
 use Rattle.sharding.specs.declared.Sharding.{Sharding}
-use Rattle.sharding.specs.Specification.{allowed, minishardCount, shardCount}
+use Rattle.sharding.specs.Specification.{allowed, minishardCount, shardCount, noSuchShard}
 use Rattle.sharding.specs.Place.{shardOf, minishardOf}
 use Rattle.shard.specs.Index.{entryStart, entryEnd, entryCount, idSteps, startSteps, sizes, idAt, endAt}
-use Rattle.shard.specs.File.{mostShardBytes, indexLength, indexPart, dataPart}
+use Rattle.shard.specs.Checks.{minishardChecks}
+use Rattle.shard.specs.File.{mostShardBytes, indexLength, indexPart, dataPart, fileChecks}
 
 -- none of 7 to 11 holds of minishard m, whose minishard index stands in d from s to e
 pub record SoundFrom (spec : Sharding) (shard m : ℕ) (d : List ℕ) (s e : ℕ) : Type 0 where
@@ -37,3 +39,13 @@ pub record SoundShard (spec : Sharding) (shard : ℕ) (file : List ℕ) : Type 0
   pub held : indexLength spec ≤ length file
   pub short : length file ≤ mostShardBytes
   pub each : (m : ℕ) → m < minishardCount spec → SoundMinishard spec shard (indexPart spec file) (dataPart spec file) m
+
+-- ---- which are not
+
+-- none of 1, 5 and 6 holds; minishard m is the first, in number order, with a fault, and k is the first number that holds of it
+pub record FirstFaultIs (spec : Sharding) (shard : ℕ) (file : List ℕ) (k m : ℕ) : Type 0 where
+  pub called : firstNumber (fileChecks spec (noSuchShard spec shard) file) ≡ 0
+  pub below : m < minishardCount spec
+  pub earlier : (j : ℕ) → j < m → SoundMinishard spec shard (indexPart spec file) (dataPart spec file) j
+  pub number : firstNumber (minishardChecks spec shard (indexPart spec file) (dataPart spec file) m) ≡ k
+  pub faulty : k ≡ 0 → ⊥

@@ -9,7 +9,7 @@ use native.Mathlib.Omega.{arith}
 use lib.Dec.{eqb}
 use borrow.Author.Tests.{ltb-false, le-ltb, eqb-true}
 use Rattle.sharding.specs.declared.Sharding.{Sharding}
-use Rattle.sharding.specs.Specification.{mostPreshift, mostMinishardBits, mostShardBits, identity, murmur, minishardBits, shardBits, allowed, judged, Within, minishardCount, shardCount}
+use Rattle.sharding.specs.Specification.{mostPreshift, mostMinishardBits, mostShardBits, identity, murmur, minishardBits, shardBits, allowed, Within, minishardCount, shardCount}
 
 none : (a b c d : Bool) → not (a || (not b || (c || d))) ≡ true → (a ≡ false) × ((b ≡ true) × ((c ≡ false) × (d ≡ false)))
 none false true false false e = (refl, (refl, (refl, refl)))
@@ -52,12 +52,6 @@ within-allowed {spec} w =
 -- what a test of it tells
 pub told-allowed : (spec : Sharding) {r : Bool} → r ≡ allowed spec → r ≡ true → allowed spec ≡ true
 told-allowed spec p q = sym p ∙ q
-
-pub judged-allowed : (spec : Sharding) {r : Bool} → r ≡ allowed spec → r ≡ true → 0 ≡ judged spec
-judged-allowed spec p q = rw (← p, q)
-
-pub judged-refused : (spec : Sharding) {r : Bool} → r ≡ allowed spec → r ≡ false → 1 ≡ judged spec
-judged-refused spec p q = rw (← p, q)
 
 -- what is allowed can be shifted by in a u64
 pub preshift-shifts : (spec : Sharding) → allowed spec ≡ true → spec .preshift < 64

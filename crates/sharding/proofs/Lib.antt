@@ -1,5 +1,4 @@
 -- Laws of the definitions.
-pub mod Hash
 pub mod Allowed
 pub mod Placed
-pub mod Worked
+pub mod Batched

@@ -1,18 +1,18 @@
 -- Laws of the place of an id.
 use Prim.Native.Nat.{ℕ, _/_, _%_, _^_, _<_}
-use mathlib.Core.Path.{_≡_, refl, sym, _∙_}
-use mathlib.Core.Bool.{Bool, true, false}
-use native.Mathlib.Nat.{mod-lt, lt-of-le-of-lt}
-use lib.Dec.{eqb}
-use lib.Pow.{pow-pos, shr-le}
+use mathlib.Core.Path.{_≡_, refl}
+use mathlib.Core.Bool.{Bool, true, false, not}
+use native.Mathlib.Nat.{mod-lt}
+use lib.Pow.{pow-pos}
 use borrow.Author.Tests.{eq-eqb, ne-eqb}
-use Rattle.endian.specs.Choice.{pick}
+use Rattle.refusal.specs.Choice.{pick}
+use Rattle.refusal.proofs.Picks.{by-picks}
+use Rattle.murmur.specs.Murmur.{murmurHash}
 use Rattle.sharding.specs.declared.Sharding.{Sharding}
 use Rattle.sharding.specs.declared.Place.{Place}
 use Rattle.sharding.specs.declared.PlaceAnswer.the-variants.{At, Refused}
 use Rattle.sharding.specs.Specification.{murmur, allowed, minishardCount, shardCount, minishardBits, shardBits}
-use Rattle.sharding.specs.Place.{murmurHash, hashedId, shardOf, minishardOf, placeOf, placeAnswer}
-use Rattle.sharding.proofs.Hash.{murmur-below}
+use Rattle.sharding.specs.Place.{hashedId, shardOf, minishardOf, placeOf, placeChecks, placeAnswer}
 
 -- ---- the hashed id by its two kinds
 
@@ -26,25 +26,17 @@ identity-hashed spec id h e = rw (ne-eqb (spec .hash) murmur h) e
 
 -- ---- bounds
 
-pub hashed-below : (spec : Sharding) (id : ℕ) → id < 2 ^ 64 → hashedId spec id < 2 ^ 64
-unfolding hashedId
-hashed-below spec id h = by-kind (eqb (spec .hash) murmur)
-  where
-    by-kind : (b : Bool) → pick b (murmurHash (id / 2 ^ spec .preshift)) (id / 2 ^ spec .preshift) < 2 ^ 64
-    by-kind true = murmur-below (id / 2 ^ spec .preshift)
-    by-kind false = lt-of-le-of-lt (shr-le id (spec .preshift)) h
-
 -- the rest of a division by a power of two
 pub rest-below : (n k : ℕ) {r : ℕ} → r ≡ n % 2 ^ k → r < 2 ^ k
 rest-below n k p = rw p (mod-lt n (pow-pos k))
 
 pub minishard-below : (spec : Sharding) (id : ℕ) → minishardOf spec id < minishardCount spec
 unfolding minishardOf
-minishard-below spec id = rest-below (hashedId spec id) (minishardBits spec) refl
+minishard-below spec id = rest-below _ (minishardBits spec) refl
 
 pub shard-below : (spec : Sharding) (id : ℕ) → shardOf spec id < shardCount spec
 unfolding shardOf
-shard-below spec id = rest-below (hashedId spec id / minishardCount spec) (shardBits spec) refl
+shard-below spec id = rest-below _ (shardBits spec) refl
 
 -- ---- the two parts of a hashed id
 
@@ -58,17 +50,20 @@ shard-bits spec id p q = cc
 
 -- ---- the answer
 
+-- as a choice for its one check
+pub place-by-picks : (spec : Sharding) (id : ℕ) → placeAnswer spec id ≡ pick (not (allowed spec)) (Refused 1) (At (placeOf spec id))
+unfolding placeAnswer placeChecks
+place-by-picks spec id = by-picks Refused (placeChecks spec) _ refl
+
 pub answer-at : (spec : Sharding) (id : ℕ) {b : Bool} {p : Place} → b ≡ allowed spec → b ≡ true → p ≡ placeOf spec id → At p ≡ placeAnswer spec id
-unfolding placeAnswer
-answer-at spec id e t q = rw (← e, t, q)
+answer-at spec id e t q = rw (place-by-picks spec id, ← e, t, q)
 
 pub answer-refused : (spec : Sharding) (id : ℕ) {b : Bool} → b ≡ allowed spec → b ≡ false → Refused 1 ≡ placeAnswer spec id
-unfolding placeAnswer
-answer-refused spec id e t = rw (← e, t)
+answer-refused spec id e t = rw (place-by-picks spec id, ← e, t)
 
 -- ---- of the id only the bits above the preshift count
 
-pub same-hashed : (spec : Sharding) (a b : ℕ) → a / 2 ^ spec .preshift ≡ b / 2 ^ spec .preshift → hashedId spec a ≡ hashedId spec b
+same-hashed : (spec : Sharding) (a b : ℕ) → a / 2 ^ spec .preshift ≡ b / 2 ^ spec .preshift → hashedId spec a ≡ hashedId spec b
 unfolding hashedId
 same-hashed spec a b e = rw e
 

@@ -1,4 +1,4 @@
--- The sharding specification, the hash, and the place of an id.
+-- The sharding specification, and the place of an id.
 pub mod Specification
-pub mod Murmur
 pub mod Place
+pub mod Batch

@@ -4,7 +4,6 @@ use mathlib.Core.Path.{_≡_}
 use mathlib.Core.Bool.{Bool, not, _||_}
 use mathlib.Core.Logic.{_⊎_}
 use lib.Dec.{ltb, leb, eqb}
-use Rattle.endian.specs.Choice.{pick}
 use Rattle.sharding.specs.declared.Sharding.{Sharding}
 
 -- the limits, named once
@@ -44,10 +43,6 @@ pub record Within (spec : Sharding) : Type 0 where
   pub hash : (spec .hash ≡ identity) ⊎ (spec .hash ≡ murmur)
   pub minishard : minishardBits spec ≤ mostMinishardBits
   pub shard : shardBits spec ≤ mostShardBits
-
--- the number of the refusal that a specification alone can give, or 0: for callers that test it first
-abbrev pub judged : Sharding → ℕ
-judged spec = pick (allowed spec) 0 1
 
 -- how many minishards a shard has, and how many shards there are (source 002, 'Sharding specification')
 abbrev pub minishardCount : Sharding → ℕ

@@ -2,11 +2,10 @@
 ghost use mathlib.Core.Path.{_≡_};
 ghost use mathlib.Core.Bool.{true};
 ghost use Prim.Native.Nat.{_/_, _%_, _^_, _<_, _≤_};
-ghost use Rattle.sharding.specs.Specification.{mostMinishardBits, mostShardBits, allowed, judged, minishardCount, shardCount};
+ghost use Rattle.sharding.specs.Specification.{mostMinishardBits, mostShardBits, allowed, minishardCount, shardCount};
 ghost use Rattle.sharding.specs.Place.{hashedId, shardOf, minishardOf, placeOf};
 use crate::Place;
 use crate::Sharding;
-use crate::murmur;
 
 const MOST_PRESHIFT: u8 = 63;
 
@@ -25,13 +24,6 @@ pub fn is_allowed(spec: Sharding) -> bool
     let known = (spec.hash == IDENTITY) | (spec.hash == MURMUR);
     let wide = (spec.minishard_bits > MOST_MINISHARD_BITS) | (spec.shard_bits > MOST_SHARD_BITS);
     !((spec.preshift > MOST_PRESHIFT) | (!known | wide))
-}
-
-// 1 where refusal 1 holds, else 0.
-pub fn judge(spec: Sharding) -> u8
-    ensures { λ r. ⌜ r ≡ judged spec ⌝ }
-{
-    if is_allowed(spec) { 0 } else { 1 }
 }
 
 fn two_to(bits: u8) -> u64

@@ -1,6 +1,6 @@
 // The sharding specification and the place of an id: its shard and, within it, its minishard.
+pub mod batch;
 pub mod inner;
-mod murmur;
 
 ghost use mathlib.Core.Path.{_≡_};
 ghost use Rattle.sharding.specs.Place.{placeAnswer};

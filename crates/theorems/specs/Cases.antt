@@ -4,10 +4,10 @@ use mathlib.Core.List.{List, [], _∷_, _++_}
 use lib.Dec.{eqb}
 use lib.IntN.{ℤ, pos, negsuc}
 use lib.Ieee.{Float, binary32, ofInt, toBits}
-use Rattle.endian.specs.Choice.{pick}
+use Rattle.refusal.specs.Choice.{pick}
 use Rattle.endian.specs.Little.{le, row}
-use Rattle.endian.specs.declared.Written.{Written}
-use Rattle.endian.specs.declared.Written.the-variants.{Length}
+use Rattle.refusal.specs.declared.Written.{Written}
+use Rattle.refusal.specs.declared.Written.the-variants.{Length}
 use Rattle.grid.specs.declared.Extents.{Extents}
 use Rattle.grid.specs.declared.Cell.{Cell}
 use Rattle.grid.specs.declared.Point.{Point}
@@ -29,16 +29,16 @@ use Rattle.sharding.specs.declared.PlaceAnswer.the-variants.{At as Placed}
 use Rattle.sharding.specs.Specification.{identity}
 use Rattle.sharding.specs.Place.{placeAnswer}
 use Rattle.names.specs.Shards.{shardNameAnswer, shardNameLeft}
-use Rattle.shard.specs.declared.LookupAnswer.{LookupAnswer}
-use Rattle.shard.specs.declared.LookupAnswer.the-variants.{Found, Refused as NotFound}
-use Rattle.shard.specs.Find.{lookupAnswer}
-use Rattle.settle.specs.Form.{Item}
-use Rattle.settle.specs.Content.{contentOf, formOf, formLength}
+use Rattle.lookup.specs.declared.LookupAnswer.{LookupAnswer}
+use Rattle.lookup.specs.declared.LookupAnswer.the-variants.{Found, Refused as NotFound}
+use Rattle.lookup.specs.Find.{lookupAnswer}
+use Rattle.shard.specs.Items.{Item}
+use Rattle.form.specs.Content.{fileContent, fileForm, fileFormLength}
 use Rattle.settle.specs.Answers.{settleAnswer, settleLeft}
-use Rattle.manifest.specs.declared.Corner.{Corner}
-use Rattle.manifest.specs.declared.CornersAnswer.{CornersAnswer}
-use Rattle.manifest.specs.declared.CornersAnswer.the-variants.{Corners}
-use Rattle.manifest.specs.Boxes.{cornersAnswer}
+use Rattle.corners.specs.declared.Corner.{Corner}
+use Rattle.corners.specs.declared.CornersAnswer.{CornersAnswer}
+use Rattle.corners.specs.declared.CornersAnswer.the-variants.{Corners}
+use Rattle.corners.specs.Boxes.{cornersAnswer}
 
 -- ---- what a case asks and what it expects
 
@@ -72,8 +72,8 @@ answered (cells v a) = cells v (cellAnswer v)
 answered (bounds v c a) = bounds v c (boundsAnswer v c)
 answered (place spec id a) = place spec id (placeAnswer spec id)
 answered (name spec shard out a left) = name spec shard out (shardNameAnswer spec shard out) (shardNameLeft spec shard out)
-answered (lists spec file l) = lists spec file (contentOf spec file)
-answered (form spec file s n) = form spec file (formOf spec file) (formLength spec file)
+answered (lists spec file l) = lists spec file (fileContent spec file)
+answered (form spec file s n) = form spec file (fileForm spec file) (fileFormLength spec file)
 answered (settles spec shard file out a left) = settles spec shard file out (settleAnswer spec shard file out) (settleLeft spec shard file out)
 answered (lookup spec shard file id a) = lookup spec shard file id (lookupAnswer spec shard file id)
 answered (corners s l i a) = corners s l i (cornersAnswer s l i)

@@ -5,11 +5,10 @@
 //! runs, its median and its middle half, and, where the memory sets one, the
 //! limit. Both sides do the same work with the same tests, and must give the
 //! same answers. Words on the command line choose the measures whose group has
-//! one of them: copy, key, place, shard, card, manifest, locate, desk.
+//! one of them: key, place, shard, card, manifest, locate, desk.
 
 mod cards;
 mod clock;
-mod copying;
 mod desk;
 mod locating;
 mod manifests;
@@ -18,8 +17,7 @@ mod runner;
 mod shards;
 
 /// The groups of measures, by the word that chooses them.
-const GROUPS: [(&str, fn()); 8] = [
-    ("copy", copying::run),
+const GROUPS: [(&str, fn()); 7] = [
     ("key", places::run_keys),
     ("place", places::run_places),
     ("shard", shards::run),

@@ -1,4 +1,4 @@
-//! The check of a mesh manifest.
+//! Mesh manifests: the check, a node, all nodes.
 
 use crate::runner::{numbers, pass, Measure};
 use bench::plain::manifests as plain;
@@ -9,17 +9,24 @@ use std::hint::black_box;
 /// As many nodes as a manifest of one level can have.
 const NODES: usize = (MOST_BYTES - 48) / 16;
 
+/// A manifest of levels with these positions.
+fn manifest_of(levels: &[&[[u32; 3]]]) -> Vec<u8> {
+    let mut items = vec![1f32.to_bits(); 3];
+    items.extend([0, 0, 0, levels.len() as u32]);
+    items.resize(items.len() + 4 * levels.len(), 0);
+    items.extend(levels.iter().map(|positions| positions.len() as u32));
+    for positions in levels {
+        for axis in 0..3 {
+            items.extend(positions.iter().map(|position| position[axis]));
+        }
+        items.extend(positions.iter().map(|_| 1_000));
+    }
+    items.into_iter().flat_map(u32::to_le_bytes).collect()
+}
+
 /// A manifest of one level with these positions.
 fn manifest(positions: &[[u32; 3]]) -> Vec<u8> {
-    let mut items = vec![0; 12];
-    items[..3].fill(1f32.to_bits());
-    items[6] = 1;
-    items[11] = positions.len() as u32;
-    for axis in 0..3 {
-        items.extend(positions.iter().map(|position| position[axis]));
-    }
-    items.extend(positions.iter().map(|_| 1_000));
-    items.into_iter().flat_map(u32::to_le_bytes).collect()
+    manifest_of(&[positions])
 }
 
 /// The first positions of the curve, without gaps.
@@ -78,32 +85,51 @@ fn folded([x, y, z]: [u32; 3], start: u64, size: u32) -> u64 {
     start ^ u64::from(x ^ y << 8 ^ z << 16) ^ u64::from(size) << 32
 }
 
-/// A walk over all nodes of a manifest, timed by node.
-fn walks(name: &str, positions: &[[u32; 3]]) {
-    let bytes = manifest(positions);
-    Measure {
+/// All nodes of a manifest, a call for each level, timed by node; the limit
+/// loads all bytes and fills the output once.
+fn all_nodes(name: &str, levels: &[&[[u32; 3]]]) {
+    let bytes = manifest_of(levels);
+    let count = levels.iter().map(|positions| positions.len()).sum();
+    let room = || vec![1; 5 * count];
+    let (mut ours, mut theirs, mut filled) = (room(), room(), room());
+    let measure = Measure {
         name,
-        operations: positions.len(),
-        bar: None,
-    }
-    .run_beside(
+        operations: count,
+        bar: Some(1.3),
+    };
+    measure.run_beside(
         || {
-            let nodes = Manifest::open(black_box(&bytes)).nodes();
-            nodes.expect("the manifest is sound").fold(0, |all, visit| {
-                let node = visit.node;
-                all ^ folded(node.position, node.start, node.size)
+            let manifest = Manifest::open(black_box(&bytes));
+            written(levels.len(), &mut ours, |level, out| {
+                manifest.write_nodes_of(level as u64, out).ok()
             })
         },
         || {
-            let mut all = 0;
-            let sound = plain::nodes(black_box(&bytes), |position, start, size| {
-                all ^= folded(position, start, size);
-            });
-            assert!(sound.is_ok());
-            all
+            written(levels.len(), &mut theirs, |level, out| {
+                plain::nodes(black_box(&bytes), level, out).ok()
+            })
         },
-        || pass(&bytes),
+        || {
+            black_box(&mut filled[..]).fill(bytes.len() as u64);
+            pass(&bytes) ^ filled[count]
+        },
     );
+    assert!(ours == theirs, "{name}: the numbers");
+}
+
+/// Lets each of that many levels be written behind the one before it, and gives
+/// how many numbers these are.
+fn written(
+    levels: usize,
+    out: &mut [u64],
+    write: impl Fn(usize, &mut [u64]) -> Option<usize>,
+) -> u64 {
+    let mut length = 0;
+    for level in 0..levels {
+        let room = black_box(&mut out[length..]);
+        length += write(level, room).expect("the manifest is sound and its nodes fit");
+    }
+    length as u64
 }
 
 /// A node of a small manifest, which each call judges anew.
@@ -138,7 +164,10 @@ pub fn run() {
     let dense = dense();
     nodes("manifest, a node of 64", &dense[..64]);
     nodes("manifest, a node of 4096", &dense[..4096]);
-    walks("manifest, all nodes, a node", &dense);
+    all_nodes("manifest, all nodes, a node", &[&dense]);
+    let cube = |level: usize| &dense[..1 << (18 - 3 * level)];
+    let levels: Vec<_> = (0..7).map(cube).collect();
+    all_nodes("manifest, all nodes of 7 levels, a node", &levels);
     checks("manifest check, dense, a node", dense);
     checks("manifest check, scattered, a node", scattered());
 }

@@ -25,12 +25,7 @@ fn sample(hash: u8, minishard_bits: u8, chunks: usize, length: usize) -> Sample 
     let body = bytes(length);
     let content: Vec<(u64, &[u8])> = ids.iter().map(|id| (*id, &body[..])).collect();
     Sample {
-        sharding: Sharding {
-            preshift: 0,
-            hash,
-            minishard_bits,
-            shard_bits: 0,
-        },
+        sharding: compare::sides::sharding(&sharding),
         file: settled_form(&sharding, &content),
         ids,
     }

@@ -14,11 +14,11 @@ mod question;
 mod quiet;
 pub mod run;
 pub mod shrink;
-mod sides;
+pub mod sides;
 
 /// What a comparison of two shards gives where both are sound and do not list
-/// the same.
-pub const LISTS_DIFFER: u8 = 30;
+/// the same. No refusal has this number.
+pub const LISTS_DIFFER: u8 = 255;
 
 /// An entry point of the library, compared with the reference.
 #[derive(Clone, Copy)]
@@ -39,7 +39,6 @@ pub struct Part {
 
 /// All parts.
 pub const PARTS: &[Part] = &[
-    parts::bytes::BYTES,
     parts::grid::GRID,
     parts::grid::KEY,
     parts::grid::KEYS,
@@ -64,6 +63,17 @@ pub const PARTS: &[Part] = &[
     parts::manifest::MANIFEST_LEVELS,
     parts::manifest::MANIFEST_FIELD,
     parts::manifest::MANIFEST_NODE,
+    parts::manifest::MANIFEST_NODES,
+    parts::manifest::MANIFEST_ALL_NODES,
     parts::manifest::MANIFEST_CORNERS,
-    parts::manifest::MANIFEST_WALK,
 ];
+
+#[cfg(test)]
+mod tests {
+    use super::*;
+
+    #[test]
+    fn no_refusal_has_a_number_of_the_tests() {
+        assert_eq!(coronagamba::Refusal::meaning(LISTS_DIFFER), None);
+    }
+}

@@ -3,6 +3,7 @@
 use crate::quiet::outcome;
 use crate::shrink::shrink;
 use crate::Part;
+use std::collections::BTreeMap;
 use std::fmt;
 use std::ops::Range;
 use std::path::Path;
@@ -83,29 +84,28 @@ fn scramble(rng: &mut Rng, input: &mut Vec<u8>) {
 }
 
 /// How often each refusal was met; 0 stands for success.
-#[derive(Clone, Copy, Debug, Default, PartialEq, Eq)]
+#[derive(Clone, Debug, Default, PartialEq, Eq)]
 pub struct Tally {
-    counts: [u64; 32],
+    counts: BTreeMap<u8, u64>,
 }
 
 impl Tally {
     fn note(&mut self, met: u8) {
-        self.counts[usize::from(met)] += 1;
+        *self.counts.entry(met).or_default() += 1;
     }
 
     /// The numbers met, rising.
     pub fn numbers(&self) -> Vec<u8> {
-        let met = (0..).zip(self.counts).filter(|(_, count)| *count > 0);
-        met.map(|(number, _)| number).collect()
+        self.counts.keys().copied().collect()
     }
 }
 
 impl fmt::Display for Tally {
     fn fmt(&self, f: &mut fmt::Formatter<'_>) -> fmt::Result {
-        let total: u64 = self.counts.iter().sum();
+        let total: u64 = self.counts.values().sum();
         write!(f, "{total} cases")?;
-        for number in self.numbers() {
-            write!(f, ", {number}: {}", self.counts[usize::from(number)])?;
+        for (number, count) in &self.counts {
+            write!(f, ", {number}: {count}")?;
         }
         Ok(())
     }

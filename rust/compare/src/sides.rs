@@ -1,16 +1,30 @@
-//! The reference's values as the library's.
+//! The reference's values as the library's. All that compare the two take them
+//! from here.
 
 use coronagamba::manifest::Node;
-use coronagamba::{Card, Place, Point, Refusal, Sharding, Volume};
+use coronagamba::{Card, Cell, Extents, Place, Point, Refusal, Sharding, Volume};
 
+/// A volume.
 pub fn volume(volume: &reference::grid::Volume) -> Volume {
     Volume::new(volume.size, volume.chunk, volume.offset)
 }
 
+/// Extents.
+pub fn extents(extents: [u32; 3]) -> Extents {
+    Extents::from(extents)
+}
+
+/// A cell.
+pub fn cell(cell: [u32; 3]) -> Cell {
+    Cell::from(cell)
+}
+
+/// A bound of a cell.
 pub fn point(point: [i128; 3]) -> Point {
     Point::from(point.map(|number| i64::try_from(number).expect("bounds fit i64")))
 }
 
+/// A specification.
 pub fn sharding(sharding: &reference::sharding::Sharding) -> Sharding {
     Sharding {
         preshift: sharding.preshift,
@@ -20,6 +34,7 @@ pub fn sharding(sharding: &reference::sharding::Sharding) -> Sharding {
     }
 }
 
+/// Where an id belongs.
 pub fn place(place: reference::sharding::Place) -> Place {
     Place {
         shard: place.shard,
@@ -27,6 +42,7 @@ pub fn place(place: reference::sharding::Place) -> Place {
     }
 }
 
+/// A card.
 pub fn card(card: &reference::card::Card) -> Card {
     Card {
         sharding: sharding(&card.sharding),
@@ -34,6 +50,7 @@ pub fn card(card: &reference::card::Card) -> Card {
     }
 }
 
+/// A node of a manifest.
 pub fn node(node: reference::manifest::Node) -> Node {
     Node {
         position: node.position,
@@ -46,4 +63,9 @@ pub fn node(node: reference::manifest::Node) -> Node {
 pub fn refusal(refusal: impl Into<reference::Refusal>) -> Refusal {
     let reference::Refusal { number, minishard } = refusal.into();
     Refusal { number, minishard }
+}
+
+/// An answer of the reference.
+pub fn answer<T>(answer: Result<T, impl Into<reference::Refusal>>) -> Result<T, Refusal> {
+    answer.map_err(refusal)
 }

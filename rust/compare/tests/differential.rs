@@ -77,7 +77,6 @@ macro_rules! quick {
 }
 
 quick! {
-    bytes: 600_000,
     grid: 600_000,
     key: 600_000,
     keys: 200_000,
@@ -102,8 +101,9 @@ quick! {
     manifest_levels: 10_000,
     manifest_field: 80_000,
     manifest_node: 100_000,
+    manifest_nodes: 100_000,
+    manifest_all_nodes: 50_000,
     manifest_corners: 100_000,
-    manifest_walk: 80_000,
 }
 
 /// The number in a variable, where it is set.

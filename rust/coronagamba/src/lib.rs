@@ -10,15 +10,16 @@
 #![warn(clippy::undocumented_unsafe_blocks)]
 
 mod card;
-pub mod endian;
 mod ffi;
 mod grid;
 pub mod manifest;
 mod names;
+pub mod numbers;
 mod refusal;
 mod settle;
 mod shard;
 mod sharding;
+mod version;
 
 pub use card::Card;
 pub use grid::{Bounds, Cell, Extents, Offset, Point, Volume};
@@ -26,3 +27,4 @@ pub use manifest::Manifest;
 pub use refusal::Refusal;
 pub use shard::{Chunk, Chunks, Listed, Shard, Span};
 pub use sharding::{Place, Sharding};
+pub use version::version;

@@ -1,7 +1,8 @@
 //! The multi-resolution mesh manifest.
 
 use crate::ffi;
-use crate::refusal::{answer, given, Refusal};
+use crate::numbers::FIELD_REAL;
+use crate::refusal::{answer, given, written, Refusal};
 use std::iter::FusedIterator;
 
 /// The shape of the finest nodes and the origin of the grid.
@@ -60,6 +61,18 @@ pub struct Node {
     pub size: u32,
     /// Where its fragment starts: the sum of all earlier sizes.
     pub start: u64,
+}
+
+impl Node {
+    /// A node from the numbers of [`Manifest::write_nodes_of`]; positions and
+    /// sizes fit, as they stand in 4 bytes of the file.
+    fn from_numbers([x, y, z, start, size]: [u64; 5]) -> Self {
+        Node {
+            position: [x, y, z].map(|number| number as u32),
+            size: size as u32,
+            start,
+        }
+    }
 }
 
 /// A node that [`Nodes`] comes to.
@@ -143,12 +156,15 @@ impl<'a> Manifest<'a> {
     pub fn header(&self) -> Result<Header, Refusal> {
         // SAFETY: pointer and count are those of one live slice; the result is
         // a live array, lent to this call alone.
-        let reals = given(|reals| unsafe {
-            ffi::coronagamba_manifest_header(self.bytes.as_ptr(), self.bytes.len(), reals)
+        let bits = given(|bits| unsafe {
+            ffi::coronagamba_manifest_header(self.bytes.as_ptr(), self.bytes.len(), bits)
         });
-        reals.map(|[x, y, z, u, v, w]: [f32; 6]| Header {
-            shape: [x, y, z],
-            origin: [u, v, w],
+        bits.map(|bits: [u32; 6]| {
+            let [x, y, z, u, v, w] = bits.map(f32::from_bits);
+            Header {
+                shape: [x, y, z],
+                origin: [u, v, w],
+            }
         })
     }
 
@@ -168,22 +184,21 @@ impl<'a> Manifest<'a> {
     /// ```
     pub fn field(&self, number: u64) -> Result<Field, Refusal> {
         // SAFETY: pointer and count are those of one live slice; the results
-        // are three live numbers, lent to this call alone.
-        let field = given(|(kind, real, whole)| unsafe {
+        // are two live numbers, lent to this call alone.
+        let field = given(|(kind, value)| unsafe {
             ffi::coronagamba_manifest_field(
                 self.bytes.as_ptr(),
                 self.bytes.len(),
                 narrowed(number),
                 kind,
-                real,
-                whole,
+                value,
             )
         });
-        field.map(|(kind, real, whole)| {
-            if kind == 1 {
-                Field::Real(real)
+        field.map(|(kind, value)| {
+            if kind == FIELD_REAL {
+                Field::Real(f32::from_bits(value))
             } else {
-                Field::Whole(whole)
+                Field::Whole(value)
             }
         })
     }
@@ -273,8 +288,61 @@ impl<'a> Manifest<'a> {
         })
     }
 
+    /// Writes the nodes of a level, in their order, to the front of `out` and
+    /// gives how many numbers these are, five for each node: x, y, z, where its
+    /// fragment starts, and its fragment's size. Refusal 15 to 18, then 13 where
+    /// `out` is too short; it is then as it was.
+    pub fn write_nodes_of(&self, level: u64, out: &mut [u64]) -> Result<usize, Refusal> {
+        // SAFETY: each pointer and count are those of one live slice; `out`
+        // and the result are lent to this call alone.
+        written(|length| unsafe {
+            ffi::coronagamba_manifest_nodes(
+                self.bytes.as_ptr(),
+                self.bytes.len(),
+                narrowed(level),
+                out.as_mut_ptr(),
+                out.len(),
+                length,
+            )
+        })
+    }
+
+    /// The nodes of a level, in their order, or refusal 15 to 18. The bytes are
+    /// checked twice, where [`node`](Manifest::node) checks them for each node.
+    ///
+    /// ```
+    /// use coronagamba::Manifest;
+    ///
+    /// let real = f32::to_bits;
+    /// let mut items = vec![real(1.0); 6]; // shape and origin
+    /// items.extend([1, 0, 0, 0, 0, 2]); // level count, scale, vertex offset, node count
+    /// items.extend([0, 1, 0, 0, 0, 0, 500, 80]); // two nodes: all x, y, z, all sizes
+    /// let bytes: Vec<u8> = items.iter().flat_map(|item| item.to_le_bytes()).collect();
+    ///
+    /// let manifest = Manifest::open(&bytes);
+    /// let nodes = manifest.nodes_of(0)?;
+    /// assert_eq!(nodes.len(), 2);
+    /// assert_eq!((nodes[1].position, nodes[1].start, nodes[1].size), ([1, 0, 0], 500, 80));
+    /// assert_eq!(manifest.nodes_of(1).unwrap_err().number, 18);
+    /// # Ok::<(), coronagamba::Refusal>(())
+    /// ```
+    pub fn nodes_of(&self, level: u64) -> Result<Vec<Node>, Refusal> {
+        let mut numbers = self.room()?;
+        let length = self.write_nodes_of(level, numbers.as_flattened_mut())?;
+        numbers.truncate(length / 5);
+        Ok(numbers.into_iter().map(Node::from_numbers).collect())
+    }
+
+    /// Room for the nodes of any level, each of which has 16 of the bytes, or
+    /// refusal 15, 16 or 17: sound bytes are few enough to make room for.
+    fn room(&self) -> Result<Vec<[u64; 5]>, Refusal> {
+        self.check()?;
+        Ok(vec![[0; 5]; self.bytes.len() / 16])
+    }
+
     /// All nodes, level by level, or refusal 15, 16 or 17. The bytes are
-    /// checked once, where [`node`](Manifest::node) checks them each time.
+    /// checked here and for each level, where [`node`](Manifest::node) checks
+    /// them for each node.
     ///
     /// ```
     /// use coronagamba::Manifest;
@@ -295,13 +363,13 @@ impl<'a> Manifest<'a> {
     /// # Ok::<(), coronagamba::Refusal>(())
     /// ```
     pub fn nodes(&self) -> Result<Nodes<'a>, Refusal> {
-        let bytes = self.bytes;
-        // SAFETY: pointer and count are those of one live slice; the results
-        // are two live arrays, lent to this call alone.
-        let walk = given(|(at, places)| unsafe {
-            ffi::coronagamba_manifest_walk_begin(bytes.as_ptr(), bytes.len(), at, places)
-        });
-        walk.map(|(at, places)| Nodes { bytes, at, places })
+        Ok(Nodes {
+            manifest: *self,
+            numbers: self.room()?,
+            begun: 0,
+            count: 0,
+            index: 0,
+        })
     }
 
     /// A node's corners, or refusal 15 to 18; 18 also where a position is 2^24
@@ -309,7 +377,7 @@ impl<'a> Manifest<'a> {
     pub fn corners(&self, level: u64, node: u64) -> Result<Corners, Refusal> {
         // SAFETY: pointer and count are those of one live slice; the results
         // are two live arrays, lent to this call alone.
-        given(|Corners { near, far }| unsafe {
+        let bits = given(|(near, far)| unsafe {
             ffi::coronagamba_manifest_corners(
                 self.bytes.as_ptr(),
                 self.bytes.len(),
@@ -318,45 +386,42 @@ impl<'a> Manifest<'a> {
                 near,
                 far,
             )
+        });
+        bits.map(|(near, far): ([u32; 3], [u32; 3])| Corners {
+            near: near.map(f32::from_bits),
+            far: far.map(f32::from_bits),
         })
     }
 }
 
-/// The nodes of a manifest, level by level, from [`Manifest::nodes`].
+/// The nodes of a manifest, level by level, from [`Manifest::nodes`]. It holds
+/// the numbers of one level at a time, in room for as many nodes as the bytes
+/// could have, two and a half times their length.
 #[derive(Clone, Debug)]
 pub struct Nodes<'a> {
-    bytes: &'a [u8],
-    /// The level and the node that come next.
-    at: [u32; 2],
-    /// The item where that level begins, and where that node's fragment
-    /// starts.
-    places: [u64; 2],
+    manifest: Manifest<'a>,
+    /// The nodes of the level that was begun last, and room behind them.
+    numbers: Vec<[u64; 5]>,
+    /// How many levels were begun.
+    begun: u32,
+    /// How many nodes that level has.
+    count: usize,
+    /// How many of them were handed out.
+    index: usize,
 }
 
-/// A step that came to a node.
-const NODE: u32 = 1;
-/// A step that came to the end of a level.
-const LEVEL: u32 = 2;
-
 impl Nodes<'_> {
-    /// One step of the walk: its kind and, where that is `NODE`, the node.
-    fn step(&mut self) -> (u32, Node) {
-        let Nodes { bytes, at, places } = self;
-        // SAFETY: pointer and count are those of one live slice; the walk's
-        // two arrays and the results are live and lent to this call alone.
-        let step = given(|(kind, node): &mut (u32, Node)| unsafe {
-            ffi::coronagamba_manifest_walk_step(
-                bytes.as_ptr(),
-                bytes.len(),
-                at,
-                places,
-                kind,
-                &mut node.position,
-                &mut node.start,
-                &mut node.size,
-            )
-        });
-        step.expect("a walk stays within the bytes on which it began")
+    /// Begins the next level; `None` where there are no more.
+    fn advance(&mut self) -> Option<()> {
+        let out = self.numbers.as_flattened_mut();
+        let length = match self.manifest.write_nodes_of(self.begun.into(), out) {
+            Err(refusal) if refusal.number == 18 => return None,
+            length => length.expect("a level of a sound manifest fits"),
+        };
+        self.begun += 1;
+        self.count = length / 5;
+        self.index = 0;
+        Some(())
     }
 }
 
@@ -364,14 +429,16 @@ impl Iterator for Nodes<'_> {
     type Item = Visit;
 
     fn next(&mut self) -> Option<Visit> {
-        loop {
-            let [level, index] = self.at;
-            match self.step() {
-                (NODE, node) => return Some(Visit { level, index, node }),
-                (LEVEL, _) => {}
-                _ => return None,
-            }
+        while self.index == self.count {
+            self.advance()?;
         }
+        let visit = Visit {
+            level: self.begun - 1,
+            index: self.index as u32,
+            node: Node::from_numbers(self.numbers[self.index]),
+        };
+        self.index += 1;
+        Some(visit)
     }
 }
 

@@ -1,29 +1,8 @@
 //! Refusals and the answer words that carry them.
 
+use crate::numbers::SENTENCES;
 use std::error::Error;
 use std::fmt;
-
-/// The table's sentences, that of number 1 first.
-const SENTENCES: [&str; 18] = [
-    "The sharding specification has a field that is not allowed.",
-    "An extent is zero, or the cell is outside the grid.",
-    "The grid needs more than 64 key bits.",
-    "The key is no cell of the grid.",
-    "There is no such shard or minishard, or the id belongs to another shard.",
-    "The shard is shorter than its index or longer than 1 GiB.",
-    "An entry of the shard index is reversed or ends past the file.",
-    "A minishard index has a length that is no multiple of 24.",
-    "The ids of a minishard do not rise, or one is too large.",
-    "A listed id belongs to another shard or minishard.",
-    "A chunk ends past the file.",
-    "The id is not listed.",
-    "The output is too short, or the settled form is longer than 1 GiB.",
-    "The card is malformed.",
-    "The manifest has a wrong length or level count.",
-    "A real in the manifest is not finite, or a chunk shape is not above zero.",
-    "The nodes of a level are not in strictly rising Z-curve order.",
-    "There is no such level, node or field, the node has no corners, or a walk leaves the bytes.",
-];
 
 /// Why a call refused: a number from the archive's table and, where the
 /// whole-shard check names one, the minishard with the fault.
@@ -40,7 +19,7 @@ const SENTENCES: [&str; 18] = [
 /// ```
 #[derive(Clone, Copy, Debug, PartialEq, Eq, Hash)]
 pub struct Refusal {
-    /// The number in the table, from 1 to 18.
+    /// The number in the table, as in [`Refusal::NOT_LISTED`].
     pub number: u8,
     /// The minishard with the fault, from the whole-shard check only.
     pub minishard: Option<u64>,
@@ -57,8 +36,19 @@ impl Refusal {
     /// assert_eq!(Refusal::meaning(99), None);
     /// ```
     pub fn meaning(number: u8) -> Option<&'static str> {
-        let place = usize::from(number).checked_sub(1)?;
-        SENTENCES.get(place).copied()
+        let mut rows = SENTENCES.iter();
+        rows.find_map(|(known, says)| (*known == number).then_some(*says))
+    }
+
+    /// The numbers that the table has, rising.
+    ///
+    /// ```
+    /// use coronagamba::Refusal;
+    ///
+    /// assert!(Refusal::numbers().any(|number| number == Refusal::NOT_LISTED));
+    /// ```
+    pub fn numbers() -> impl Iterator<Item = u8> {
+        SENTENCES.iter().map(|(number, _)| *number)
     }
 
     /// What the table says about this number, as one sentence.
@@ -87,28 +77,16 @@ impl fmt::Display for Refusal {
 impl Error for Refusal {}
 
 /// The meaning of an answer word: 0 is success, else the low byte is the
-/// refusal's number and the next 24 bits are its minishard, 0 where the rules
-/// give none.
+/// refusal's number. The next 24 bits are 0 where the word names no minishard,
+/// else one more than it; the last 32 do the same for a position, which no call
+/// names yet.
 pub(crate) fn answer(word: u64) -> Result<(), Refusal> {
     if word == 0 {
         return Ok(());
     }
-    let minishard = word >> 8 & 0xff_ffff;
     Err(Refusal {
         number: word as u8,
-        minishard: Some(minishard).filter(|minishard| *minishard != 0),
-    })
-}
-
-/// The meaning of the whole-shard check's answer word, in which 7 to 11 always
-/// name a minishard.
-pub(crate) fn checked(word: u64) -> Result<(), Refusal> {
-    answer(word).map_err(|refusal| match refusal.number {
-        7..=11 => Refusal {
-            minishard: refusal.minishard.or(Some(0)),
-            ..refusal
-        },
-        _ => refusal,
+        minishard: (word >> 8 & 0xff_ffff).checked_sub(1),
     })
 }
 
@@ -131,45 +109,25 @@ mod tests {
 
     #[test]
     fn words() {
-        assert_eq!(answer(0), Ok(()));
-        assert_eq!(
-            answer(13),
-            Err(Refusal {
-                number: 13,
-                minishard: None
-            })
-        );
-    }
-
-    #[test]
-    fn words_of_the_check() {
         let refusal = |number, minishard| Err(Refusal { number, minishard });
-        assert_eq!(checked(0), Ok(()));
-        assert_eq!(checked(6), refusal(6, None));
-        assert_eq!(checked(7), refusal(7, Some(0)));
-        assert_eq!(checked(11 + 256 * 4095), refusal(11, Some(4095)));
-        assert_eq!(checked(9 + 256 * 3 + (77 << 32)), refusal(9, Some(3)));
+        assert_eq!(answer(0), Ok(()));
+        assert_eq!(answer(13), refusal(13, None));
+        assert_eq!(answer(7 + 256), refusal(7, Some(0)));
+        assert_eq!(answer(11 + 256 * 4096), refusal(11, Some(4095)));
+        assert_eq!(answer(9 + 256 * 65536), refusal(9, Some(65535)));
+        assert_eq!(answer(9 + 256 * 4 + (77 << 32)), refusal(9, Some(3)));
+        assert_eq!(answer(6 + (77 << 32)), refusal(6, None));
     }
 
     #[test]
     fn each_number_has_a_sentence_of_its_own() {
-        let sentence = |number| {
-            Refusal {
-                number,
-                minishard: None,
-            }
-            .sentence()
-        };
-        for number in 1..=18 {
-            assert_ne!(sentence(number), sentence(0));
-            assert!((1..number).all(|other| sentence(other) != sentence(number)));
-        }
-    }
-
-    #[test]
-    fn numbers_outside_the_table_have_no_meaning() {
-        for number in [0, 19, 20, 255] {
-            assert_eq!(Refusal::meaning(number), None);
+        let numbers: Vec<u8> = Refusal::numbers().collect();
+        assert!(numbers.is_sorted_by(|one, next| one < next));
+        for number in 0..=u8::MAX {
+            let meaning = Refusal::meaning(number);
+            assert_eq!(meaning.is_some(), numbers.contains(&number));
+            let mut others = (0..number).filter_map(Refusal::meaning);
+            assert!(!others.any(|other| meaning == Some(other)));
         }
     }
 

@@ -1,7 +1,7 @@
 //! Lookup, the whole-shard check and listings.
 
 use crate::ffi;
-use crate::refusal::{checked, given, written, Refusal};
+use crate::refusal::{answer, given, written, Refusal};
 use crate::sharding::Sharding;
 use std::iter::FusedIterator;
 use std::vec;
@@ -149,7 +149,7 @@ impl<'a> Shard<'a> {
     /// ```
     pub fn check(&self) -> Result<(), Refusal> {
         // SAFETY: pointer and count are those of one live slice.
-        checked(unsafe {
+        answer(unsafe {
             ffi::coronagamba_check(
                 self.sharding,
                 self.number,

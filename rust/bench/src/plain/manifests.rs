@@ -117,26 +117,8 @@ fn rows(level: &[u8]) -> [&[u8]; 4] {
     std::array::from_fn(|row| &level[row * length..(row + 1) * length])
 }
 
-/// Checks a manifest and hands out the position, fragment start and fragment
-/// size of each node, level by level.
-pub fn nodes(bytes: &[u8], mut take: impl FnMut([u32; 3], u64, u32)) -> Result<(), u8> {
-    check(bytes)?;
-    let parts = parts(bytes)?;
-    let (mut levels, mut start) = (parts.levels, 0);
-    for count in items(parts.counts) {
-        let (level, rest) = levels.split_at(16 * count as usize);
-        levels = rest;
-        let [x, y, z, sizes] = rows(level).map(items);
-        for (((x, y), z), size) in x.zip(y).zip(z).zip(sizes) {
-            take([x, y, z], start, size);
-            start += u64::from(size);
-        }
-    }
-    Ok(())
-}
-
-/// Position, fragment start and fragment size of a node, or 15 to 18.
-pub fn node(bytes: &[u8], level: usize, node: usize) -> Result<([u32; 3], u64, u32), u8> {
+/// The rows of a level and where its first fragment starts, or 15 to 18.
+fn level_of(bytes: &[u8], level: usize) -> Result<([&[u8]; 4], u64), u8> {
     check(bytes)?;
     let parts = parts(bytes)?;
     let (mut levels, mut start) = (parts.levels, 0);
@@ -147,10 +129,30 @@ pub fn node(bytes: &[u8], level: usize, node: usize) -> Result<([u32; 3], u64, u
         start += items(rows(level)[3]).map(u64::from).sum::<u64>();
     }
     let count = counts.next().ok_or(18)? as usize;
-    if node >= count {
+    Ok((rows(&levels[..16 * count]), start))
+}
+
+/// Writes x, y, z, fragment start and fragment size of each node of a level to
+/// the front of `out` and gives how many numbers these are, or 15 to 18, or 13.
+pub fn nodes(bytes: &[u8], level: usize, out: &mut [u64]) -> Result<usize, u8> {
+    let (rows, mut start) = level_of(bytes, level)?;
+    let length = 5 * (rows[0].len() / 4);
+    let out = out.get_mut(..length).ok_or(13)?;
+    let [x, y, z, sizes] = rows.map(|row| items(row).map(u64::from));
+    let nodes = x.zip(y).zip(z).zip(sizes);
+    for (numbers, (((x, y), z), size)) in out.chunks_exact_mut(5).zip(nodes) {
+        numbers.copy_from_slice(&[x, y, z, start, size]);
+        start += size;
+    }
+    Ok(length)
+}
+
+/// Position, fragment start and fragment size of a node, or 15 to 18.
+pub fn node(bytes: &[u8], level: usize, node: usize) -> Result<([u32; 3], u64, u32), u8> {
+    let ([x, y, z, sizes], mut start) = level_of(bytes, level)?;
+    if node >= x.len() / 4 {
         return Err(18);
     }
-    let [x, y, z, sizes] = rows(&levels[..16 * count]);
     let at = |row: &[u8]| number(&row[4 * node..4 * node + 4]);
     start += items(&sizes[..4 * node]).map(u64::from).sum::<u64>();
     Ok(([at(x), at(y), at(z)], start, at(sizes)))

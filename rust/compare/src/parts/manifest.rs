@@ -1,13 +1,13 @@
 //! Mesh manifests. Reals are compared by their bits, so that zeros of both
 //! signs differ.
 
-use crate::agree::{guarded, same};
-use crate::question::{Choice, Reader, Writer};
+use crate::agree::{guarded, same, same_writing};
+use crate::question::{Choice, Reader, Room, Writer};
 use crate::{sides, Part};
-use coronagamba::manifest::{Field, Level, Manifest, Node, Visit};
+use coronagamba::manifest::{Field, Level, Manifest, Visit};
 use reference::endian::read_u32;
 use reference::manifest;
-use testkit::{manifests, Rng};
+use testkit::{manifests, Lent, Rng};
 
 /// The longest manifest that is asked for its levels.
 const LONGEST_FOR_LEVELS: usize = 1 << 16;
@@ -57,12 +57,21 @@ pub const MANIFEST_NODE: Part = Part {
     sample: sample_node,
 };
 
-/// All nodes.
-pub const MANIFEST_WALK: Part = Part {
-    name: "manifest_walk",
-    about: "a walk over all nodes",
+/// The nodes of a level.
+pub const MANIFEST_NODES: Part = Part {
+    name: "manifest_nodes",
+    about: "the nodes of a level, written into an output",
+    meets: &[0, 13, 15, 16, 17, 18],
+    compare: compare_nodes,
+    sample: sample_nodes,
+};
+
+/// The nodes of all levels.
+pub const MANIFEST_ALL_NODES: Part = Part {
+    name: "manifest_all_nodes",
+    about: "all nodes, level by level",
     meets: &[0, 15, 16, 17],
-    compare: compare_walk,
+    compare: compare_all_nodes,
     sample: manifests::any,
 };
 
@@ -167,29 +176,38 @@ fn level_bits(level: &Level) -> (u32, [u32; 3], u32) {
     (level.scale.to_bits(), offset, level.nodes)
 }
 
-/// All nodes of a sound manifest, level by level: all x, all y, all z, all
-/// sizes (scope, "Manifest"). A fragment starts where the one before ends.
-fn visits(bytes: &[u8]) -> Vec<Visit> {
-    let levels = levels(bytes);
-    let mut first = 7 + 5 * levels.len();
-    let mut start = 0;
+fn compare_nodes(bytes: &[u8]) -> u8 {
+    let mut reader = Reader::new(bytes);
+    let (level, room) = (reader.choice(), reader.room());
+    guarded(reader.rest(), |bytes| {
+        let level = level.level(bytes);
+        let library = Manifest::open(bytes);
+        let expected = manifest::nodes(bytes, level);
+        let length = room.length(5 * expected.as_ref().map_or(2, Vec::len));
+        same(
+            format_args!("nodes of level {level}"),
+            library.nodes_of(level),
+            expected.map(|nodes| nodes.into_iter().map(sides::node).collect()),
+        );
+        same_writing(
+            format_args!("numbers of the nodes of level {level}"),
+            &Lent::numbers(&mut Rng::new(length as u64), length),
+            |out| library.write_nodes_of(level, out),
+            |out| manifest::write_nodes(bytes, level, out),
+        )
+    })
+}
+
+/// All nodes, level by level, or the reference's refusal.
+fn visits(bytes: &[u8]) -> Result<Vec<Visit>, u8> {
     let mut visits = Vec::new();
-    for (level, (_, _, count)) in (0..).zip(levels) {
-        let row = |number: usize, index: u32| {
-            item(bytes, first + number * count as usize + index as usize)
-        };
-        for index in 0..count {
-            let node = Node {
-                position: std::array::from_fn(|axis| row(axis, index)),
-                size: row(3, index),
-                start,
-            };
-            start += u64::from(node.size);
+    for level in 0..manifest::level_count(bytes)? {
+        for (index, node) in (0..).zip(manifest::nodes(bytes, level.into())?) {
+            let node = sides::node(node);
             visits.push(Visit { level, index, node });
         }
-        first += 4 * count as usize;
     }
-    visits
+    Ok(visits)
 }
 
 /// Up to four of these, the first among them.
@@ -197,21 +215,16 @@ fn some_of(visits: &[Visit]) -> impl Iterator<Item = &Visit> {
     visits.iter().step_by(visits.len().div_ceil(4).max(1))
 }
 
-fn compare_walk(bytes: &[u8]) -> u8 {
+fn compare_all_nodes(bytes: &[u8]) -> u8 {
     guarded(bytes, |bytes| {
-        let expected = manifest::check(bytes).map(|()| visits(bytes));
-        // The reference has no walk; its node is asked for the last of them.
-        if let Some(last) = expected.as_ref().ok().and_then(|visits| visits.last()) {
-            let node = manifest::node(bytes, last.level.into(), last.index.into());
-            assert_eq!(node.map(sides::node), Ok(last.node), "the last node");
-        }
         let library = Manifest::open(bytes);
+        let expected = visits(bytes);
         for visit in some_of(expected.as_deref().unwrap_or_default()) {
             let single = library.node(visit.level.into(), visit.index.into());
             assert_eq!(single, Ok(visit.node), "a single node");
         }
         same(
-            format_args!("walk over a manifest of {} bytes", bytes.len()),
+            format_args!("all nodes of a manifest of {} bytes", bytes.len()),
             library.nodes().map(Iterator::collect),
             expected,
         )
@@ -266,6 +279,16 @@ fn sample_node(rng: &mut Rng) -> Vec<u8> {
     Writer::new()
         .choice(Choice::draw_near(rng, level))
         .choice(Choice::draw(rng, node))
+        .rest(&bytes)
+        .finish()
+}
+
+fn sample_nodes(rng: &mut Rng) -> Vec<u8> {
+    let bytes = manifests::any(rng);
+    let (level, _) = manifests::question(rng, &bytes);
+    Writer::new()
+        .choice(Choice::draw_near(rng, level))
+        .room(Room::draw(rng))
         .rest(&bytes)
         .finish()
 }

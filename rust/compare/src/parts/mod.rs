@@ -1,6 +1,5 @@
 //! The parts, by what they ask about.
 
-pub mod bytes;
 pub mod card;
 pub mod grid;
 pub mod manifest;

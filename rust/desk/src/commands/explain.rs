@@ -27,7 +27,7 @@ fn run(args: &Args, report: &mut Report) -> Result<(), Fault> {
     let row = explained(asked).ok_or_else(|| {
         Fault::wrong_use(format!(
             "there is no refusal {asked}; the numbers are 1 to {}",
-            TABLE.len()
+            TABLE.last().map_or(0, |row| row.number)
         ))
     })?;
     in_full(report, row)
@@ -35,11 +35,7 @@ fn run(args: &Args, report: &mut Report) -> Result<(), Fault> {
 
 /// The library's sentence for a number.
 fn sentence(row: &Explained) -> &'static str {
-    let refusal = Refusal {
-        number: row.number,
-        minishard: None,
-    };
-    refusal.sentence()
+    Refusal::meaning(row.number).expect("the library has every number of the table")
 }
 
 /// One line; as an object always all that there is.

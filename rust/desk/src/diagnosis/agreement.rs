@@ -3,7 +3,8 @@
 
 use std::collections::BTreeSet;
 
-use coronagamba::{Card, Cell, Manifest, Refusal, Shard, Sharding, Volume};
+use compare::sides::{sharding, volume};
+use coronagamba::{Card, Cell, Manifest, Refusal, Shard};
 use testkit::shards::{self, Sample};
 use testkit::{manifests, places, Rng};
 
@@ -34,19 +35,6 @@ impl Explained {
     fn assert_exactly(&self, numbers: impl IntoIterator<Item = u8>) {
         assert_eq!(self.numbers, numbers.into_iter().collect());
     }
-}
-
-fn sharding(from: &reference::sharding::Sharding) -> Sharding {
-    Sharding {
-        preshift: from.preshift,
-        hash: from.hash,
-        minishard_bits: from.minishard_bits,
-        shard_bits: from.shard_bits,
-    }
-}
-
-fn volume(from: &reference::grid::Volume) -> Volume {
-    Volume::new(from.size, from.chunk, from.offset)
 }
 
 /// A damaged shard, now and then under another specification or number.

@@ -1,8 +1,16 @@
 //! Faults for the damaged copy, as a bad disk or a careless program leaves
 //! them. They are made for shards in the layout of [`super::layout`].
 
-use coronagamba::endian::{put_u64, read_u64};
-use coronagamba::Refusal;
+/// The number at the front of the bytes.
+fn read(bytes: &[u8]) -> u64 {
+    let front = bytes.first_chunk().expect("a number has 8 bytes");
+    u64::from_le_bytes(*front)
+}
+
+/// Puts a number at the front of the bytes.
+fn put(bytes: &mut [u8], number: u64) {
+    bytes[..8].copy_from_slice(&number.to_le_bytes());
+}
 
 /// Where the index of a minishard stands in a file, and its chunk count.
 struct Index {
@@ -14,7 +22,7 @@ impl Index {
     /// The index that the shard index of a sound file names.
     fn of(file: &[u8], minishard_bits: u8, minishard: usize) -> Self {
         let entry = &file[16 * minishard..];
-        let (start, end) = (read_u64(entry), read_u64(&entry[8..]));
+        let (start, end) = (read(entry), read(&entry[8..]));
         Index {
             start: (16 << minishard_bits) + start as usize,
             chunks: (end - start) as usize / 24,
@@ -34,18 +42,18 @@ pub fn reverse_entry(file: &mut [u8], minishard: usize) {
 }
 
 /// Lists the first id of a minishard a second time: refusal 9.
-pub fn repeat_id(file: &mut [u8], minishard_bits: u8, minishard: usize) -> Result<(), Refusal> {
+pub fn repeat_id(file: &mut [u8], minishard_bits: u8, minishard: usize) {
     let step = Index::of(file, minishard_bits, minishard).number(0, 1);
-    put_u64(&mut file[step..], 0)
+    put(&mut file[step..], 0);
 }
 
 /// Gives the last chunk of a minishard more bytes than the file has: refusal
 /// 11.
-pub fn stretch_last(file: &mut [u8], minishard_bits: u8, minishard: usize) -> Result<(), Refusal> {
+pub fn stretch_last(file: &mut [u8], minishard_bits: u8, minishard: usize) {
     let index = Index::of(file, minishard_bits, minishard);
     let size = index.number(2, index.chunks - 1);
-    let more = read_u64(&file[size..]) + file.len() as u64;
-    put_u64(&mut file[size..], more)
+    let more = read(&file[size..]) + file.len() as u64;
+    put(&mut file[size..], more);
 }
 
 /// Cuts the file short within its shard index: refusal 6.
@@ -57,6 +65,6 @@ pub fn cut(file: &mut Vec<u8>) {
 /// content.
 pub fn change_chunk(file: &mut [u8], minishard_bits: u8, minishard: usize) {
     let index = Index::of(file, minishard_bits, minishard);
-    let step = read_u64(&file[index.number(1, 0)..]);
+    let step = read(&file[index.number(1, 0)..]);
     file[(16 << minishard_bits) + step as usize] ^= 0x20;
 }

@@ -48,7 +48,7 @@ pub fn parts() -> Result<Vec<Part>, Refusal> {
     let chunks = volume::chunks()?;
     let copy_b = layout::scattered(&DEPOSIT, &chunks)?;
     let copy_a = settled(&DEPOSIT, &copy_b)?;
-    let damaged = damaged(copy_b.clone())?;
+    let damaged = damaged(copy_b.clone());
     let murmur = layout::scattered(&MURMUR, &chunks)?;
     let same_chunks = "the same chunks in another layout";
     Ok(vec![
@@ -113,18 +113,18 @@ fn settled(sharding: &Sharding, shards: &Shards) -> Result<Shards, Refusal> {
 
 /// The shards with a fault of a kind each: 0 and 6 are left whole, 5 stays
 /// sound with other content, 7 is lost.
-fn damaged(mut shards: Shards) -> Result<Shards, Refusal> {
+fn damaged(mut shards: Shards) -> Shards {
     let bits = DEPOSIT.minishard_bits;
     shards.remove(&7);
     for (number, file) in &mut shards {
         match number {
             1 => damage::reverse_entry(file, 1),
-            2 => damage::repeat_id(file, bits, 0)?,
-            3 => damage::stretch_last(file, bits, 1)?,
+            2 => damage::repeat_id(file, bits, 0),
+            3 => damage::stretch_last(file, bits, 1),
             4 => damage::cut(file),
             5 => damage::change_chunk(file, bits, 0),
             _ => {}
         }
     }
-    Ok(shards)
+    shards
 }

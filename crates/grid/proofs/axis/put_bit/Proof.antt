@@ -6,36 +6,14 @@ use borrow.Author.Needs.{needs}
 use Rattle.grid.proofs.axis.put_bit.Statement.{statement}
 use Rattle.grid.proofs.axis.put_bit.Tie as tie
 
-uses-requires : tie.Need-uses-requires
-uses-requires c κs = search needs
-
-shr-result : tie.Need-shr-result
-shr-result c = search needs
-
-cast-result : tie.Need-cast-result
-cast-result c = search needs
-
-mul-result : tie.Need-mul-result
-unfolding put bitOf
-mul-result c =
-    let h = rw (← c .before .uses .ensures, c .if1 .taken) at (c .before .before .pre .1) in
-    omega arith
-
-add-result : tie.Need-add-result
-unfolding put bitOf
-add-result c =
-    let h = rw (← c .before .uses .ensures, c .if1 .taken) at (c .before .before .pre .1) in
-    omega arith
-
 returns : tie.Need-returns
 unfolding put bitOf
-returns c = rw (← c .before .uses .ensures, c .if1 .taken)
+returns c = rw (← c .before .uses .ensures, c .if1 .taken) (omega arith)
 
 returns-2 : tie.Need-returns-2
 unfolding put
-returns-2 c = rw (← c .before .uses .ensures, c .if1 .left)
+returns-2 c = rw (← c .before .uses .ensures, c .if1 .left) (omega arith)
 
 pub put-bit-spec : {M : Type 1} → statement M
 put-bit-spec =
-    tie.close
-    (tie.spec uses-requires shr-result cast-result mul-result add-result returns returns-2)
+    tie.close (tie.spec (λ c κs. search needs) (λ c. search needs) (λ c. search needs) (λ c. search needs) returns returns-2)

@@ -1,9 +1,16 @@
 -- `grid::inner::grid_size` meets its contract.
+use native.Mathlib.Omega.{arith}
 use borrow.Author.Needs.{needs}
 use Rattle.grid.proofs.Covers.{grid-size-whole, grid-size-cut, cut-fits}
 use Rattle.grid.proofs.inner.grid_size.Statement.{statement}
 use Rattle.grid.proofs.inner.grid_size.Tie as tie
 
 pub grid-size-spec : {M : Type 1} → statement M
-grid-size-spec = tie.close
-    (tie.spec (λ c. search needs) (λ c. search needs) (λ c. search cut-fits) (λ c. search grid-size-whole) (λ c. search grid-size-cut))
+grid-size-spec =
+    tie.close
+    (tie.spec
+    (λ c. search needs)
+    (λ c. search needs)
+    (λ c. cut-fits _ _ (search needs) (search needs) (omega arith))
+    (λ c. grid-size-cut _ _ (search needs) (omega arith))
+    (λ c. grid-size-whole _ _ (search needs) (omega arith)))

@@ -1,6 +1,6 @@
 -- `grid::inner::key` meets its contract. The loop makes the key of the turns from i on.
 use borrow.Author.Needs.{needs}
-use Rattle.grid.proofs.Turns.{Packed, packed-none, packed-more, packed-all, fits-x, fits-y, fits-z}
+use Rattle.grid.proofs.Turns.{Packed, packed-none, packed-more, packed-all}
 use Rattle.grid.proofs.inner.key.Statement.{statement}
 use Rattle.grid.proofs.inner.key.Tie as tie
 
@@ -10,7 +10,7 @@ Inv-loop grid cell i₀ k₀ i k = Packed grid cell i k
 abbrev μ-loop : tie.MeasureT-loop
 μ-loop grid cell i₀ k₀ i k = i
 
-ruleset packing = (packed-none, packed-more, packed-all, fits-x, fits-y, fits-z, needs)
+ruleset packing = (packed-none, packed-more, packed-all, needs)
 
 pub key-spec : {M : Type 1} → statement M
 key-spec =

@@ -13,6 +13,7 @@ cell-of-spec =
     (λ c κs. search ways)
     (λ c. search ways)
     (λ c κs. search ways)
+    (λ c κs. search ways)
     (λ c. search ways)
     (λ c κs. search ways)
     (λ c κs. search ways)

@@ -1,16 +1,8 @@
 -- `grid::spans::end_of` meets its contract.
 use borrow.Author.Needs.{needs}
-use Rattle.grid.proofs.Signed.{ends-full, ends-cut}
+use Rattle.grid.proofs.Signed.{ends}
 use Rattle.grid.proofs.spans.end_of.Statement.{statement}
 use Rattle.grid.proofs.spans.end_of.Tie as tie
 
 pub end-of-spec : {M : Type 1} → statement M
-end-of-spec =
-    tie.close
-    (tie.spec
-    (λ c. search needs)
-    (λ c. search needs)
-    (λ c κs. search needs)
-    (λ c. search ends-full)
-    (λ c κs. search needs)
-    (λ c. search ends-cut))
+end-of-spec = tie.close (tie.spec (λ c κs. search needs) (λ c κs. search needs) (λ c. search ends))

@@ -1,6 +1,6 @@
 -- The first six items are reals, and those of a sound manifest are finite.
 use Rattle.manifest.proofs.Sounds.{sound}
-use Rattle.manifest.specs.Questions.{headerAt}
+use Rattle.manifest.specs.Fields.{headerAt}
 use Rattle.manifest.proofs.inner.header.Statement.{statement}
 use Rattle.manifest.proofs.inner.header.Tie as tie
 

@@ -11,7 +11,7 @@ returns c =
     let w₂ = w₃ .before .before .before .before in
     let w₁ = w₂ .before .before .before .before in (
       search needs,
-      part-written _ _ _ _ _ _ _ (search needs) (search needs) (search needs) (w₁ .copy-chunks .ensures .0) (w₁ .copy-chunks .ensures .1) (w₂ .copy-bytes .ensures)
+      part-written _ _ _ _ _ _ _ _ (search needs) (search needs) (search needs) (w₁ .copy-chunks .ensures .0) (w₁ .copy-chunks .ensures .1) (w₂ .copy-bytes .ensures)
           (w₃ .put-starts .ensures) (w₄ .copy-bytes2 .ensures),
     )
 

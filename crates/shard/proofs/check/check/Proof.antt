@@ -1,6 +1,6 @@
 -- The whole-shard check: the refusals of a call, then the first fault.
 use borrow.Author.Needs.{needs}
-use Rattle.endian.proofs.Tests.{told-yes}
+use Rattle.refusal.proofs.Tests.{told-yes}
 use Rattle.shard.proofs.WholeAnswers.{check-disallowed, check-shard, check-short, check-long, check-sound, check-fault}
 use Rattle.shard.proofs.check.check.Statement.{statement}
 use Rattle.shard.proofs.check.check.Tie as tie

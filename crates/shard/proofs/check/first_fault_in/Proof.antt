@@ -14,5 +14,6 @@ first-fault-in-spec =
     (λ c. search needs)
     (λ c. search needs)
     (λ c. search needs)
-    (λ c κs. (search needs, (search front-index, search rest-short)))
+    (λ c κs. search needs)
+    (λ c κs. (search needs, (search front-index, search rest-short, search needs)))
     (λ c. search parts-fault))

@@ -4,7 +4,7 @@ use Rattle.sharding.proofs.inner.minishard_in.Statement.{statement}
 use Rattle.sharding.proofs.inner.minishard_in.Tie as tie
 
 returns : tie.Need-returns
-returns c = cc
+returns c = rw (c .minishard-count .ensures .0)
 
 pub minishard-in-spec : {M : Type 1} → statement M
 minishard-in-spec =

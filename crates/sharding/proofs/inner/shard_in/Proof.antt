@@ -5,7 +5,7 @@ use Rattle.sharding.proofs.inner.shard_in.Statement.{statement}
 use Rattle.sharding.proofs.inner.shard_in.Tie as tie
 
 returns : tie.Need-returns
-returns c = cc
+returns c = rw (c .shard-count .ensures .0)
 
 pub shard-in-spec : {M : Type 1} → statement M
 shard-in-spec =

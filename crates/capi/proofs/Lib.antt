@@ -1,6 +1,0 @@
-pub mod Checked
-pub mod Each
-pub mod Front
-pub mod Mapped
-pub mod Threes
-pub mod Told

@@ -1,9 +1,0 @@
-// The C interface. Each exported function hands its arguments to the library and carries the whole answer in its contract.
-pub mod batch;
-pub mod bytes;
-pub mod cards;
-pub mod cells;
-pub mod manifests;
-pub mod places;
-pub mod shards;
-pub mod texts;

@@ -1,7 +1,0 @@
--- `card::inner::card_length` meets its contract.
-use Rattle.card.proofs.Printing.{framing}
-use Rattle.card.proofs.inner.card_length.Statement.{statement}
-use Rattle.card.proofs.inner.card_length.Tie as tie
-
-pub card-length-spec : {M : Type 1} → statement M
-card-length-spec = tie.close (tie.spec (λ c. search framing) (λ c κs. search framing) (λ c. search framing) (λ c. search framing) (λ c. search framing))

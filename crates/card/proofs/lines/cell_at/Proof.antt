@@ -1,8 +1,0 @@
--- `card::lines::cell_at` meets its contract.
-use borrow.Author.Needs.{needs}
-use Rattle.card.proofs.Printing.{cell-made}
-use Rattle.card.proofs.lines.cell_at.Statement.{statement}
-use Rattle.card.proofs.lines.cell_at.Tie as tie
-
-pub cell-at-spec : {M : Type 1} → statement M
-cell-at-spec = tie.close (tie.spec (λ c κs. search (cell-made, needs)) (λ c. search (cell-made, needs)) (λ c κs. search (cell-made, needs)) (λ c. search (cell-made, needs)) (λ c κs. search (cell-made, needs)) (λ c. search (cell-made, needs)))

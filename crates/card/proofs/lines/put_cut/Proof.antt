@@ -1,7 +1,0 @@
--- `card::lines::put_cut` meets its contract.
-use Rattle.card.proofs.Printing.{cutting}
-use Rattle.card.proofs.lines.put_cut.Statement.{statement}
-use Rattle.card.proofs.lines.put_cut.Tie as tie
-
-pub put-cut-spec : {M : Type 1} → statement M
-put-cut-spec = tie.close (tie.spec (λ c κs. search cutting) (λ c. search cutting) (λ c. search cutting) (λ c. search cutting))

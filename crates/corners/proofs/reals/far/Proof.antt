@@ -1,0 +1,16 @@
+-- Each operation is the rule's, in its order.
+use borrow.Author.Needs.{needs}
+use Rattle.corners.specs.Boxes.{farOf}
+use Rattle.corners.proofs.reals.far.Statement.{statement}
+use Rattle.corners.proofs.reals.far.Tie as tie
+
+returns : tie.Need-returns
+unfolding farOf
+returns c = rw (c .power .ensures)
+
+pub far-spec : {M : Type 1} → statement M
+far-spec =
+    tie.close
+    (tie.spec
+    (λ c κs. search needs)
+    returns)

@@ -1,0 +1,79 @@
+-- The corners of a node (01, "Manifest"): "origin + (position × shape) × 2^level, its far corner near + shape × 2^level, in f32,
+-- each operation rounded once in that order, judged by bits".
+use Prim.Native.Nat.{ℕ, _^_}
+use mathlib.Core.Bool.{Bool, false, not, _&&_}
+use mathlib.Core.List.{List, [], _∷_, _++_}
+use lib.IntN.{pos}
+use lib.Dec.{ltb}
+use lib.Ieee.{Float, fin, binary32, add, mul, ofInt, toBits}
+use Rattle.refusal.specs.Checks.{Check, check, answered}
+use Rattle.manifest.specs.Bits.{finiteBits}
+use Rattle.manifest.specs.Fields.{headerAt}
+use Rattle.nodes.specs.Nodes.{nodeAt, nodeChecks}
+use Rattle.manifest.specs.declared.Header.{Header}
+use Rattle.nodes.specs.declared.Node.{Node}
+use Rattle.corners.specs.declared.Corner.{Corner}
+use Rattle.corners.specs.declared.Corners.{Corners}
+use Rattle.corners.specs.declared.CornersAnswer.{CornersAnswer}
+use Rattle.corners.specs.declared.CornersAnswer.the-variants as C
+
+-- a computed real, judged by its bits
+unfoldable pub finite : Float → Bool
+finite x = finiteBits (toBits binary32 x)
+
+-- 2^l, which an f32 holds exactly
+abbrev pub powerOf : ℕ → Float
+powerOf l = fin false 1 (pos l)
+
+-- on one axis: of origin o and shape e, at position p (below 2^24, so that an f32 holds it exactly) and level l
+unfoldable pub nearOf : Float → Float → ℕ → ℕ → Float
+nearOf o e p l = add binary32 o (mul binary32 (mul binary32 (ofInt binary32 (pos p)) e) (powerOf l))
+
+-- on one axis: from the near end n
+unfoldable pub farOf : Float → Float → ℕ → Float
+farOf n e l = add binary32 n (mul binary32 e (powerOf l))
+
+unfoldable pub nearCorner : Header → ℕ → Node → Corner
+nearCorner h l n =
+    record {
+      x = nearOf (h .«origin_x») (h .«shape_x») (n .x) l;
+      y = nearOf (h .«origin_y») (h .«shape_y») (n .y) l;
+      z = nearOf (h .«origin_z») (h .«shape_z») (n .z) l;
+    }
+
+unfoldable pub farCorner : Header → ℕ → Corner → Corner
+farCorner h l near =
+    record {
+      x = farOf (near .x) (h .«shape_x») l;
+      y = farOf (near .y) (h .«shape_y») l;
+      z = farOf (near .z) (h .«shape_z») l;
+    }
+
+-- the corners that a header gives a node of level l
+unfoldable pub boxOf : Header → ℕ → Node → Corners
+boxOf h l n = record { near = nearCorner h l n; far = farCorner h l (nearCorner h l n) }
+
+-- each position is below 2^24
+unfoldable pub placed : Node → Bool
+placed n = ltb (n .x) (2 ^ 24) && (ltb (n .y) (2 ^ 24) && ltb (n .z) (2 ^ 24))
+
+unfoldable pub finiteCorner : Corner → Bool
+finiteCorner c = finite (c .x) && (finite (c .y) && finite (c .z))
+
+-- 18: "that node has a position of 2^24 or more or either corner is not finite"
+unfoldable pub boxChecks : Header → ℕ → Node → List Check
+boxChecks h l n =
+    check 18 (not (placed n))
+    ∷ check 18 (not (finiteCorner (nearCorner h l n)))
+    ∷ check 18 (not (finiteCorner (farCorner h l (nearCorner h l n))))
+    ∷ []
+
+unfoldable pub boxAnswer : Header → ℕ → Node → CornersAnswer
+boxAnswer h l n = answered C.Refused (boxChecks h l n) (C.Corners (boxOf h l n))
+
+-- of a node of a manifest: those of the node first
+unfoldable pub cornersChecks : List ℕ → ℕ → ℕ → List Check
+cornersChecks s l i = nodeChecks s l i ++ boxChecks (headerAt s) l (nodeAt s l i)
+
+unfoldable pub cornersAnswer : List ℕ → ℕ → ℕ → CornersAnswer
+cornersAnswer s l i = answered C.Refused (cornersChecks s l i) (C.Corners (boxOf (headerAt s) l (nodeAt s l i)))

@@ -1,0 +1,5 @@
+pub mod Checked
+pub mod Patterned
+pub mod Told
+pub mod Writing
+pub mod Word

@@ -1,0 +1,6 @@
+use Rattle.coronagamba.proofs.Writing.{writing}
+use Rattle.coronagamba.proofs.cards.coronagamba_card_write.Statement.{statement}
+use Rattle.coronagamba.proofs.cards.coronagamba_card_write.Tie as tie
+
+pub coronagamba-card-write-spec : {M : Type 1} → statement M
+coronagamba-card-write-spec = tie.close (tie.spec (λ c κs. search writing) (λ c. search writing) (λ c. search writing) (λ c. search writing) (λ c. search writing) (λ c. search writing) (λ c. search writing) (λ c. search writing))

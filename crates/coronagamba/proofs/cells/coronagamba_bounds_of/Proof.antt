@@ -1,0 +1,31 @@
+use mathlib.Core.Path.{_∙_}
+use borrow.Author.Needs.{needs}
+use Rattle.coronagamba.specs.Cells.{boundsWord, beginAfter, endAfter}
+use Rattle.coronagamba.proofs.Told.{told, after}
+use Rattle.coronagamba.proofs.cells.coronagamba_bounds_of.Statement.{statement}
+use Rattle.coronagamba.proofs.cells.coronagamba_bounds_of.Tie as tie
+
+returns : tie.Need-returns
+returns c =
+    let e = c .before .before .before .before .before .bounds-of .ensures in
+    let h = c .before .before .before .bounds .given .1 in
+    (told boundsWord e h, (c .before .three .ensures ∙ after beginAfter _ e h, c .three2 .ensures ∙ after endAfter _ e h))
+
+returns-2 : tie.Need-returns-2
+returns-2 c =
+    let e = c .before .before .before .bounds-of .ensures in
+    let h = c .before .number .given .1 in
+    (told boundsWord e h, (after beginAfter _ e h, after endAfter _ e h))
+
+pub coronagamba-bounds-of-spec : {M : Type 1} → statement M
+coronagamba-bounds-of-spec =
+    tie.close
+    (tie.spec
+    (λ c κs. search needs)
+    (λ c. search needs)
+    (λ c κs. search needs)
+    (λ c κs. search needs)
+    (λ c. search needs)
+    (λ c. search needs)
+    returns
+    returns-2)

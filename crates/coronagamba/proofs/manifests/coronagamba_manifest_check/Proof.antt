@@ -1,0 +1,22 @@
+use borrow.Author.Needs.{needs}
+use Rattle.coronagamba.specs.Manifests.{manifestWord}
+use Rattle.coronagamba.proofs.Told.{told}
+use Rattle.coronagamba.proofs.manifests.coronagamba_manifest_check.Statement.{statement}
+use Rattle.coronagamba.proofs.manifests.coronagamba_manifest_check.Tie as tie
+
+returns : tie.Need-returns
+returns c =
+    let e = c .before .before .check-manifest .ensures in
+    let h = c .enum-told .given .1 in
+    told manifestWord e h
+
+returns-2 : tie.Need-returns-2
+returns-2 c =
+    let e = c .before .before .before .check-manifest .ensures in
+    let h = c .before .refusal .given .1 in
+    told manifestWord e h
+
+pub coronagamba-manifest-check-spec : {M : Type 1} → statement M
+coronagamba-manifest-check-spec =
+    tie.close
+    (tie.spec (λ c κs. search needs) (λ c. search needs) (λ c. search needs) (λ c. search needs) returns returns-2)

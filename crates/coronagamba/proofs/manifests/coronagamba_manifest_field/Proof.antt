@@ -1,0 +1,38 @@
+use borrow.Author.Needs.{needs}
+use Rattle.manifest.proofs.Fields.{field-number}
+use Rattle.coronagamba.specs.Manifests.{fieldWord, kindAfter, valueAfter}
+use Rattle.coronagamba.proofs.Told.{told, after}
+use Rattle.coronagamba.proofs.manifests.coronagamba_manifest_field.Statement.{statement}
+use Rattle.coronagamba.proofs.manifests.coronagamba_manifest_field.Tie as tie
+
+returns : tie.Need-returns
+returns c =
+    let e = c .before .before .before .field-of .ensures in
+    let h = c .before .x .given .1 in
+    (told fieldWord e h, (after kindAfter _ e h, after valueAfter _ e h))
+
+returns-2 : tie.Need-returns-2
+returns-2 c =
+    let e = c .before .before .before .field-of .ensures in
+    let h = c .before .n .given .1 in
+    (told fieldWord e h, (after kindAfter _ e h, after valueAfter _ e h))
+
+returns-3 : tie.Need-returns-3
+returns-3 c =
+    let e = c .before .before .before .field-of .ensures in
+    let h = c .before .refusal .given .1 in
+    (told fieldWord e h, (after kindAfter _ e h, after valueAfter _ e h))
+
+pub coronagamba-manifest-field-spec : {M : Type 1} → statement M
+coronagamba-manifest-field-spec =
+    tie.close
+    (tie.spec
+    (λ c κs. search needs)
+    (λ c. search needs)
+    (λ c. search field-number)
+    (λ c. search needs)
+    (λ c. search needs)
+    (λ c. search needs)
+    returns
+    returns-2
+    returns-3)

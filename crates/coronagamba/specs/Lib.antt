@@ -1,0 +1,7 @@
+pub mod Version
+pub mod Word
+pub mod Places
+pub mod Cells
+pub mod Shards
+pub mod Manifests
+pub mod Cards

@@ -1,0 +1,90 @@
+// Deposit cards.
+ghost use mathlib.Core.Path.{_≡_};
+ghost use mathlib.Core.List.{[], _∷_};
+ghost use Rattle.sharding.specs.Specification.{minishardBits, shardBits};
+ghost use Rattle.card.specs.Answers.{readAnswer, writeAnswer, writeLeft};
+ghost use Rattle.coronagamba.specs.Word.{writtenWord, lengthAfter};
+ghost use Rattle.coronagamba.specs.Cards.{cardWord, shardingAfter, volumeAfter, chunkAfter, offsetAfter};
+use card::Card;
+use card::CardAnswer;
+use grid::Extents;
+use grid::Offset;
+use grid::Volume;
+use refusal::Written;
+use sharding::Sharding;
+
+fn four(sharding: Sharding) -> [u8; 4]
+    ensures { λ r. ⌜ r ≡ sharding .preshift ∷ sharding .hash ∷ minishardBits sharding ∷ shardBits sharding ∷ [] ⌝ }
+{
+    [
+        sharding.preshift,
+        sharding.hash,
+        sharding.minishard_bits,
+        sharding.shard_bits,
+    ]
+}
+
+fn three_extents(e: Extents) -> [u32; 3]
+    ensures { λ r. ⌜ r ≡ e .x ∷ e .y ∷ e .z ∷ [] ⌝ }
+{
+    [e.x, e.y, e.z]
+}
+
+fn three_offsets(o: Offset) -> [i32; 3]
+    ensures { λ r. ⌜ r ≡ o .x ∷ o .y ∷ o .z ∷ [] ⌝ }
+{
+    [o.x, o.y, o.z]
+}
+
+// What a deposit card of these bytes says. Writes preshift, hash, minishard bits and shard bits to
+// `sharding`, and volume size, chunk size and voxel offset along x, y and z to `size`, `chunk` and
+// `offset`. To use them in other calls, copy the numbers into the structs one by one.
+// Refusals: 14, 1, 2, 3
+#[no_mangle]
+pub extern "C" fn coronagamba_card_read(
+    bytes: &[u8],
+    sharding: &mut [u8; 4],
+    size: &mut [u32; 3],
+    chunk: &mut [u32; 3],
+    offset: &mut [i32; 3],
+) -> u64
+    ensures answer { λ r. ⌜ r ≡ cardWord (readAnswer (now (bytes .entry))) ⌝ }
+    ensures sharding { λ _. ⌜ now (sharding .exit) ≡ shardingAfter (readAnswer (now (bytes .entry))) (now (sharding .entry)) ⌝ }
+    ensures size { λ _. ⌜ now (size .exit) ≡ volumeAfter (readAnswer (now (bytes .entry))) (now (size .entry)) ⌝ }
+    ensures chunk { λ _. ⌜ now (chunk .exit) ≡ chunkAfter (readAnswer (now (bytes .entry))) (now (chunk .entry)) ⌝ }
+    ensures offset { λ _. ⌜ now (offset .exit) ≡ offsetAfter (readAnswer (now (bytes .entry))) (now (offset .entry)) ⌝ }
+{
+    match card::read_card(bytes) {
+        CardAnswer::Says(card) => {
+            let volume = card.volume;
+            *sharding = four(card.sharding);
+            *size = three_extents(volume.size);
+            *chunk = three_extents(volume.chunk);
+            *offset = three_offsets(volume.offset);
+            0
+        }
+        CardAnswer::Refused(refusal) => refusal as u64,
+    }
+}
+
+// A deposit card. Writes its bytes, 46 or 61, to the front of `out`, and their number to `length`.
+// Refusals: 1, 2, 3, 13 where `out` is shorter than the card
+#[no_mangle]
+pub extern "C" fn coronagamba_card_write(
+    sharding: Sharding,
+    volume: Volume,
+    out: &mut [u8],
+    length: &mut u64,
+) -> u64
+    ensures answer { λ r. ⌜ r ≡ writtenWord (writeAnswer (record { sharding = sharding; volume = volume }) (now (out .entry))) ⌝ }
+    ensures out { λ _. ⌜ now (out .exit) ≡ writeLeft (record { sharding = sharding; volume = volume }) (now (out .entry)) ⌝ }
+    ensures length { λ _. ⌜ now (length .exit) ≡ lengthAfter (writeAnswer (record { sharding = sharding; volume = volume }) (now (out .entry))) (now (length .entry)) ⌝ }
+{
+    match card::write_card(Card { sharding, volume }, out) {
+        Written::Length(n) => {
+            *length = n as u64;
+            0
+        }
+        Written::Refused(refusal) => refusal as u64,
+    }
+}

@@ -1,0 +1,118 @@
+// Volumes, cells and keys.
+ghost use mathlib.Core.Path.{_≡_};
+ghost use mathlib.Core.List.{[], _∷_};
+ghost use Rattle.grid.specs.Answers.{gridAnswer, keyAnswer, cellAnswer, boundsAnswer};
+ghost use Rattle.grid.specs.Batch.{cellsOf, keysAnswer, keysLeft};
+ghost use Rattle.coronagamba.specs.Word.{writtenWord, lengthAfter};
+ghost use Rattle.coronagamba.specs.Cells.{gridWord, gridAfter, keyWord, keyAfter, cellWord, cellAfter, boundsWord, beginAfter, endAfter};
+use grid::BoundsAnswer;
+use grid::Cell;
+use grid::CellAnswer;
+use grid::GridAnswer;
+use grid::KeyAnswer;
+use grid::Point;
+use grid::Volume;
+use refusal::Written;
+
+// How many cells the volume has. Writes the numbers along x, y and z to `grid`.
+// Refusals: 2 where an extent is 0
+#[no_mangle]
+pub extern "C" fn coronagamba_grid_of(volume: Volume, grid: &mut [u32; 3]) -> u64
+    ensures answer { λ r. ⌜ r ≡ gridWord (gridAnswer volume) ⌝ }
+    ensures grid { λ _. ⌜ now (grid .exit) ≡ gridAfter (gridAnswer volume) (now (grid .entry)) ⌝ }
+{
+    match grid::grid_of(volume) {
+        GridAnswer::Grid(g) => {
+            *grid = [g.x, g.y, g.z];
+            0
+        }
+        GridAnswer::Refused(number) => number as u64,
+    }
+}
+
+// The key of a cell: its compressed Morton code. Writes it to `key`.
+// Refusals: 2, 3
+#[no_mangle]
+pub extern "C" fn coronagamba_key_of(volume: Volume, cell: Cell, key: &mut u64) -> u64
+    ensures answer { λ r. ⌜ r ≡ keyWord (keyAnswer volume cell) ⌝ }
+    ensures key { λ _. ⌜ now (key .exit) ≡ keyAfter (keyAnswer volume cell) (now (key .entry)) ⌝ }
+{
+    match grid::key_of(volume, cell) {
+        KeyAnswer::Key(k) => {
+            *key = k;
+            0
+        }
+        KeyAnswer::Refused(number) => number as u64,
+    }
+}
+
+// The keys of many cells, in their order. `cells` holds x, y and z of each cell in turn, three
+// numbers for a cell; one or two left over are no cell. Writes the keys to the front of `keys`, and
+// their number to `length`. The volume is judged also where there is no cell.
+// Refusals: 2 where an extent is 0 or any cell is outside the grid, 3, 13 where `keys` has room for
+// fewer
+#[no_mangle]
+pub extern "C" fn coronagamba_keys_of(
+    volume: Volume,
+    cells: &[u32],
+    keys: &mut [u64],
+    length: &mut u64,
+) -> u64
+    ensures answer { λ r. ⌜ r ≡ writtenWord (keysAnswer volume (cellsOf (now (cells .entry))) (now (keys .entry))) ⌝ }
+    ensures keys { λ _. ⌜ now (keys .exit) ≡ keysLeft volume (cellsOf (now (cells .entry))) (now (keys .entry)) ⌝ }
+    ensures length { λ _. ⌜ now (length .exit) ≡ lengthAfter (keysAnswer volume (cellsOf (now (cells .entry))) (now (keys .entry))) (now (length .entry)) ⌝ }
+{
+    match grid::batch::keys_of(volume, cells, keys) {
+        Written::Length(n) => {
+            *length = n as u64;
+            0
+        }
+        Written::Refused(number) => number as u64,
+    }
+}
+
+// The cell of a key. Writes its x, y and z to `cell`.
+// Refusals: 2 where an extent is 0, 3, 4
+#[no_mangle]
+pub extern "C" fn coronagamba_cell_of(volume: Volume, key: u64, cell: &mut [u32; 3]) -> u64
+    ensures answer { λ r. ⌜ r ≡ cellWord (cellAnswer volume key) ⌝ }
+    ensures cell { λ _. ⌜ now (cell .exit) ≡ cellAfter (cellAnswer volume key) (now (cell .entry)) ⌝ }
+{
+    match grid::cell_of(volume, key) {
+        CellAnswer::At(c) => {
+            *cell = [c.x, c.y, c.z];
+            0
+        }
+        CellAnswer::Refused(number) => number as u64,
+    }
+}
+
+fn three(p: Point) -> [i64; 3]
+    ensures { λ r. ⌜ r ≡ p .x ∷ p .y ∷ p .z ∷ [] ⌝ }
+{
+    [p.x, p.y, p.z]
+}
+
+// Where a cell lies, in voxels, the volume's offset included. Writes where it begins along x, y and
+// z to `begin` and where it ends, that voxel excluded, to `end`.
+// Refusals: 2
+#[no_mangle]
+pub extern "C" fn coronagamba_bounds_of(
+    volume: Volume,
+    cell: Cell,
+    begin: &mut [i64; 3],
+    end: &mut [i64; 3],
+) -> u64
+    ensures answer { λ r. ⌜ r ≡ boundsWord (boundsAnswer volume cell) ⌝ }
+    ensures begin { λ _. ⌜ now (begin .exit) ≡ beginAfter (boundsAnswer volume cell) (now (begin .entry)) ⌝ }
+    ensures end { λ _. ⌜ now (end .exit) ≡ endAfter (boundsAnswer volume cell) (now (end .entry)) ⌝ }
+{
+    match grid::bounds_of(volume, cell) {
+        BoundsAnswer::Within(bounds) => {
+            *begin = three(bounds.begin);
+            *end = three(bounds.end);
+            0
+        }
+        BoundsAnswer::Refused(number) => number as u64,
+    }
+}

@@ -1,0 +1,8 @@
+// The C interface. Each exported function hands its arguments to the library and carries the whole answer in its contract.
+pub mod cards;
+pub mod cells;
+pub mod manifests;
+pub mod places;
+pub mod shards;
+pub mod texts;
+pub mod version;

@@ -1,0 +1,57 @@
+// Ids and shards.
+ghost use mathlib.Core.Path.{_≡_};
+ghost use Rattle.sharding.specs.Place.{placeAnswer};
+ghost use Rattle.sharding.specs.Batch.{placesAnswer, shardsLeft, minishardsLeft};
+ghost use Rattle.coronagamba.specs.Word.{writtenWord, lengthAfter};
+ghost use Rattle.coronagamba.specs.Places.{placeWord, shardAfter, minishardAfter};
+use refusal::Written;
+use sharding::PlaceAnswer;
+use sharding::Sharding;
+
+// The shard and the minishard of an id. Writes them to `shard` and `minishard`.
+// Refusals: 1
+#[no_mangle]
+pub extern "C" fn coronagamba_place_of(
+    sharding: Sharding,
+    id: u64,
+    shard: &mut u64,
+    minishard: &mut u64,
+) -> u64
+    ensures answer { λ r. ⌜ r ≡ placeWord (placeAnswer sharding id) ⌝ }
+    ensures shard { λ _. ⌜ now (shard .exit) ≡ shardAfter (placeAnswer sharding id) (now (shard .entry)) ⌝ }
+    ensures minishard { λ _. ⌜ now (minishard .exit) ≡ minishardAfter (placeAnswer sharding id) (now (minishard .entry)) ⌝ }
+{
+    match sharding::place_of(sharding, id) {
+        PlaceAnswer::At(place) => {
+            *shard = place.shard;
+            *minishard = place.minishard;
+            0
+        }
+        PlaceAnswer::Refused(number) => number as u64,
+    }
+}
+
+// The shards and the minishards of many ids, in their order. Writes them to the front of `shards`
+// and of `minishards`, and their number to `length`.
+// Refusals: 1, 13 where `shards` or `minishards` has room for fewer
+#[no_mangle]
+pub extern "C" fn coronagamba_places_of(
+    sharding: Sharding,
+    ids: &[u64],
+    shards: &mut [u64],
+    minishards: &mut [u64],
+    length: &mut u64,
+) -> u64
+    ensures answer { λ r. ⌜ r ≡ writtenWord (placesAnswer sharding (now (ids .entry)) (now (shards .entry)) (now (minishards .entry))) ⌝ }
+    ensures shards { λ _. ⌜ now (shards .exit) ≡ shardsLeft sharding (now (ids .entry)) (now (shards .entry)) (now (minishards .entry)) ⌝ }
+    ensures minishards { λ _. ⌜ now (minishards .exit) ≡ minishardsLeft sharding (now (ids .entry)) (now (shards .entry)) (now (minishards .entry)) ⌝ }
+    ensures length { λ _. ⌜ now (length .exit) ≡ lengthAfter (placesAnswer sharding (now (ids .entry)) (now (shards .entry)) (now (minishards .entry))) (now (length .entry)) ⌝ }
+{
+    match sharding::batch::places_of(sharding, ids, shards, minishards) {
+        Written::Length(n) => {
+            *length = n as u64;
+            0
+        }
+        Written::Refused(number) => number as u64,
+    }
+}

@@ -1,0 +1,165 @@
+// Shards: lookup, the check, listings, settling.
+ghost use mathlib.Core.Path.{_≡_};
+ghost use Prim.Native.Nat.{_+_, _<_};
+ghost use mathlib.Core.Option.{none, some};
+ghost use Rattle.shard.specs.File.{checkAnswer};
+ghost use Rattle.lookup.specs.Find.{lookupAnswer};
+ghost use Rattle.listing.specs.Listing.{countAnswer, listingAnswer, listingLeft};
+ghost use Rattle.settle.specs.Answers.{lengthAnswer, settleAnswer, settleLeft};
+ghost use Rattle.coronagamba.specs.Word.{word, writtenWord, lengthAfter};
+ghost use Rattle.coronagamba.specs.Shards.{checkWord, lookupWord, startAfter, sizeAfter, countWord, countAfter};
+use listing::CountAnswer;
+use lookup::LookupAnswer;
+use refusal::Written;
+use shard::CheckAnswer;
+use sharding::Sharding;
+
+// Where the chunk of an id lies in the shard's file. Writes where it begins, counted from the
+// file's first byte, to `start`, and its number of bytes to `length`. Of the minishards it judges
+// the id's own alone.
+// Refusals: 1, 5, 6, 7 to 11 of the id's minishard, 12
+#[no_mangle]
+pub extern "C" fn coronagamba_lookup(
+    sharding: Sharding,
+    shard: u64,
+    file: &[u8],
+    id: u64,
+    start: &mut u64,
+    length: &mut u64,
+) -> u64
+    ensures answer { λ r. ⌜ r ≡ lookupWord (lookupAnswer sharding shard (now (file .entry)) id) ⌝ }
+    ensures start { λ _. ⌜ now (start .exit) ≡ startAfter (lookupAnswer sharding shard (now (file .entry)) id) (now (start .entry)) ⌝ }
+    ensures length { λ _. ⌜ now (length .exit) ≡ sizeAfter (lookupAnswer sharding shard (now (file .entry)) id) (now (length .entry)) ⌝ }
+{
+    match lookup::lookup(sharding, shard, file, id) {
+        LookupAnswer::Found {
+            start: begin,
+            length: bytes,
+        } => {
+            *start = begin as u64;
+            *length = bytes as u64;
+            0
+        }
+        LookupAnswer::Refused(refusal) => refusal as u64,
+    }
+}
+
+// The word has 24 bits for the minishard and one.
+fn fault_word(refusal: u8, minishard: u64) -> u64
+    requires { ⌜ minishard + 1 < 16777216 ⌝ }
+    ensures { λ r. ⌜ r ≡ word refusal (some minishard) none ⌝ }
+{
+    refusal as u64 + 256 * (minishard + 1)
+}
+
+// Whether the whole shard is sound. Writes nothing. Where a minishard has a fault, the answer word
+// names the first such minishard.
+// Refusals: 1, 5, 6, 7 to 11 with the minishard
+#[no_mangle]
+pub extern "C" fn coronagamba_check(sharding: Sharding, shard: u64, file: &[u8]) -> u64
+    ensures answer { λ r. ⌜ r ≡ checkWord (checkAnswer sharding shard (now (file .entry))) ⌝ }
+{
+    match shard::check::check(sharding, shard, file) {
+        CheckAnswer::Sound => 0,
+        CheckAnswer::Refused(refusal) => refusal as u64,
+        CheckAnswer::Faulty {
+            number: refusal,
+            minishard,
+        } => fault_word(refusal, minishard),
+    }
+}
+
+// How many chunks a minishard lists. Writes the number to `chunks`.
+// Refusals: 1, 5 (also for a minishard that is not there), 6, 7 to 11 of that minishard
+#[no_mangle]
+pub extern "C" fn coronagamba_listed_count(
+    sharding: Sharding,
+    shard: u64,
+    file: &[u8],
+    minishard: u64,
+    chunks: &mut u64,
+) -> u64
+    ensures answer { λ r. ⌜ r ≡ countWord (countAnswer sharding shard (now (file .entry)) minishard) ⌝ }
+    ensures chunks { λ _. ⌜ now (chunks .exit) ≡ countAfter (countAnswer sharding shard (now (file .entry)) minishard) (now (chunks .entry)) ⌝ }
+{
+    match listing::listed_count(sharding, shard, file, minishard) {
+        CountAnswer::Count(n) => {
+            *chunks = n as u64;
+            0
+        }
+        CountAnswer::Refused(refusal) => refusal as u64,
+    }
+}
+
+// The chunks that a minishard lists, in stored order. Writes three numbers for each to the front of
+// `out`: id, start counted from the file's first byte, length in bytes. Writes how many numbers
+// these are, three times what coronagamba_listed_count gives, to `length`.
+// Refusals: 1, 5 (also for a minishard that is not there), 6, 7 to 11 of that minishard, 13 where
+// `out` has room for fewer
+#[no_mangle]
+pub extern "C" fn coronagamba_listing(
+    sharding: Sharding,
+    shard: u64,
+    file: &[u8],
+    minishard: u64,
+    out: &mut [u64],
+    length: &mut u64,
+) -> u64
+    ensures answer { λ r. ⌜ r ≡ countWord (listingAnswer sharding shard (now (file .entry)) minishard (now (out .entry))) ⌝ }
+    ensures out { λ _. ⌜ now (out .exit) ≡ listingLeft sharding shard (now (file .entry)) minishard (now (out .entry)) ⌝ }
+    ensures length { λ _. ⌜ now (length .exit) ≡ countAfter (listingAnswer sharding shard (now (file .entry)) minishard (now (out .entry))) (now (length .entry)) ⌝ }
+{
+    match listing::listing(sharding, shard, file, minishard, out) {
+        CountAnswer::Count(n) => {
+            *length = n as u64;
+            0
+        }
+        CountAnswer::Refused(refusal) => refusal as u64,
+    }
+}
+
+// How many bytes a shard's settled form has. Writes the number to `length`.
+// Refusals: 1, 5, 6, 7 to 11 of the first faulty minishard, 13 where the form would pass 1 GiB
+#[no_mangle]
+pub extern "C" fn coronagamba_settled_length(
+    sharding: Sharding,
+    shard: u64,
+    file: &[u8],
+    length: &mut u64,
+) -> u64
+    ensures answer { λ r. ⌜ r ≡ writtenWord (lengthAnswer sharding shard (now (file .entry))) ⌝ }
+    ensures length { λ _. ⌜ now (length .exit) ≡ lengthAfter (lengthAnswer sharding shard (now (file .entry))) (now (length .entry)) ⌝ }
+{
+    match settle::settled_length(sharding, shard, file) {
+        Written::Length(n) => {
+            *length = n as u64;
+            0
+        }
+        Written::Refused(refusal) => refusal as u64,
+    }
+}
+
+// A shard's settled form. Writes it to the front of `out`, which needs the room that
+// coronagamba_settled_length tells, and its number of bytes to `length`.
+// Refusals: 1, 5, 6, 7 to 11 of the first faulty minishard, 13 where `out` is shorter than the form
+// or the form would pass 1 GiB
+#[no_mangle]
+pub extern "C" fn coronagamba_settle(
+    sharding: Sharding,
+    shard: u64,
+    file: &[u8],
+    out: &mut [u8],
+    length: &mut u64,
+) -> u64
+    ensures answer { λ r. ⌜ r ≡ writtenWord (settleAnswer sharding shard (now (file .entry)) (now (out .entry))) ⌝ }
+    ensures out { λ _. ⌜ now (out .exit) ≡ settleLeft sharding shard (now (file .entry)) (now (out .entry)) ⌝ }
+    ensures length { λ _. ⌜ now (length .exit) ≡ lengthAfter (settleAnswer sharding shard (now (file .entry)) (now (out .entry))) (now (length .entry)) ⌝ }
+{
+    match settle::settle(sharding, shard, file, out) {
+        Written::Length(n) => {
+            *length = n as u64;
+            0
+        }
+        Written::Refused(refusal) => refusal as u64,
+    }
+}

@@ -1,0 +1,55 @@
+// File names.
+ghost use mathlib.Core.Path.{_≡_};
+ghost use Rattle.names.specs.Chunks.{chunkNameAnswer, chunkNameLeft};
+ghost use Rattle.names.specs.Shards.{shardNameAnswer, shardNameLeft};
+ghost use Rattle.coronagamba.specs.Word.{writtenWord, lengthAfter};
+use grid::Cell;
+use grid::Volume;
+use refusal::Written;
+use sharding::Sharding;
+
+// The file name of a cell's chunk where chunks are not sharded. Writes its ASCII bytes, at most 71
+// and with no 0 byte behind them, to the front of `out`, and their number to `length`.
+// Refusals: 2, 13 where `out` is shorter than the name
+#[no_mangle]
+pub extern "C" fn coronagamba_chunk_name(
+    volume: Volume,
+    cell: Cell,
+    out: &mut [u8],
+    length: &mut u64,
+) -> u64
+    ensures answer { λ r. ⌜ r ≡ writtenWord (chunkNameAnswer volume cell (now (out .entry))) ⌝ }
+    ensures out { λ _. ⌜ now (out .exit) ≡ chunkNameLeft volume cell (now (out .entry)) ⌝ }
+    ensures length { λ _. ⌜ now (length .exit) ≡ lengthAfter (chunkNameAnswer volume cell (now (out .entry))) (now (length .entry)) ⌝ }
+{
+    match names::chunk_name(volume, cell, out) {
+        Written::Length(n) => {
+            *length = n as u64;
+            0
+        }
+        Written::Refused(number) => number as u64,
+    }
+}
+
+// The file name of a shard. Writes its ASCII bytes, at most 14 and with no 0 byte behind them, to
+// the front of `out`, and their number to `length`.
+// Refusals: 1, 5, 13 where `out` is shorter than the name
+#[no_mangle]
+pub extern "C" fn coronagamba_shard_name(
+    sharding: Sharding,
+    shard: u64,
+    out: &mut [u8],
+    length: &mut u64,
+) -> u64
+    ensures answer { λ r. ⌜ r ≡ writtenWord (shardNameAnswer sharding shard (now (out .entry))) ⌝ }
+    ensures out { λ _. ⌜ now (out .exit) ≡ shardNameLeft sharding shard (now (out .entry)) ⌝ }
+    ensures length { λ _. ⌜ now (length .exit) ≡ lengthAfter (shardNameAnswer sharding shard (now (out .entry))) (now (length .entry)) ⌝ }
+{
+    match names::shard_name(sharding, shard, out) {
+        Written::Length(n) => {
+            *length = n as u64;
+            0
+        }
+        Written::Refused(number) => number as u64,
+    }
+}

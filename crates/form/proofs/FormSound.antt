@@ -1,0 +1,85 @@
+-- The settled form of a sound shard is a sound shard, with the content of its original.
+use Prim.Native.Nat.{ℕ, suc, _≤_, _<_}
+use mathlib.Core.Path.{_≡_}
+use mathlib.Core.Logic.{inr}
+use mathlib.Core.List.{List, []}
+use native.Mathlib.Omega.{arith}
+use lib.ListN.{length, getD}
+use Rattle.endian.specs.Little.{row}
+use Rattle.sharding.specs.declared.Sharding.{Sharding}
+use Rattle.sharding.specs.Specification.{minishardCount}
+use Rattle.shard.specs.File.{mostShardBytes, indexPart, dataPart}
+use Rattle.shard.specs.Sound.{SoundMinishard, SoundShard}
+use Rattle.shard.specs.Items.{Item}
+use Rattle.form.specs.Form.{partLength, partsFrom, entriesFrom, settledLength}
+use Rattle.form.specs.Sorted.{Member}
+use Rattle.form.specs.Content.{idOf, formOf, formLength, fileContent, fileForm, fileFormLength}
+use Rattle.form.proofs.Sorting.{member-at, rising-at}
+use Rattle.form.proofs.Measures.{length-content, length-form, length-parts}
+use Rattle.form.proofs.Rows.{noItem, offset-size}
+use Rattle.form.proofs.ReadBack.{Readable, index-back, data-back, placeFrom, place-bound, entry-span, finish-most, reads-part, content-back}
+use Rattle.form.proofs.SoundContent.{Listed, listed-content, readable-content}
+
+-- a minishard that is read as such items, and ends within the file, is sound
+sound-part : {spec : Sharding} {shard : ℕ} {c : List (List Item)} (good : Readable spec c) (m : ℕ) → m < length c → Listed spec shard m (getD c m [])
+    → SoundMinishard spec shard (row (entriesFrom 0 c)) (partsFrom 0 c) m
+unfolding partLength
+sound-part {c = c} good m l g =
+    let xs = getD c m [] in
+    let r = reads-part good m l in
+    let span = entry-span (placeFrom 0 c m) xs in
+    let bound = place-bound 0 c m l in
+    let n = length-parts 0 c in
+    let among : (i : ℕ) → i < length xs → Member (getD xs i noItem) xs = member-at noItem xs in
+    record {
+      ordered = omega (arith, r .the-start, r .the-end);
+      within = inr (omega (arith, r .the-end, finish-most (placeFrom 0 c m) xs));
+      whole = omega (arith, r .the-start, r .the-end);
+      rising = λ i k.
+          let h : suc i < length xs = omega (arith, r .the-count) in
+          rw (r .the-items i (omega arith) .the-id, r .the-items (suc i) h .the-id) (rising-at idOf noItem xs i h (good .each m l .rising));
+      bounded = λ i k.
+          let h : i < length xs = omega (arith, r .the-count) in
+          rw (r .the-items i h .the-id) (g .bounded (getD xs i noItem) (among i h));
+      ours = λ i k.
+          let h : i < length xs = omega (arith, r .the-count) in
+          rw (r .the-items i h .the-id) (g .ours (getD xs i noItem) (among i h));
+      here = λ i k.
+          let h : i < length xs = omega (arith, r .the-count) in
+          rw (r .the-items i h .the-id) (g .here (getD xs i noItem) (among i h));
+      inside = λ i k.
+          let h : i < length xs = omega (arith, r .the-count) in
+          let t = r .the-items i h in
+          rw (r .the-count) (omega (arith, t .the-start, t .the-size, offset-size xs i h));
+    }
+
+module _ {spec : Sharding} {shard : ℕ} {a : List ℕ} (sound : SoundShard spec shard a) (short : fileFormLength spec a ≤ mostShardBytes) where
+  count : length (fileContent spec a) ≡ minishardCount spec
+  count = length-content spec (indexPart spec a) (dataPart spec a)
+
+  index-form : indexPart spec (fileForm spec a) ≡ row (entriesFrom 0 (fileContent spec a))
+  unfolding formOf
+  index-form = index-back spec (fileContent spec a) count
+
+  data-form : dataPart spec (fileForm spec a) ≡ partsFrom 0 (fileContent spec a)
+  unfolding formOf
+  data-form = data-back spec (fileContent spec a) count
+
+  pub form-sound : SoundShard spec shard (fileForm spec a)
+  unfolding formLength settledLength
+  form-sound =
+      let n = length-form spec (indexPart spec a) (dataPart spec a) in
+      record {
+        permitted = sound .permitted;
+        numbered = sound .numbered;
+        held = omega (arith, count);
+        short = omega arith;
+        each = λ m l.
+            rw (index-form, data-form)
+            (sound-part (readable-content sound short) m (omega (arith, count)) (listed-content sound m l));
+      }
+
+  -- the form's content is its original's
+  pub form-content : fileContent spec (fileForm spec a) ≡ fileContent spec a
+  unfolding formOf
+  form-content = content-back (readable-content sound short)

@@ -1,0 +1,89 @@
+-- What a sound minishard gives of its items, in whatever order they stand, and so of the content of a sound shard.
+use Prim.Native.Nat.{ℕ, zero, suc, _+_, _^_, _≤_, _<_}
+use mathlib.Core.Path.{_≡_, refl, ap, _∙_}
+use mathlib.Core.List.{List, []}
+use native.Mathlib.Omega.{arith}
+use native.Mathlib.Nat.{not-suc-le-zero}
+use lib.ListN.{length, getD}
+use Rattle.sharding.specs.declared.Sharding.{Sharding}
+use Rattle.sharding.specs.Specification.{minishardCount}
+use Rattle.sharding.specs.Place.{shardOf, minishardOf}
+use Rattle.shard.specs.Index.{entryCount}
+use Rattle.shard.specs.File.{mostShardBytes, indexPart, dataPart}
+use Rattle.shard.specs.Sound.{SoundFrom, SoundShard}
+use Rattle.shard.specs.Items.{Item, itemAt, leadLength}
+use Rattle.form.specs.Sorted.{Member, Distinct}
+use Rattle.form.specs.Content.{itemsAt, itemsOf, idOf, byId, contentFrom, contentOf, formLength, fileContent, fileFormLength}
+use Rattle.form.proofs.Sorting.{sort-mem, rising-sort, rising-distinct, distinct-sort}
+use Rattle.form.proofs.Measures.{length-content}
+use Rattle.form.proofs.Rows.{InForm}
+use Rattle.form.proofs.ReadBack.{Readable}
+use Rattle.form.proofs.Stored.{each-item, rising-items, by-id-stored}
+
+-- ---- what a sound minishard m gives of its items, in whatever order they stand
+
+pub record Listed (spec : Sharding) (shard m : ℕ) (xs : List Item) : Type 0 where
+  pub distinct : Distinct idOf xs
+  pub bounded : (x : Item) → Member x xs → x .id < 2 ^ 64
+  pub ours : (x : Item) → Member x xs → shardOf spec (x .id) ≡ shard
+  pub here : (x : Item) → Member x xs → minishardOf spec (x .id) ≡ m
+  pub led : (x : Item) → Member x xs → length (x .lead) ≡ leadLength spec (x .body)
+
+pub sound-listed : {spec : Sharding} {shard m : ℕ} {d : List ℕ} {s e : ℕ} → SoundFrom spec shard m d s e → Listed spec shard m (itemsAt spec d s (entryCount s e))
+unfolding itemAt leadLength
+sound-listed {spec} {shard} {m} {d} {s} {e} g =
+    record {
+      distinct = rising-distinct idOf _ (rising-items spec d s (entryCount s e) (g .rising));
+      bounded = each-item spec d s (entryCount s e) (λ (x : Item). x .id < 2 ^ 64) (g .bounded);
+      ours = each-item spec d s (entryCount s e) (λ (x : Item). shardOf spec (x .id) ≡ shard) (g .ours);
+      here = each-item spec d s (entryCount s e) (λ (x : Item). minishardOf spec (x .id) ≡ m) (g .here);
+      led = each-item spec d s (entryCount s e) (λ (x : Item). length (x .lead) ≡ leadLength spec (x .body)) (λ i l. refl);
+    }
+
+-- they stand sorted already, as their ids rise
+pub sound-stored : {spec : Sharding} {shard m : ℕ} {d : List ℕ} {s e : ℕ} → SoundFrom spec shard m d s e → byId (itemsAt spec d s (entryCount s e)) ≡ itemsAt spec d s (entryCount s e)
+sound-stored {spec} {shard} {m} {d} {s} {e} g = by-id-stored spec d s (entryCount s e) (g .rising)
+
+-- what holds of them holds of them sorted
+module _ {spec : Sharding} {shard m : ℕ} {xs : List Item} (g : Listed spec shard m xs) where
+  listed-sorted : Listed spec shard m (byId xs)
+  unfolding byId
+  listed-sorted = record {
+    distinct = distinct-sort idOf xs (g .distinct);
+    bounded = λ x h. g .bounded x (sort-mem idOf xs h);
+    ours = λ x h. g .ours x (sort-mem idOf xs h);
+    here = λ x h. g .here x (sort-mem idOf xs h);
+    led = λ x h. g .led x (sort-mem idOf xs h);
+  }
+
+  listed-form : InForm spec (byId xs)
+  unfolding byId
+  listed-form = record { rising = rising-sort idOf xs (g .distinct); bounded = listed-sorted .bounded; led = listed-sorted .led }
+
+-- ---- the content of a shard
+
+content-at : (spec : Sharding) (index d : List ℕ) (m k j : ℕ) → j < k → getD (contentFrom spec index d m k) j [] ≡ byId (itemsOf spec index d (m + j))
+unfolding contentFrom
+content-at spec index d m zero j l = absurd (not-suc-le-zero l)
+content-at spec index d m (suc k) zero l = ap (λ (i : ℕ). byId (itemsOf spec index d i)) (omega arith)
+content-at spec index d m (suc k) (suc j) l = content-at spec index d (suc m) k j (omega arith) ∙ ap (λ (i : ℕ). byId (itemsOf spec index d i)) (omega arith)
+
+pub items-at : (spec : Sharding) (index d : List ℕ) (m : ℕ) → m < minishardCount spec → getD (contentOf spec index d) m [] ≡ byId (itemsOf spec index d m)
+unfolding contentOf
+items-at spec index d m l = content-at spec index d 0 (minishardCount spec) m l ∙ ap (λ (i : ℕ). byId (itemsOf spec index d i)) (omega arith)
+
+-- that of a sound shard
+module _ {spec : Sharding} {shard : ℕ} {file : List ℕ} (sound : SoundShard spec shard file) where
+  pub listed-content : (m : ℕ) → m < minishardCount spec → Listed spec shard m (getD (fileContent spec file) m [])
+  listed-content m l = rw (items-at spec (indexPart spec file) (dataPart spec file) m l) (listed-sorted (sound-listed (sound .each m l)))
+
+  -- its form can be read back, where it is short enough
+  pub readable-content : fileFormLength spec file ≤ mostShardBytes → Readable spec (fileContent spec file)
+  unfolding formLength
+  readable-content h =
+      let n = length-content spec (indexPart spec file) (dataPart spec file) in
+      record {
+        count = n;
+        each = λ m l. rw (items-at spec (indexPart spec file) (dataPart spec file) m (omega arith)) (listed-form (sound-listed (sound .each m (omega arith))));
+        short = h;
+      }

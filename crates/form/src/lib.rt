@@ -1,0 +1,1 @@
+// The settled form: definitions in specs/, laws in proofs/. No code of its own.

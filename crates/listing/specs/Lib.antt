@@ -1,0 +1,3 @@
+-- The listing of a minishard (01, 'From id to shard').
+pub mod Listing
+pub mod Triples

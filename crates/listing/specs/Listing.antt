@@ -1,0 +1,60 @@
+-- The listing of a minishard, in stored order: three numbers for each entry (01, 'From id to shard' and 'Refusal numbers': 1, 5, 6, then 7 to 11
+-- of that minishard, then 13).
+use Prim.Native.Nat.{ℕ, zero, suc, _+_}
+use mathlib.Core.Bool.{_||_}
+use mathlib.Core.List.{List, [], _∷_, _++_}
+use lib.Dec.{leb}
+use lib.ListN.{length}
+use Rattle.refusal.specs.Checks.{Check, answered, left}
+use Rattle.refusal.specs.Buffer.{room, over}
+use Rattle.sharding.specs.declared.Sharding.{Sharding}
+use Rattle.sharding.specs.Specification.{minishardCount, noSuchShard}
+use Rattle.shard.specs.Index.{entryStart, entryEnd, entryCount, idSteps, startSteps, sizes, idAt, startAt}
+use Rattle.shard.specs.Checks.{minishardChecks}
+use Rattle.shard.specs.File.{indexPart, dataPart, fileChecks}
+use Rattle.listing.specs.declared.CountAnswer.{CountAnswer}
+use Rattle.listing.specs.declared.CountAnswer.the-variants.{Count, Refused}
+
+-- k entries from entry i on, of the n at s in a file whose shard index has `base` bytes: id, place in the file, length
+unfoldable pub entriesFrom : ℕ → List ℕ → ℕ → ℕ → ℕ → ℕ → List ℕ
+entriesFrom base d s n i zero = []
+entriesFrom base d s n i (suc k) =
+    idAt (idSteps d s) i ∷ (base + startAt (startSteps d s n) (sizes d s n) i) ∷ sizes d s n i ∷ entriesFrom base d s n (suc i) k
+
+-- the listing of minishard m of a shard of two parts
+unfoldable pub listingIn : List ℕ → List ℕ → ℕ → List ℕ
+listingIn index d m =
+    let s = entryStart index m in
+    let n = entryCount s (entryEnd index m) in
+    entriesFrom (length index) d s n 0 n
+
+-- of a file
+abbrev pub listingOf : Sharding → List ℕ → ℕ → List ℕ
+listingOf spec file m = listingIn (indexPart spec file) (dataPart spec file) m
+
+-- ---- how many chunks it lists
+
+abbrev pub listedCount : Sharding → List ℕ → ℕ → ℕ
+listedCount spec file m = entryCount (entryStart (indexPart spec file) m) (entryEnd (indexPart spec file) m)
+
+-- 5 also for a minishard number that is not below 2^minishard_bits: ours, beyond 01
+unfoldable pub countChecks : Sharding → ℕ → List ℕ → ℕ → List Check
+countChecks spec shard file m =
+    fileChecks spec (noSuchShard spec shard || leb (minishardCount spec) m) file
+    ++ minishardChecks spec shard (indexPart spec file) (dataPart spec file) m
+
+unfoldable pub countAnswer : Sharding → ℕ → List ℕ → ℕ → CountAnswer
+countAnswer spec shard file m = answered Refused (countChecks spec shard file m) (Count (listedCount spec file m))
+
+-- ---- the listing in lent numbers
+
+unfoldable pub listingChecks : Sharding → ℕ → List ℕ → ℕ → List ℕ → List Check
+listingChecks spec shard file m out = countChecks spec shard file m ++ (room (listingOf spec file m) out ∷ [])
+
+-- how many numbers were written
+unfoldable pub listingAnswer : Sharding → ℕ → List ℕ → ℕ → List ℕ → CountAnswer
+listingAnswer spec shard file m out = answered Refused (listingChecks spec shard file m out) (Count (length (listingOf spec file m)))
+
+-- what the numbers then are
+unfoldable pub listingLeft : Sharding → ℕ → List ℕ → ℕ → List ℕ → List ℕ
+listingLeft spec shard file m out = left (listingChecks spec shard file m out) (over (listingOf spec file m) out) out

@@ -1,0 +1,5 @@
+-- The laws of what `locate` prints.
+pub mod Printing
+pub mod Joining
+pub mod Handed
+pub mod Worked

@@ -1,0 +1,169 @@
+-- What a lookup's answer depends on (01, 'From id to shard'): the file's length, one index entry, that minishard's index and the chunk handed out.
+use Prim.Native.Nat.{ℕ, zero, suc, _+_, _*_, _-_, _<_, _≤_, min}
+use mathlib.Core.List.{List}
+use mathlib.Core.Path.{_≡_, refl, sym, _∙_, ap}
+use mathlib.Core.Bool.{Bool, true, false, not}
+use native.Mathlib.Omega.{arith}
+use lib.ListN.{length, take, drop, length-take, length-drop}
+use Rattle.refusal.specs.Choice.{pick}
+use Rattle.endian.specs.Little.{leAt}
+use Rattle.endian.specs.Range.{sumTo, anyBelow, first}
+use Rattle.endian.proofs.Ranges.{first-lt}
+use Rattle.endian.proofs.Little.{leAt-drop, leAt-take}
+use Rattle.sharding.specs.declared.Sharding.{Sharding}
+use Rattle.sharding.specs.Specification.{minishardCount}
+use Rattle.sharding.specs.Place.{minishardOf}
+use Rattle.sharding.proofs.Placed.{minishard-below}
+use Rattle.shard.specs.Index.{entryStart, entryEnd, entryCount, idSteps, startSteps, sizes, idAt, startAt}
+use Rattle.shard.specs.Faults.{badEntry, badId, foreignAt, outside, entryTests, faultAt, faultOf}
+use Rattle.shard.specs.File.{indexLength, indexPart, dataPart, fileChecks}
+use Rattle.shard.proofs.Tests.{Agree, same-any, same-first, same-tests}
+use Rattle.lookup.specs.declared.LookupAnswer.{LookupAnswer}
+use Rattle.lookup.specs.declared.LookupAnswer.the-variants.{Found, Refused}
+use Rattle.lookup.specs.Find.{isId, chunkOf, foundIn, lookupIn, lookupAnswer, partBytes}
+use Rattle.lookup.specs.Lookups.{AgreeFor, AgreeInChunk, SameAnswer}
+use Rattle.lookup.proofs.Seek.{found-picks}
+use Rattle.lookup.proofs.Answers.{in-parts, answer-files}
+
+-- ---- rows that are alike in their first n numbers
+
+abbrev Alike : ℕ → (ℕ → ℕ) → (ℕ → ℕ) → Type 0
+Alike n f g = (i : ℕ) → i < n → f i ≡ g i
+
+same-sum : (f g : ℕ → ℕ) (n : ℕ) → Alike n f g → sumTo f n ≡ sumTo g n
+unfolding sumTo
+same-sum f g zero p = refl
+same-sum f g (suc n) p = rw (same-sum f g n (λ i l. p i (omega arith)), p n (omega arith))
+
+module _ (f g : ℕ → ℕ) (n : ℕ) (p : Alike n f g) where
+  same-id : (i : ℕ) → i < n → idAt f i ≡ idAt g i
+  unfolding idAt
+  same-id i l = same-sum f g (suc i) (λ j h. p j (omega arith))
+
+  same-bad : (i : ℕ) → i < n → badId f i ≡ badId g i
+  unfolding badId
+  same-bad zero l = rw (same-id zero l)
+  same-bad (suc i) l = rw (same-id (suc i) l, same-id i (omega arith))
+
+  same-foreign : (spec : Sharding) (shard m i : ℕ) → i < n → foreignAt spec shard m f i ≡ foreignAt spec shard m g i
+  unfolding foreignAt
+  same-foreign spec shard m i l = rw (same-id i l)
+
+  same-is : (id i : ℕ) → i < n → isId f id i ≡ isId g id i
+  unfolding isId
+  same-is id i l = rw (same-id i l)
+
+module _ (f g h k : ℕ → ℕ) (n : ℕ) (p : Alike n f g) (q : Alike n h k) where
+  same-start : (i : ℕ) → i < n → startAt f h i ≡ startAt g k i
+  unfolding startAt
+  same-start i l = rw (same-sum f g (suc i) (λ j t. p j (omega arith)), same-sum h k i (λ j t. q j (omega arith)))
+
+  same-outside : {len len′ : ℕ} → len ≡ len′ → (i : ℕ) → i < n → outside len f h i ≡ outside len′ g k i
+  unfolding outside
+  same-outside o i l = rw (o, same-start i l, q i l)
+
+-- ---- data that agree in a minishard index
+
+module _ (a b : List ℕ) (s e : ℕ) (size : length a ≡ length b) (bytes : take (e - s) (drop s a) ≡ take (e - s) (drop s b)) where
+  same-number : (j : ℕ) → j + 8 ≤ e - s → leAt 8 a (s + j) ≡ leAt 8 b (s + j)
+  same-number j l =
+      sym (leAt-take 8 (drop s a) (e - s) j l ∙ leAt-drop 8 a s j)
+      ∙ ap (λ (t : List ℕ). leAt 8 t j) bytes
+      ∙ leAt-take 8 (drop s b) (e - s) j l
+      ∙ leAt-drop 8 b s j
+
+  same-row : (p k : ℕ) → s + (p - s) ≡ p → (p - s) + 8 * k ≤ e - s → (i : ℕ) → i < k → leAt 8 a (p + 8 * i) ≡ leAt 8 b (p + 8 * i)
+  same-row p k o l i h =
+      let at : s + (p - s + 8 * i) ≡ p + 8 * i = omega arith in
+      rw at at (same-number (p - s + 8 * i) (omega arith))
+
+  same-ids : Alike (entryCount s e) (idSteps a s) (idSteps b s)
+  same-ids = same-row s (entryCount s e) (omega arith) (omega arith)
+
+  same-starts : Alike (entryCount s e) (startSteps a s (entryCount s e)) (startSteps b s (entryCount s e))
+  same-starts = same-row (s + 8 * entryCount s e) (entryCount s e) (omega arith) (omega arith)
+
+  same-sizes : Alike (entryCount s e) (sizes a s (entryCount s e)) (sizes b s (entryCount s e))
+  same-sizes = same-row (s + 16 * entryCount s e) (entryCount s e) (omega arith) (omega arith)
+
+  agree : (spec : Sharding) (shard m : ℕ) → Agree (entryCount s e) (entryTests spec shard m a s (entryCount s e)) (entryTests spec shard m b s (entryCount s e))
+  unfolding entryTests
+  agree spec shard m = (
+    refl,
+    same-bad _ _ _ same-ids,
+    (refl, same-foreign _ _ _ same-ids spec shard m, (refl, same-outside _ _ _ _ _ same-starts same-sizes size, tt)),
+  )
+
+  same-fault : (spec : Sharding) (shard m : ℕ) → faultAt spec shard m a s e ≡ faultAt spec shard m b s e
+  unfolding faultAt badEntry
+  same-fault spec shard m =
+      let n = entryCount s e in
+      rw (size, same-tests n (entryTests spec shard m a s n) (entryTests spec shard m b s n) (agree spec shard m))
+
+  same-chunk : (base i : ℕ) (t : Bool) → (t ≡ true → i < entryCount s e)
+      → pick (not t) (Refused 12) (Found (base + startAt (startSteps a s (entryCount s e)) (sizes a s (entryCount s e)) i) (sizes a s (entryCount s e) i))
+      ≡ pick (not t) (Refused 12) (Found (base + startAt (startSteps b s (entryCount s e)) (sizes b s (entryCount s e)) i) (sizes b s (entryCount s e) i))
+  same-chunk base i true l = rw (same-start _ _ _ _ _ same-starts same-sizes i (l refl), same-sizes i (l refl))
+  same-chunk base i false l = refl
+
+  same-found : (base id : ℕ) → foundIn base a s (entryCount s e) id ≡ foundIn base b s (entryCount s e) id
+  unfolding chunkOf
+  same-found base id =
+      let n = entryCount s e in
+      let any = same-any (isId (idSteps a s) id) (isId (idSteps b s) id) n (same-is _ _ _ same-ids id) in
+      let at = same-first (isId (idSteps a s) id) (isId (idSteps b s) id) n (same-is _ _ _ same-ids id) in
+      rw (found-picks base a s n id, found-picks base b s n id, any, at)
+      (same-chunk base (first (isId (idSteps b s) id) n) (anyBelow n (isId (idSteps b s) id)) (first-lt (isId (idSteps b s) id) n))
+
+same-in : (spec : Sharding) (shard : ℕ) (x y a b : List ℕ) (id : ℕ) {s e : ℕ} → length x ≡ length y → length a ≡ length b
+    → entryStart x (minishardOf spec id) ≡ s → entryEnd x (minishardOf spec id) ≡ e → entryStart y (minishardOf spec id) ≡ s → entryEnd y (minishardOf spec id) ≡ e
+    → take (e - s) (drop s a) ≡ take (e - s) (drop s b) → lookupIn spec shard x a id ≡ lookupIn spec shard y b id
+unfolding faultOf
+same-in spec shard x y a b id {s} {e} p q u v u′ v′ w =
+    rw (in-parts spec shard x a id, in-parts spec shard y b id, p, u, v, u′, v′, same-fault a b s e q w spec shard (minishardOf spec id), same-found a b s e q w (length y) id)
+
+-- ---- files
+
+-- a number of the entry, read in the index part of a file, stands in the 16 bytes of the entry
+entry-number : (spec : Sharding) (m j : ℕ) (a : List ℕ) → m < minishardCount spec → j + 8 ≤ 16 → leAt 8 (indexPart spec a) (16 * m + j) ≡ leAt 8 (take 16 (drop (16 * m) a)) j
+entry-number spec m j a l h =
+    leAt-take 8 a (indexLength spec) (16 * m + j) (omega arith)
+    ∙ sym (leAt-take 8 (drop (16 * m) a) 16 j h ∙ leAt-drop 8 a (16 * m) j)
+
+module _ (spec : Sharding) (shard id : ℕ) (a b : List ℕ) (agree : AgreeFor spec id a b) where
+  same-entry : (j : ℕ) → j + 8 ≤ 16 → leAt 8 (indexPart spec a) (16 * minishardOf spec id + j) ≡ leAt 8 (indexPart spec b) (16 * minishardOf spec id + j)
+  same-entry j h =
+      entry-number spec (minishardOf spec id) j a (minishard-below spec id) h
+      ∙ ap (λ (t : List ℕ). leAt 8 t j) (agree .entry)
+      ∙ sym (entry-number spec (minishardOf spec id) j b (minishard-below spec id) h)
+
+  answer-depends : lookupAnswer spec shard a id ≡ lookupAnswer spec shard b id
+  unfolding fileChecks
+  answer-depends =
+      let at : 16 * minishardOf spec id + 0 ≡ 16 * minishardOf spec id = omega arith in
+      let s : entryStart (indexPart spec a) (minishardOf spec id) ≡ entryStart (indexPart spec b) (minishardOf spec id) = rw at at (same-entry 0 (omega arith)) in
+      let e : entryEnd (indexPart spec a) (minishardOf spec id) ≡ entryEnd (indexPart spec b) (minishardOf spec id) = same-entry 8 (omega arith) in
+      rw (
+        answer-files spec shard a id,
+        answer-files spec shard b id,
+        agree .size,
+        same-in spec shard (indexPart spec a) (indexPart spec b) (dataPart spec a) (dataPart spec b) id
+            (length-take (indexLength spec) a ∙ ap (min (indexLength spec)) (agree .size) ∙ sym (length-take (indexLength spec) b))
+            (length-drop (indexLength spec) a ∙ ap (λ (n : ℕ). n - indexLength spec) (agree .size) ∙ sym (length-drop (indexLength spec) b))
+            s
+            e
+            refl
+            refl
+            (rw (s, e) at (agree .index)),
+      )
+
+  part-depends : AgreeInChunk spec shard id a b → partBytes (lookupAnswer spec shard a id) a ≡ partBytes (lookupAnswer spec shard b id) b
+  part-depends chunk = rw answer-depends (go (lookupAnswer spec shard b id) refl)
+    where
+      go : (r : LookupAnswer) → lookupAnswer spec shard b id ≡ r → partBytes r a ≡ partBytes r b
+      go (Found start n) e = chunk start n e
+      go (Refused n) e = refl
+
+  -- a lookup depends only on these
+  pub lookup-depends-only-on-these : SameAnswer spec shard id a b
+  lookup-depends-only-on-these = record { answer = answer-depends; bytes = part-depends }

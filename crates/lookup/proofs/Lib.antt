@@ -1,0 +1,7 @@
+-- Laws of the definitions.
+pub mod Seek
+pub mod Answers
+pub mod Refused
+pub mod Handed
+pub mod Retrieval
+pub mod Depends

@@ -1,0 +1,86 @@
+-- The search in a minishard index of n entries.
+use Prim.Native.Nat.{ℕ, _+_, _<_, _≤_}
+use mathlib.Core.List.{List, [], _∷_}
+use mathlib.Core.Path.{_≡_, refl, sym, ap₂, _∙_}
+use mathlib.Core.Bool.{Bool, true, false, not}
+use native.Mathlib.Omega.{arith}
+use lib.ListN.{length}
+use borrow.Author.Tests.{eq-eqb, ne-eqb}
+use Rattle.refusal.specs.Choice.{pick}
+use Rattle.refusal.proofs.Picks.{by-picks}
+use Rattle.endian.specs.Range.{sumTo, anyBelow, first}
+use Rattle.endian.proofs.Ranges.{any-none, any-more, any-hit, any-no, first-hit, first-lt}
+use Rattle.shard.specs.Index.{idAt, startAt, endAt, idSteps, startSteps, sizes}
+use Rattle.shard.proofs.Tally.{Tally}
+use Rattle.lookup.specs.declared.LookupAnswer.the-variants.{Found, Refused}
+use Rattle.lookup.specs.Find.{isId, unlisted, chunkOf, foundIn}
+
+-- ---- what it answers
+
+-- 12 or the chunk, as a choice
+pub found-picks : (base : ℕ) (d : List ℕ) (s n id : ℕ) → foundIn base d s n id ≡ pick (not (anyBelow n (isId (idSteps d s) id))) (Refused 12) (chunkOf base d s n id)
+unfolding foundIn
+found-picks base d s n id = by-picks Refused (unlisted d s n id ∷ []) _ refl
+
+module _ (base : ℕ) (d : List ℕ) (s n id : ℕ) where
+  -- the first entry with the id is entry i
+  pub found-first : (i : ℕ) → i < n → isId (idSteps d s) id i ≡ true → first (isId (idSteps d s) id) n ≡ i
+      → foundIn base d s n id ≡ Found (base + startAt (startSteps d s n) (sizes d s n) i) (sizes d s n i)
+  unfolding chunkOf
+  found-first i l e q = rw (found-picks base d s n id, any-hit (isId (idSteps d s) id) n i l e, q)
+
+  -- none has it
+  pub found-none : ((i : ℕ) → i < n → idAt (idSteps d s) i ≡ id → ⊥) → foundIn base d s n id ≡ Refused 12
+  unfolding isId
+  found-none none = rw (found-picks base d s n id, any-no (isId (idSteps d s) id) n (λ i l. ne-eqb _ _ (none i l)))
+
+  pub none-found : foundIn base d s n id ≡ Refused 12 → (i : ℕ) → i < n → idAt (idSteps d s) i ≡ id → ⊥
+  unfolding isId chunkOf
+  none-found e i l q =
+      let f = rw (found-picks base d s n id, any-hit (isId (idSteps d s) id) n i l (eq-eqb _ _ q)) at e in
+      let z : _≡_ {A = ℕ} 0 1 = cc in
+      omega arith
+
+  -- a chunk that was found lies within the data
+  at-first : (i a k : ℕ) → endAt (startSteps d s n) (sizes d s n) i ≤ length d
+      → Found (base + startAt (startSteps d s n) (sizes d s n) i) (sizes d s n i) ≡ Found a k → a + k ≤ base + length d
+  at-first i a k l e =
+      let x : base + startAt (startSteps d s n) (sizes d s n) i ≡ a = cc in
+      let y : sizes d s n i ≡ k = cc in
+      omega arith
+
+  pub found-within : (a k : ℕ) → ((i : ℕ) → i < n → endAt (startSteps d s n) (sizes d s n) i ≤ length d) → foundIn base d s n id ≡ Found a k → a + k ≤ base + length d
+  unfolding chunkOf
+  found-within a k inside e = go (anyBelow n (isId (idSteps d s) id)) refl
+    where
+      go : (b : Bool) → anyBelow n (isId (idSteps d s) id) ≡ b → a + k ≤ base + length d
+      go true t = at-first (first (isId (idSteps d s) id) n) a k (inside _ (first-lt (isId (idSteps d s) id) n t)) (rw (found-picks base d s n id, t) at e)
+      go false t = let f = rw (found-picks base d s n id, t) at e in let z : _≡_ {A = ℕ} 0 1 = cc in absurd (omega arith)
+
+-- ---- as the loop finds it
+
+is-id : (f : ℕ → ℕ) (id i : ℕ) → sumTo f i + f i ≡ id → isId f id i ≡ true
+unfolding isId idAt sumTo
+is-id f id i p = eq-eqb _ _ p
+
+not-id : (f : ℕ → ℕ) (id i : ℕ) → (sumTo f i + f i ≡ id → ⊥) → isId f id i ≡ false
+unfolding isId idAt sumTo
+not-id f id i p = ne-eqb _ _ p
+
+pub seek-start : (f : ℕ → ℕ) (id : ℕ) → anyBelow 0 (isId f id) ≡ false
+seek-start f id = any-none (isId f id)
+
+pub seek-turn : {f g h : ℕ → ℕ} {n i cur end : ℕ} → Tally f g h n i cur end → (id : ℕ) → {x : ℕ} → x ≡ f i → anyBelow i (isId f id) ≡ false → (cur + x ≡ id → ⊥) → anyBelow (i + 1) (isId f id) ≡ false
+seek-turn {f} {i = i} r id e p q = any-more (isId f id) i p (not-id f id i (λ k. q (omega arith)))
+
+module _ (base : ℕ) (d : List ℕ) (p n id : ℕ) {i cur end : ℕ} (r : Tally (idSteps d p) (startSteps d p n) (sizes d p n) n i cur end) (none : anyBelow i (isId (idSteps d p) id) ≡ false) where
+  pub seek-hit : i < n → {x y z : ℕ} → x ≡ idSteps d p i → y ≡ startSteps d p n i → z ≡ sizes d p n i → cur + x ≡ id → Found (base + (end + y)) z ≡ foundIn base d p n id
+  unfolding startAt sumTo
+  seek-hit l {x} {y} {z} e f c q =
+      let has = is-id (idSteps d p) id i (omega arith) in
+      ap₂ (λ (a b : ℕ). Found a b) (omega arith) c ∙ sym (found-first base d p n id i l has (first-hit (isId (idSteps d p) id) n i none l has))
+
+  pub seek-end : n ≤ i → Refused 12 ≡ foundIn base d p n id
+  seek-end l =
+      let e : i ≡ n = omega arith in
+      rw (found-picks base d p n id, (rw e at none))

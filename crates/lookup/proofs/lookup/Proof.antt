@@ -1,0 +1,22 @@
+-- The lookup in a file: 1, 5, 6, then over its two parts.
+use borrow.Author.Needs.{needs}
+use Rattle.refusal.proofs.Tests.{told-yes}
+use Rattle.lookup.proofs.Answers.{answer-spec, answer-shard, answer-other, answer-short, answer-long, answer-in}
+use Rattle.lookup.proofs.lookup.Statement.{statement}
+use Rattle.lookup.proofs.lookup.Tie as tie
+
+pub lookup-spec : {M : Type 1} → statement M
+lookup-spec =
+    tie.close
+    (tie.spec
+    (λ c κs. search needs)
+    (λ c. search answer-spec)
+    (λ c κs. search told-yes)
+    (λ c. search answer-shard)
+    (λ c κs. search told-yes)
+    (λ c. search answer-other)
+    (λ c κs. search told-yes)
+    (λ c. search answer-short)
+    (λ c. search answer-long)
+    (λ c κs. (search told-yes, search needs))
+    (λ c. search answer-in))

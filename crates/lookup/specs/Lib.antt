@@ -1,0 +1,3 @@
+-- Lookup in a shard (01, 'From id to shard').
+pub mod Find
+pub mod Lookups

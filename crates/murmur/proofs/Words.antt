@@ -1,0 +1,60 @@
+-- Laws of the hash: the two words of a key, the first 8 bytes of the result, the product of two words.
+use Prim.Native.Nat.{ℕ, _+_, _*_, _/_, _%_, _^_, _<_}
+use mathlib.Core.Path.{_≡_, subst⁻¹}
+use mathlib.Core.List.{List, _++_}
+use native.Mathlib.Nat.{lt-of-le-of-lt, le-of-lt, mul-le-mul-left, mul-lt-mul-of-pos-right}
+use native.Mathlib.Omega.{arith}
+use lib.Bits.{bitXor}
+use lib.Pow.{pow-pos, pow-add}
+use mir.Syntax.{w32, w64}
+use mir.Val.{Fits}
+use Rattle.endian.specs.Little.{le, leAt}
+use Rattle.murmur.specs.Murmur.{State, tail1, tail2, tail, seeded, lengthened, summed, mixed, finished, murmur3, seed, murmurHash}
+
+-- k1 is the key's low half, k2 its high half
+k1-low : (n : ℕ) → leAt 4 (le 8 n) 0 ≡ n % 2 ^ 32
+unfolding le leAt
+k1-low n = omega arith
+
+k2-high : (n : ℕ) → n < 2 ^ 64 → leAt 4 (le 8 n) 4 ≡ n / 2 ^ 32
+unfolding le leAt
+k2-high n h = omega arith
+
+h1-below : (s : State) → summed s .h1 < 2 ^ 32
+unfolding summed
+h1-below s = omega arith
+
+h2-below : (s : State) → summed s .h2 < 2 ^ 32
+unfolding summed
+h2-below s = omega arith
+
+-- the number that two words and more begin with
+first-words : (a b : ℕ) (rest : List ℕ) → a < 2 ^ 32 → b < 2 ^ 32 → leAt 8 (le 4 a ++ (le 4 b ++ rest)) 0 ≡ a + 2 ^ 32 * b
+unfolding le leAt
+first-words a b rest ha hb = omega arith
+
+-- the number that the finished state begins with
+pub finished-words : (s : State) → leAt 8 (finished s) 0 ≡ summed (mixed (summed s)) .h1 + 2 ^ 32 * summed (mixed (summed s)) .h2
+unfolding finished
+finished-words s = first-words (summed (mixed (summed s)) .h1) (summed (mixed (summed s)) .h2) _ (h1-below (mixed (summed s))) (h2-below (mixed (summed s)))
+
+-- the hash, from the two words of the number
+pub murmur-words : {n a b r : ℕ} → Fits w64 n → a ≡ tail1 (n % 2 ^ 32) → b ≡ tail2 (n / 2 ^ 32) →
+    r ≡ leAt 8 (finished (lengthened (record { h1 = bitXor seed a; h2 = bitXor seed b; h3 = seed; h4 = seed }))) 0 → r ≡ murmurHash n
+unfolding murmurHash murmur3
+murmur-words {n} f p q e = rw (k1-low n, k2-high n (f .fits), ← p, ← q) e
+
+product-below : (k : ℕ) {a b : ℕ} → a < 2 ^ k → b < 2 ^ k → a * b < 2 ^ (k + k)
+product-below k {a} {b} ha hb =
+    subst⁻¹ (λ (n : ℕ). a * b < n) (pow-add 2 k k)
+    (lt-of-le-of-lt (mul-le-mul-left a (le-of-lt hb)) (mul-lt-mul-of-pos-right ha (pow-pos k)))
+
+pub product-fits : {a b : ℕ} → Fits w32 a → Fits w32 b → Fits w64 (a * b)
+product-fits p q = record { fits = product-below 32 (p .fits) (q .fits) }
+
+-- the hash is a number of 64 bits
+pub murmur-below : (n : ℕ) → murmurHash n < 2 ^ 64
+unfolding murmurHash murmur3
+murmur-below n =
+    let s = lengthened (tail (le 8 n) (seeded seed)) in
+    rw (finished-words s) (omega (arith, h1-below (mixed (summed s)), h2-below (mixed (summed s))))

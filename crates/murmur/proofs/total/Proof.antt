@@ -1,0 +1,12 @@
+-- The results of the calls, put together.
+use borrow.Author.Needs.{needs}
+use Rattle.murmur.proofs.total.Statement.{statement}
+use Rattle.murmur.proofs.total.Tie as tie
+
+returns : tie.Need-returns
+returns c = cc
+
+pub total-spec : {M : Type 1} → statement M
+total-spec =
+    tie.close
+    (tie.spec (λ c κs. search needs) (λ c κs. search needs) (λ c κs. search needs) returns)

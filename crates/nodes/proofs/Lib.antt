@@ -1,0 +1,5 @@
+pub mod Levels
+pub mod Listed
+pub mod Asked
+pub mod Fragments
+pub mod Each

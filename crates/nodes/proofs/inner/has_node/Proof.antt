@@ -1,0 +1,15 @@
+-- By the level count and the level's node count.
+use Rattle.nodes.proofs.Levels.{sound}
+use Rattle.nodes.proofs.Asked.{asked}
+use Rattle.nodes.proofs.inner.has_node.Statement.{statement}
+use Rattle.nodes.proofs.inner.has_node.Tie as tie
+
+pub has-node-spec : {M : Type 1} → statement M
+has-node-spec =
+    tie.close
+    (tie.spec
+    (λ c κs. search sound)
+    (λ c. search sound)
+    (λ c. search asked)
+    (λ c κs. search sound)
+    (λ c. search asked))

@@ -1,0 +1,24 @@
+-- A level's nodes, by what the judge gave, by whether there is such a level, and by the numbers lent.
+use borrow.Author.Needs.{needs}
+use Rattle.nodes.proofs.Levels.{sound}
+use Rattle.manifest.proofs.Judged.{told-sound}
+use Rattle.nodes.proofs.Asked.{listing}
+use Rattle.nodes.proofs.nodes_of.Statement.{statement}
+use Rattle.nodes.proofs.nodes_of.Tie as tie
+
+pub nodes-of-spec : {M : Type 1} → statement M
+nodes-of-spec =
+    tie.close
+    (tie.spec
+    (λ c κs. search needs)
+    (λ c. (search listing, search listing))
+    (λ c κs. search (told-sound, sound))
+    (λ c. search needs)
+    (λ c. (search listing, search listing))
+    (λ c κs. search (told-sound, sound))
+    (λ c. search needs)
+    (λ c. (search listing, search listing))
+    (λ c κs. (search (told-sound, sound), search needs))
+    (λ c. search needs)
+    (λ c. search needs)
+    (λ c. (search listing, search listing)))

@@ -1,0 +1,91 @@
+-- The nodes of a manifest: one of a level, and all of a level. Each call judges 15, 16 and 17 first, then its own.
+use Prim.Native.Nat.{ℕ, zero, suc, _+_}
+use mathlib.Core.Bool.{Bool, not, _&&_}
+use mathlib.Core.List.{List, [], _∷_, _++_}
+use lib.Dec.{ltb}
+use lib.ListN.{length}
+use Rattle.refusal.specs.Checks.{Check, check, answered, left}
+use Rattle.refusal.specs.Buffer.{room, over}
+use Rattle.refusal.specs.declared.Written.{Written}
+use Rattle.refusal.specs.declared.Written.the-variants as W
+use Rattle.endian.specs.Range.{sumTo}
+use Rattle.manifest.specs.Layout.{levelsOf, countOf, levelItem, xAt, yAt, zAt, sizeAt}
+use Rattle.manifest.specs.Verdict.{manifestChecks}
+use Rattle.nodes.specs.declared.Node.{Node}
+use Rattle.nodes.specs.declared.NodeAnswer.{NodeAnswer}
+use Rattle.nodes.specs.declared.NodeAnswer.the-variants as N
+
+-- there is a level l
+abbrev pub hasLevel : List ℕ → ℕ → Bool
+hasLevel s l = ltb l (levelsOf s)
+
+-- and it has a node i
+unfoldable pub hasNode : List ℕ → ℕ → ℕ → Bool
+hasNode s l i = hasLevel s l && ltb i (countOf s l)
+
+-- ---- fragments
+
+-- the size of the fragment of node i of level l, and the sizes of all of level l's together
+abbrev pub fragmentSize : List ℕ → ℕ → ℕ → ℕ
+fragmentSize s l i = sizeAt s (levelItem s l) (countOf s l) i
+
+unfoldable pub levelBytes : List ℕ → ℕ → ℕ
+levelBytes s l = sumTo (sizeAt s (levelItem s l) (countOf s l)) (countOf s l)
+
+-- where that fragment starts, counted from the first fragment: the sum of all earlier sizes, over all levels
+-- (source 001 names the sizes offsets; they are sizes)
+unfoldable pub fragmentStart : List ℕ → ℕ → ℕ → ℕ
+fragmentStart s l i = sumTo (levelBytes s) l + sumTo (sizeAt s (levelItem s l) (countOf s l)) i
+
+-- ---- a node
+
+-- node i of a level with n nodes whose items begin at `first`; its fragment is the bytes from `start` up to `start + size`, end excluded
+unfoldable pub nodeIn : List ℕ → ℕ → ℕ → ℕ → ℕ → Node
+nodeIn s first n i start =
+    record {
+      x = xAt s first n i;
+      y = yAt s first n i;
+      z = zAt s first n i;
+      start = start;
+      size = sizeAt s first n i;
+    }
+
+-- that node, where the level's first fragment starts at `base`: the earlier sizes of its level come before its own
+unfoldable pub nodeFrom : List ℕ → ℕ → ℕ → ℕ → ℕ → Node
+nodeFrom s first n base i = nodeIn s first n i (base + sumTo (sizeAt s first n) i)
+
+unfoldable pub nodeAt : List ℕ → ℕ → ℕ → Node
+nodeAt s l i = nodeIn s (levelItem s l) (countOf s l) i (fragmentStart s l i)
+
+-- 18: "no such level, node"
+unfoldable pub nodeChecks : List ℕ → ℕ → ℕ → List Check
+nodeChecks s l i = manifestChecks s ++ (check 18 (not (hasNode s l i)) ∷ [])
+
+unfoldable pub nodeAnswer : List ℕ → ℕ → ℕ → NodeAnswer
+nodeAnswer s l i = answered N.Refused (nodeChecks s l i) (N.Node (nodeAt s l i))
+
+-- ---- all nodes of a level
+
+-- five numbers for a node: its position, where its fragment starts, and its fragment's size
+abbrev pub numbersOf : Node → List ℕ
+numbersOf n = n .x ∷ n .y ∷ n .z ∷ n .start ∷ n .size ∷ []
+
+-- those of k nodes from node i on, one node after the other
+unfoldable pub numbersFrom : (ℕ → Node) → ℕ → ℕ → List ℕ
+numbersFrom node i zero = []
+numbersFrom node i (suc k) = numbersOf (node i) ++ numbersFrom node (suc i) k
+
+unfoldable pub nodesOf : List ℕ → ℕ → List ℕ
+nodesOf s l = numbersFrom (nodeAt s l) 0 (countOf s l)
+
+-- 18: "no such level"; then 13
+unfoldable pub nodesChecks : List ℕ → ℕ → List ℕ → List Check
+nodesChecks s l out = manifestChecks s ++ (check 18 (not (hasLevel s l)) ∷ room (nodesOf s l) out ∷ [])
+
+-- what the call answers: how many numbers it wrote
+unfoldable pub nodesAnswer : List ℕ → ℕ → List ℕ → Written
+nodesAnswer s l out = answered W.Refused (nodesChecks s l out) (W.Length (length (nodesOf s l)))
+
+-- what the lent numbers hold afterwards
+unfoldable pub nodesLeft : List ℕ → ℕ → List ℕ → List ℕ
+nodesLeft s l out = left (nodesChecks s l out) (over (nodesOf s l) out) out

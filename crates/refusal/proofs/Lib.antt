@@ -1,0 +1,3 @@
+pub mod Tests
+pub mod Picks
+pub mod Refusing

@@ -1,0 +1,9 @@
+-- The numbers of the refusal table (01, 'Refusal numbers').
+use Prim.Native.Nat.{ℕ, _≤_}
+
+-- the last number of the table
+abbrev pub last : ℕ
+last = 18
+
+abbrev pub InTable : ℕ → Type 0
+InTable k = (1 ≤ k) × (k ≤ last)

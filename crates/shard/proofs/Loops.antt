@@ -1,0 +1,98 @@
+-- What holds in the loops of the judge, and what each way out of them shows.
+use Prim.Native.Nat.{ℕ, suc, _+_, _-_, _%_, _≤_, _<_}
+use mathlib.Core.Path.{_≡_, refl, _∙_}
+use mathlib.Core.Bool.{Bool}
+use mathlib.Core.List.{List, [], _∷_}
+use native.Mathlib.Numerals.{add-one}
+use native.Mathlib.Omega.{arith}
+use lib.ListN.{length}
+use borrow.Author.Tests.{ne-eqb}
+use Rattle.endian.specs.Range.{first}
+use Rattle.sharding.specs.declared.Sharding.{Sharding}
+use Rattle.shard.specs.declared.judge.Fault.{Fault}
+use Rattle.shard.specs.declared.judge.ShardFault.{ShardFault}
+use Rattle.shard.specs.Index.{entryStart, entryEnd, entryCount}
+use Rattle.shard.specs.Faults.{EntryTest, entryTest, outside, idTest, placeTest, endTest, entryTests, firstOf, fault, faultOf, faultAt, noFault, orLater, firstFault}
+use Rattle.shard.proofs.Tests.{test-passed, test-failed}
+use Rattle.shard.proofs.Walks.{Span, span-end}
+use Rattle.shard.proofs.Faulted.{fault-before, fault-empty, fault-past, fault-ragged, fault-entries, fault-entry}
+
+abbrev faultIn : ℕ → ℕ → ℕ → ShardFault
+faultIn number m entry = record { number = number; minishard = m; entry = entry }
+
+-- ---- the loop over the minishards from `from` up to `to`, with the faults f
+
+-- from m on there is found what is to be found
+pub record Searching (f : ℕ → Fault) (from to m : ℕ) : Type 0 where
+  pub left : firstFault f m (to - m) ≡ firstFault f from (to - from)
+
+-- at m, whose fault is x
+pub record Reached (f : ℕ → Fault) (from to m : ℕ) (x : Fault) : Type 0 where
+  pub left : orLater m x (firstFault f (m + 1) (to - (m + 1))) ≡ firstFault f from (to - from)
+
+-- at m, whose n entries are still to pass these tests
+pub record Testing (f : ℕ → Fault) (from to m n : ℕ) (tests : List EntryTest) : Type 0 where
+  pub reached : Reached f from to m (firstOf n tests)
+
+module _ {f : ℕ → Fault} {from to : ℕ} where
+  pub search-start : Searching f from to from
+  search-start = record { left = refl }
+
+  pub search-end : {m : ℕ} {r : ShardFault} → Searching f from to m → to ≤ m → r ≡ noFault → r ≡ firstFault f from (to - from)
+  unfolding firstFault
+  search-end {m} s l e = let z : to - m ≡ 0 = omega arith in e ∙ (rw z at (s .left))
+
+  module _ {m : ℕ} where
+    reach : Searching f from to m → m < to → {x : Fault} → x ≡ f m → Reached f from to m x
+    unfolding firstFault
+    reach s l e = let z : to - m ≡ suc (to - suc m) = omega arith in record { left = rw (e, add-one m) (rw z at (s .left)) }
+
+    hit : (k i : ℕ) {r : ShardFault} → Reached f from to m (fault (suc k) i) → r ≡ faultIn (suc k) m i → r ≡ firstFault f from (to - from)
+    unfolding orLater
+    hit k i s e = e ∙ (rw (ne-eqb (suc k) 0 (λ z. omega arith)) at (s .left))
+
+    next : Reached f from to m (fault 0 0) → Searching f from to (m + 1)
+    unfolding orLater
+    next s = record { left = s .left }
+
+-- ---- the entry of m in the shard index
+
+module _ (spec : Sharding) (shard : ℕ) (x d : List ℕ) (from to m : ℕ) (r : Searching (faultOf spec shard x d) from to m) (l : m < to)
+    (s e : ℕ) (p : s ≡ entryStart x m) (q : e ≡ entryEnd x m) where
+  at : {y : Fault} → y ≡ faultAt spec shard m d s e → Reached (faultOf spec shard x d) from to m y
+  at h = reach r l (fault-entry spec shard m x d p q h)
+
+  pub end-before : {y : ShardFault} → y ≡ faultIn 7 m 0 → e < s → y ≡ firstFault (faultOf spec shard x d) from (to - from)
+  end-before u h = hit 6 0 (at (fault-before spec shard m d s e h)) u
+
+  pub search-empty : s ≤ e → e ≤ s → Searching (faultOf spec shard x d) from to (m + 1)
+  search-empty h o = next (at (fault-empty spec shard m d s e (omega arith)))
+
+  module _ (h : s < e) where
+    pub end-past : {y : ShardFault} → y ≡ faultIn 7 m 0 → length d < e → y ≡ firstFault (faultOf spec shard x d) from (to - from)
+    end-past u o = hit 6 0 (at (fault-past spec shard m d s e (omega arith) (λ z. omega arith) o)) u
+
+    pub end-ragged : {y : ShardFault} → y ≡ faultIn 8 m 0 → e ≤ length d → ((e - s) % 24 ≡ 0 → ⊥) → y ≡ firstFault (faultOf spec shard x d) from (to - from)
+    end-ragged u o z = hit 7 0 (at (fault-ragged spec shard m d s e (omega arith) o z)) u
+
+    pub test-ids : e ≤ length d → (e - s) % 24 ≡ 0 → Testing (faultOf spec shard x d) from to m (entryCount s e) (idTest d s ∷ placeTest spec shard m d s ∷ endTest d s (entryCount s e) ∷ [])
+    unfolding entryTests
+    test-ids o z = record { reached = at (fault-entries spec shard m d s e (omega arith) o z) }
+
+-- ---- the tests over the entries of m
+
+module _ {f : ℕ → Fault} {from to m n : ℕ} where
+  -- all entries pass the first of them, and the others are left
+  pub test-next : {t : EntryTest} {ts : List EntryTest} → Testing f from to m n (t ∷ ts) → n ≡ first (t .fails) n → Testing f from to m n ts
+  test-next {t} {ts} r e = record { reached = record { left = rw (test-passed n t ts e) at (r .reached .left) } }
+
+  -- entry i fails it
+  pub end-entry : (k : ℕ) {i : ℕ} {test : ℕ → Bool} {ts : List EntryTest} {y : ShardFault}
+      → y ≡ faultIn (suc k) m i → Testing f from to m n (entryTest (suc k) test ∷ ts) → i ≡ first test n → i < n → y ≡ firstFault f from (to - from)
+  end-entry k {i} {test} {ts} u r e l =
+      hit k i (record { left = rw (test-failed n (entryTest (suc k) test) ts e l) at (r .reached .left) }) u
+
+  -- all pass the last
+  pub search-next : {k : ℕ} {g h : ℕ → ℕ} {len i sum : ℕ} → Testing f from to m n (entryTest k (outside len g h) ∷ []) → Span g h len n i sum → n ≤ i → Searching f from to (m + 1)
+  unfolding firstOf
+  search-next r w l = next (test-next r (span-end w l) .reached)

@@ -1,0 +1,160 @@
+// The judge: tests 7 to 11 of minishards in number order, up to the first fault.
+ghost use mathlib.Core.Path.{_≡_};
+ghost use mathlib.Core.Bool.{true};
+ghost use Prim.Native.Nat.{_+_, _*_, _-_, _<_, _≤_};
+ghost use lib.ListN.{length};
+ghost use Rattle.sharding.specs.Specification.{allowed, minishardCount};
+ghost use Rattle.shard.specs.Index.{entryStart, entryEnd};
+ghost use Rattle.shard.specs.Faults.{foreign, faultOf, firstFault};
+ghost use Rattle.shard.specs.File.{mostShardBytes, indexLength};
+use endian::inner::read_u64;
+use sharding::Sharding;
+use sharding::inner::place;
+
+// The first test that a minishard fails, with the entry that fails it first; number 0 where it is sound.
+pub struct Fault {
+    pub number: u8,
+    pub entry: u64,
+}
+
+// The same of several minishards: of the first that has one.
+pub struct ShardFault {
+    pub number: u8,
+    pub minishard: u64,
+    pub entry: u64,
+}
+
+pub fn entry_start(index: &[u8], m: u64) -> u64
+    requires { ⌜ 16 * m + 16 ≤ length (now index) ⌝ }
+    ensures { λ r. ⌜ (r ≡ entryStart (now (index .entry)) m) × (r < 18446744073709551616) ⌝ }
+{
+    read_u64(index, 16 * m as usize)
+}
+
+pub fn entry_end(index: &[u8], m: u64) -> u64
+    requires { ⌜ 16 * m + 16 ≤ length (now index) ⌝ }
+    ensures { λ r. ⌜ (r ≡ entryEnd (now (index .entry)) m) × (r < 18446744073709551616) ⌝ }
+{
+    read_u64(index, 16 * m as usize + 8)
+}
+
+// Test 10 of one id.
+fn is_foreign(spec: Sharding, shard: u64, m: u64, id: u64) -> bool
+    requires { ⌜ allowed spec ≡ true ⌝ }
+    ensures { λ r. ⌜ r ≡ foreign spec shard m id ⌝ }
+{
+    let at = place(spec, id);
+    (at.shard != shard) | (at.minishard != m)
+}
+
+fn fault_at(number: u8, minishard: u64, entry: usize) -> ShardFault
+    ensures { λ r. ⌜ r ≡ record { number = number; minishard = minishard; entry = entry } ⌝ }
+{
+    ShardFault {
+        number,
+        minishard,
+        entry: entry as u64,
+    }
+}
+
+// Of the minishards from `from` up to `to`, end excluded, the first with a fault. A minishard's tests 9, 10 and 11 run over
+// all its entries one after the other: 'ids, 'places and 'ends. The first fault leaves all loops.
+pub fn first_fault(
+    spec: Sharding,
+    shard: u64,
+    index: &[u8],
+    data: &[u8],
+    from: u64,
+    to: u64,
+) -> ShardFault
+    requires { ⌜ allowed spec ≡ true ⌝ }
+    requires { ⌜ (length (now index) ≡ indexLength spec) × (length (now «data») ≤ mostShardBytes) × (to ≤ minishardCount spec) ⌝ }
+    ensures { λ r. ⌜ r ≡ firstFault (faultOf spec shard (now (index .entry)) (now («data» .entry))) from (to - from) ⌝ }
+{
+    let len = data.len() as u64;
+    let mut found = fault_at(0, 0, 0);
+    let mut m = from;
+    'minishards: while m < to {
+        let s = entry_start(index, m);
+        let e = entry_end(index, m);
+        if e < s {
+            found = fault_at(7, m, 0);
+            break 'minishards;
+        }
+        if s < e {
+            if len < e {
+                found = fault_at(7, m, 0);
+                break 'minishards;
+            }
+            if (e - s) % 24 != 0 {
+                found = fault_at(8, m, 0);
+                break 'minishards;
+            }
+            let p = s as usize;
+            let n = ((e - s) / 24) as usize;
+            // Compared before added, so that no sum wraps.
+            let mut id: u64 = 0;
+            let mut i: usize = 0;
+            'ids: while i < n {
+                let step = read_u64(data, p + 8 * i);
+                if 0 < i {
+                    if step == 0 {
+                        found = fault_at(9, m, i);
+                        break 'minishards;
+                    }
+                }
+                if 18446744073709551615 - id < step {
+                    found = fault_at(9, m, i);
+                    break 'minishards;
+                }
+                id += step;
+                i += 1;
+            }
+            let mut own: u64 = 0;
+            let mut j: usize = 0;
+            'places: while j < n {
+                own += read_u64(data, p + 8 * j);
+                if is_foreign(spec, shard, m, own) {
+                    found = fault_at(10, m, j);
+                    break 'minishards;
+                }
+                j += 1;
+            }
+            let q = p + 8 * n;
+            let t = p + 16 * n;
+            let mut end: u64 = 0;
+            let mut k: usize = 0;
+            'ends: while k < n {
+                let step = read_u64(data, q + 8 * k);
+                if len - end < step {
+                    found = fault_at(11, m, k);
+                    break 'minishards;
+                }
+                end += step;
+                let size = read_u64(data, t + 8 * k);
+                if len - end < size {
+                    found = fault_at(11, m, k);
+                    break 'minishards;
+                }
+                end += size;
+                k += 1;
+            }
+        }
+        m += 1;
+    }
+    found
+}
+
+// The fault of one minishard.
+pub fn judge(spec: Sharding, shard: u64, index: &[u8], data: &[u8], m: u64) -> Fault
+    requires { ⌜ allowed spec ≡ true ⌝ }
+    requires { ⌜ (length (now index) ≡ indexLength spec) × (length (now «data») ≤ mostShardBytes) ⌝ }
+    requires { ⌜ m < minishardCount spec ⌝ }
+    ensures { λ r. ⌜ r ≡ faultOf spec shard (now (index .entry)) (now («data» .entry)) m ⌝ }
+{
+    let found = first_fault(spec, shard, index, data, m, m + 1);
+    Fault {
+        number: found.number,
+        entry: found.entry,
+    }
+}

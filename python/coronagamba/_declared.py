@@ -1,0 +1,423 @@
+"""The functions of the shared object.
+
+Made by ./interface: change the export crate or rust/interface, then run it.
+"""
+
+from __future__ import annotations
+
+import ctypes
+from ctypes import POINTER
+from typing import Any, Dict, Tuple
+
+VERSION = (0, 2, 0)
+__version__ = "0.2.0"
+
+# a sharding's hash that leaves an id as it is
+HASH_IDENTITY = 0
+
+# a sharding's hash MurmurHash3_x86_128, its first 8 bytes
+HASH_MURMUR = 1
+
+# the kind of a manifest's field that is a whole number
+FIELD_WHOLE = 0
+
+# the kind of a manifest's field that is a real
+FIELD_REAL = 1
+
+
+class Sharding(ctypes.Structure):
+    """The numbers as they stand in a card: hash 0 is identity, 1 is murmur.
+    Any values; the entry points judge them."""
+
+    _fields_ = [
+        ("preshift", ctypes.c_uint8),
+        ("hash", ctypes.c_uint8),
+        ("minishard_bits", ctypes.c_uint8),
+        ("shard_bits", ctypes.c_uint8),
+    ]
+
+
+class Extents(ctypes.Structure):
+    """How far something reaches along each axis, in voxels or in cells."""
+
+    _fields_ = [
+        ("x", ctypes.c_uint32),
+        ("y", ctypes.c_uint32),
+        ("z", ctypes.c_uint32),
+    ]
+
+
+class Offset(ctypes.Structure):
+    """Where a volume's first voxel lies."""
+
+    _fields_ = [
+        ("x", ctypes.c_int32),
+        ("y", ctypes.c_int32),
+        ("z", ctypes.c_int32),
+    ]
+
+
+class Volume(ctypes.Structure):
+    """A volume: its size and its chunks' size in voxels, and where its first
+    voxel lies."""
+
+    _fields_ = [
+        ("size", Extents),
+        ("chunk", Extents),
+        ("offset", Offset),
+    ]
+
+
+class Cell(ctypes.Structure):
+    """A cell, by its coordinates in the grid."""
+
+    _fields_ = [
+        ("x", ctypes.c_uint32),
+        ("y", ctypes.c_uint32),
+        ("z", ctypes.c_uint32),
+    ]
+
+
+# The structs, by their names in C.
+STRUCTS: Dict[str, Any] = {
+    "coronagamba_sharding": Sharding,
+    "coronagamba_extents": Extents,
+    "coronagamba_offset": Offset,
+    "coronagamba_volume": Volume,
+    "coronagamba_cell": Cell,
+}
+
+# For each function, what it gives and what it takes.
+FUNCTIONS: Dict[str, Tuple[Any, Tuple[Any, ...]]] = {
+    # The version of the library that is linked or loaded: patch + 2^16 * minor
+    # + 2^32 * major. It is CORONAGAMBA_VERSION where the header belongs to
+    # that library.
+    # Refusals: none
+    "coronagamba_version": (
+        ctypes.c_uint64,
+        (),
+    ),
+    # How many cells the volume has. Writes the numbers along x, y and z to
+    # `grid`.
+    # Refusals: 2 where an extent is 0
+    "coronagamba_grid_of": (
+        ctypes.c_uint64,
+        (
+            Volume,
+            POINTER(ctypes.c_uint32 * 3),
+        ),
+    ),
+    # The key of a cell: its compressed Morton code. Writes it to `key`.
+    # Refusals: 2, 3
+    "coronagamba_key_of": (
+        ctypes.c_uint64,
+        (
+            Volume,
+            Cell,
+            POINTER(ctypes.c_uint64),
+        ),
+    ),
+    # The keys of many cells, in their order. `cells` holds x, y and z of each
+    # cell in turn, three numbers for a cell; one or two left over are no cell.
+    # Writes the keys to the front of `keys`, and their number to `length`. The
+    # volume is judged also where there is no cell.
+    # Refusals: 2 where an extent is 0 or any cell is outside the grid, 3, 13
+    # where `keys` has room for fewer
+    "coronagamba_keys_of": (
+        ctypes.c_uint64,
+        (
+            Volume,
+            POINTER(ctypes.c_uint32),
+            ctypes.c_size_t,
+            POINTER(ctypes.c_uint64),
+            ctypes.c_size_t,
+            POINTER(ctypes.c_uint64),
+        ),
+    ),
+    # The cell of a key. Writes its x, y and z to `cell`.
+    # Refusals: 2 where an extent is 0, 3, 4
+    "coronagamba_cell_of": (
+        ctypes.c_uint64,
+        (
+            Volume,
+            ctypes.c_uint64,
+            POINTER(ctypes.c_uint32 * 3),
+        ),
+    ),
+    # Where a cell lies, in voxels, the volume's offset included. Writes where
+    # it begins along x, y and z to `begin` and where it ends, that voxel
+    # excluded, to `end`.
+    # Refusals: 2
+    "coronagamba_bounds_of": (
+        ctypes.c_uint64,
+        (
+            Volume,
+            Cell,
+            POINTER(ctypes.c_int64 * 3),
+            POINTER(ctypes.c_int64 * 3),
+        ),
+    ),
+    # The shard and the minishard of an id. Writes them to `shard` and
+    # `minishard`.
+    # Refusals: 1
+    "coronagamba_place_of": (
+        ctypes.c_uint64,
+        (
+            Sharding,
+            ctypes.c_uint64,
+            POINTER(ctypes.c_uint64),
+            POINTER(ctypes.c_uint64),
+        ),
+    ),
+    # The shards and the minishards of many ids, in their order. Writes them to
+    # the front of `shards` and of `minishards`, and their number to `length`.
+    # Refusals: 1, 13 where `shards` or `minishards` has room for fewer
+    "coronagamba_places_of": (
+        ctypes.c_uint64,
+        (
+            Sharding,
+            POINTER(ctypes.c_uint64),
+            ctypes.c_size_t,
+            POINTER(ctypes.c_uint64),
+            ctypes.c_size_t,
+            POINTER(ctypes.c_uint64),
+            ctypes.c_size_t,
+            POINTER(ctypes.c_uint64),
+        ),
+    ),
+    # The file name of a cell's chunk where chunks are not sharded. Writes its
+    # ASCII bytes, at most 71 and with no 0 byte behind them, to the front of
+    # `out`, and their number to `length`.
+    # Refusals: 2, 13 where `out` is shorter than the name
+    "coronagamba_chunk_name": (
+        ctypes.c_uint64,
+        (
+            Volume,
+            Cell,
+            POINTER(ctypes.c_uint8),
+            ctypes.c_size_t,
+            POINTER(ctypes.c_uint64),
+        ),
+    ),
+    # The file name of a shard. Writes its ASCII bytes, at most 14 and with no
+    # 0 byte behind them, to the front of `out`, and their number to `length`.
+    # Refusals: 1, 5, 13 where `out` is shorter than the name
+    "coronagamba_shard_name": (
+        ctypes.c_uint64,
+        (
+            Sharding,
+            ctypes.c_uint64,
+            POINTER(ctypes.c_uint8),
+            ctypes.c_size_t,
+            POINTER(ctypes.c_uint64),
+        ),
+    ),
+    # Where the chunk of an id lies in the shard's file. Writes where it
+    # begins, counted from the file's first byte, to `start`, and its number of
+    # bytes to `length`. Of the minishards it judges the id's own alone.
+    # Refusals: 1, 5, 6, 7 to 11 of the id's minishard, 12
+    "coronagamba_lookup": (
+        ctypes.c_uint64,
+        (
+            Sharding,
+            ctypes.c_uint64,
+            POINTER(ctypes.c_uint8),
+            ctypes.c_size_t,
+            ctypes.c_uint64,
+            POINTER(ctypes.c_uint64),
+            POINTER(ctypes.c_uint64),
+        ),
+    ),
+    # Whether the whole shard is sound. Writes nothing. Where a minishard has a
+    # fault, the answer word names the first such minishard.
+    # Refusals: 1, 5, 6, 7 to 11 with the minishard
+    "coronagamba_check": (
+        ctypes.c_uint64,
+        (
+            Sharding,
+            ctypes.c_uint64,
+            POINTER(ctypes.c_uint8),
+            ctypes.c_size_t,
+        ),
+    ),
+    # How many chunks a minishard lists. Writes the number to `chunks`.
+    # Refusals: 1, 5 (also for a minishard that is not there), 6, 7 to 11 of
+    # that minishard
+    "coronagamba_listed_count": (
+        ctypes.c_uint64,
+        (
+            Sharding,
+            ctypes.c_uint64,
+            POINTER(ctypes.c_uint8),
+            ctypes.c_size_t,
+            ctypes.c_uint64,
+            POINTER(ctypes.c_uint64),
+        ),
+    ),
+    # The chunks that a minishard lists, in stored order. Writes three numbers
+    # for each to the front of `out`: id, start counted from the file's first
+    # byte, length in bytes. Writes how many numbers these are, three times
+    # what coronagamba_listed_count gives, to `length`.
+    # Refusals: 1, 5 (also for a minishard that is not there), 6, 7 to 11 of
+    # that minishard, 13 where `out` has room for fewer
+    "coronagamba_listing": (
+        ctypes.c_uint64,
+        (
+            Sharding,
+            ctypes.c_uint64,
+            POINTER(ctypes.c_uint8),
+            ctypes.c_size_t,
+            ctypes.c_uint64,
+            POINTER(ctypes.c_uint64),
+            ctypes.c_size_t,
+            POINTER(ctypes.c_uint64),
+        ),
+    ),
+    # How many bytes a shard's settled form has. Writes the number to `length`.
+    # Refusals: 1, 5, 6, 7 to 11 of the first faulty minishard, 13 where the
+    # form would pass 1 GiB
+    "coronagamba_settled_length": (
+        ctypes.c_uint64,
+        (
+            Sharding,
+            ctypes.c_uint64,
+            POINTER(ctypes.c_uint8),
+            ctypes.c_size_t,
+            POINTER(ctypes.c_uint64),
+        ),
+    ),
+    # A shard's settled form. Writes it to the front of `out`, which needs the
+    # room that coronagamba_settled_length tells, and its number of bytes to
+    # `length`.
+    # Refusals: 1, 5, 6, 7 to 11 of the first faulty minishard, 13 where `out`
+    # is shorter than the form or the form would pass 1 GiB
+    "coronagamba_settle": (
+        ctypes.c_uint64,
+        (
+            Sharding,
+            ctypes.c_uint64,
+            POINTER(ctypes.c_uint8),
+            ctypes.c_size_t,
+            POINTER(ctypes.c_uint8),
+            ctypes.c_size_t,
+            POINTER(ctypes.c_uint64),
+        ),
+    ),
+    # What a deposit card of these bytes says. Writes preshift, hash, minishard
+    # bits and shard bits to `sharding`, and volume size, chunk size and voxel
+    # offset along x, y and z to `size`, `chunk` and `offset`. To use them in
+    # other calls, copy the numbers into the structs one by one.
+    # Refusals: 14, 1, 2, 3
+    "coronagamba_card_read": (
+        ctypes.c_uint64,
+        (
+            POINTER(ctypes.c_uint8),
+            ctypes.c_size_t,
+            POINTER(ctypes.c_uint8 * 4),
+            POINTER(ctypes.c_uint32 * 3),
+            POINTER(ctypes.c_uint32 * 3),
+            POINTER(ctypes.c_int32 * 3),
+        ),
+    ),
+    # A deposit card. Writes its bytes, 46 or 61, to the front of `out`, and
+    # their number to `length`.
+    # Refusals: 1, 2, 3, 13 where `out` is shorter than the card
+    "coronagamba_card_write": (
+        ctypes.c_uint64,
+        (
+            Sharding,
+            Volume,
+            POINTER(ctypes.c_uint8),
+            ctypes.c_size_t,
+            POINTER(ctypes.c_uint64),
+        ),
+    ),
+    # Whether the bytes are a sound manifest. Writes nothing.
+    # Refusals: 15, 16, 17
+    "coronagamba_manifest_check": (
+        ctypes.c_uint64,
+        (
+            POINTER(ctypes.c_uint8),
+            ctypes.c_size_t,
+        ),
+    ),
+    # The shape and the origin of a manifest. Writes the bits of six reals to
+    # `header`: the chunk shape along x, y and z, then the grid origin.
+    # Refusals: 15, 16, 17
+    "coronagamba_manifest_header": (
+        ctypes.c_uint64,
+        (
+            POINTER(ctypes.c_uint8),
+            ctypes.c_size_t,
+            POINTER(ctypes.c_uint32 * 6),
+        ),
+    ),
+    # A field of a manifest, by its number, counted from 0 in file order, one
+    # for each 4 bytes. Writes its kind to `kind`: CORONAGAMBA_FIELD_REAL where
+    # it is a real, CORONAGAMBA_FIELD_WHOLE where it is a whole number. Writes
+    # the real's bits, or the number, to `value`.
+    # Refusals: 15, 16, 17, 18
+    "coronagamba_manifest_field": (
+        ctypes.c_uint64,
+        (
+            POINTER(ctypes.c_uint8),
+            ctypes.c_size_t,
+            ctypes.c_uint32,
+            POINTER(ctypes.c_uint32),
+            POINTER(ctypes.c_uint32),
+        ),
+    ),
+    # A node of a level, both counted from 0. Writes its position along x, y
+    # and z to `position`, where its fragment starts, counted from the first
+    # fragment, to `start`, and the fragment's number of bytes to `size`.
+    # Refusals: 15, 16, 17, 18
+    "coronagamba_manifest_node": (
+        ctypes.c_uint64,
+        (
+            POINTER(ctypes.c_uint8),
+            ctypes.c_size_t,
+            ctypes.c_uint32,
+            ctypes.c_uint32,
+            POINTER(ctypes.c_uint32 * 3),
+            POINTER(ctypes.c_uint64),
+            POINTER(ctypes.c_uint32),
+        ),
+    ),
+    # All nodes of a level, counted from 0, in node order. Writes five numbers
+    # for each to the front of `out`: its position along x, y and z, where its
+    # fragment starts, counted from the first fragment, and the fragment's
+    # number of bytes. Writes how many numbers these are to `length`. A level
+    # has fewer nodes than a sixteenth of the bytes.
+    # Refusals: 15, 16, 17, 18 where there is no such level, 13 where `out` has
+    # room for fewer
+    "coronagamba_manifest_nodes": (
+        ctypes.c_uint64,
+        (
+            POINTER(ctypes.c_uint8),
+            ctypes.c_size_t,
+            ctypes.c_uint32,
+            POINTER(ctypes.c_uint64),
+            ctypes.c_size_t,
+            POINTER(ctypes.c_uint64),
+        ),
+    ),
+    # The corners of a node's box, level and node counted from 0. Writes the
+    # bits of origin + (position x shape) x 2^level along x, y and z to
+    # `near_corner`, and of that + shape x 2^level to `far_corner`, each
+    # operation rounded once to a float. They are computed in the
+    # floating-point environment that a C program starts with: round to
+    # nearest, subnormal numbers kept, no traps.
+    # Refusals: 15, 16, 17, 18 also where a position is 2^24 or more or a
+    # corner is not finite
+    "coronagamba_manifest_corners": (
+        ctypes.c_uint64,
+        (
+            POINTER(ctypes.c_uint8),
+            ctypes.c_size_t,
+            ctypes.c_uint32,
+            ctypes.c_uint32,
+            POINTER(ctypes.c_uint32 * 3),
+            POINTER(ctypes.c_uint32 * 3),
+        ),
+    ),
+}

@@ -1,0 +1,104 @@
+"""The table of refusals.
+
+Made by ./interface: change the export crate or rust/interface, then run it.
+"""
+
+from __future__ import annotations
+
+from typing import Dict
+
+
+class Numbers:
+    """The numbers by name."""
+
+    # preshift above 63, hash neither identity nor murmur, minishard bits above
+    # 12, or shard bits above 32
+    SHARDING_NOT_ALLOWED = 1
+
+    # a volume or chunk extent is 0, or a cell coordinate is not below its grid
+    # size
+    NO_SUCH_CELL = 2
+
+    # a key is made or decoded, or a card read or written, and the grid needs
+    # more than 64 key bits
+    TOO_MANY_KEY_BITS = 3
+
+    # a key is no cell of the grid
+    KEY_OF_NO_CELL = 4
+
+    # a shard number is not below 2^shard_bits, or the id asked for belongs to
+    # another shard; beyond the table, in a listing, also where a minishard
+    # number is not below 2^minishard_bits
+    NO_SUCH_SHARD = 5
+
+    # the shard is shorter than its shard index or longer than 1,073,741,824
+    # bytes
+    SHARD_LENGTH = 6
+
+    # an index entry has start after end, or start before end and its end past
+    # the file
+    INDEX_ENTRY = 7
+
+    # a minishard index length is no multiple of 24
+    INDEX_LENGTH = 8
+
+    # an id does not exceed the one before, or passes 2^64-1
+    ID_ORDER = 9
+
+    # a listed id belongs to another shard or minishard
+    ID_ELSEWHERE = 10
+
+    # a chunk's bytes end past the file
+    CHUNK_PAST_END = 11
+
+    # the id is not listed
+    NOT_LISTED = 12
+
+    # the output is too short for the whole answer, or a settled form would
+    # exceed 1,073,741,824 bytes
+    NO_ROOM = 13
+
+    # the card is malformed
+    CARD_MALFORMED = 14
+
+    # the manifest's length or level count is wrong
+    MANIFEST_LENGTH = 15
+
+    # a manifest real is not finite, or a chunk shape is not above zero
+    MANIFEST_REAL = 16
+
+    # a level's nodes are not in strictly rising Z-curve order
+    NODE_ORDER = 17
+
+    # no such level, node or field; or, where corners are asked for, that node
+    # has a position of 2^24 or more or either corner is not finite
+    NO_SUCH_NODE = 18
+
+
+# Each number with its sentence, rising.
+SENTENCES: Dict[int, str] = {
+    1: "The sharding specification has a field that is not allowed.",
+    2: "An extent is zero, or the cell is outside the grid.",
+    3: "The grid needs more than 64 key bits.",
+    4: "The key is no cell of the grid.",
+    5: (
+        "There is no such shard or minishard, or the id belongs to another "
+        "shard."
+    ),
+    6: "The shard is shorter than its index or longer than 1 GiB.",
+    7: "An entry of the shard index is reversed or ends past the file.",
+    8: "A minishard index has a length that is no multiple of 24.",
+    9: "The ids of a minishard do not rise, or one is too large.",
+    10: "A listed id belongs to another shard or minishard.",
+    11: "A chunk ends past the file.",
+    12: "The id is not listed.",
+    13: "The output is too short, or the settled form is longer than 1 GiB.",
+    14: "The card is malformed.",
+    15: "The manifest has a wrong length or level count.",
+    16: (
+        "A real in the manifest is not finite, or a chunk shape is not above "
+        "zero."
+    ),
+    17: "The nodes of a level are not in strictly rising Z-curve order.",
+    18: "There is no such level, node or field, or the node has no corners.",
+}

@@ -1,0 +1,5 @@
+//! What several tests use.
+
+#![allow(dead_code)]
+
+pub mod manifest;

@@ -1,0 +1,349 @@
+//! The functions of the C archive.
+//!
+//! Made by ./interface: change the export crate or rust/interface, then run it.
+
+use crate::{Cell, Extents, Offset, Sharding, Volume};
+use std::mem::{align_of, offset_of, size_of};
+
+// The crate's structs have the fields and the layout that C gives them.
+const _: fn(Sharding) = |given| {
+    let Sharding {
+        preshift,
+        hash,
+        minishard_bits,
+        shard_bits,
+    } = given;
+    let _: (u8, u8, u8, u8) = (preshift, hash, minishard_bits, shard_bits);
+};
+const _: () = {
+    assert!(offset_of!(Sharding, preshift) == 0);
+    assert!(offset_of!(Sharding, hash) == 1);
+    assert!(offset_of!(Sharding, minishard_bits) == 2);
+    assert!(offset_of!(Sharding, shard_bits) == 3);
+    assert!(size_of::<Sharding>() == 4);
+    assert!(align_of::<Sharding>() == 1);
+};
+const _: fn(Extents) = |given| {
+    let Extents { x, y, z } = given;
+    let _: (u32, u32, u32) = (x, y, z);
+};
+const _: () = {
+    assert!(offset_of!(Extents, x) == 0);
+    assert!(offset_of!(Extents, y) == 4);
+    assert!(offset_of!(Extents, z) == 8);
+    assert!(size_of::<Extents>() == 12);
+    assert!(align_of::<Extents>() == 4);
+};
+const _: fn(Offset) = |given| {
+    let Offset { x, y, z } = given;
+    let _: (i32, i32, i32) = (x, y, z);
+};
+const _: () = {
+    assert!(offset_of!(Offset, x) == 0);
+    assert!(offset_of!(Offset, y) == 4);
+    assert!(offset_of!(Offset, z) == 8);
+    assert!(size_of::<Offset>() == 12);
+    assert!(align_of::<Offset>() == 4);
+};
+const _: fn(Volume) = |given| {
+    let Volume {
+        size,
+        chunk,
+        offset,
+    } = given;
+    let _: (Extents, Extents, Offset) = (size, chunk, offset);
+};
+const _: () = {
+    assert!(offset_of!(Volume, size) == 0);
+    assert!(offset_of!(Volume, chunk) == 12);
+    assert!(offset_of!(Volume, offset) == 24);
+    assert!(size_of::<Volume>() == 36);
+    assert!(align_of::<Volume>() == 4);
+};
+const _: fn(Cell) = |given| {
+    let Cell { x, y, z } = given;
+    let _: (u32, u32, u32) = (x, y, z);
+};
+const _: () = {
+    assert!(offset_of!(Cell, x) == 0);
+    assert!(offset_of!(Cell, y) == 4);
+    assert!(offset_of!(Cell, z) == 8);
+    assert!(size_of::<Cell>() == 12);
+    assert!(align_of::<Cell>() == 4);
+};
+
+extern "C" {
+    /// The version of the library that is linked or loaded: patch + 2^16 * minor + 2^32 * major. It
+    /// is CORONAGAMBA_VERSION where the header belongs to that library.
+    ///
+    /// Refusals: none
+    pub fn coronagamba_version() -> u64;
+
+    /// How many cells the volume has. Writes the numbers along x, y and z to `grid`.
+    ///
+    /// Refusals: 2 where an extent is 0
+    pub fn coronagamba_grid_of(volume: Volume, grid: *mut [u32; 3]) -> u64;
+
+    /// The key of a cell: its compressed Morton code. Writes it to `key`.
+    ///
+    /// Refusals: 2, 3
+    pub fn coronagamba_key_of(volume: Volume, cell: Cell, key: *mut u64) -> u64;
+
+    /// The keys of many cells, in their order. `cells` holds x, y and z of each cell in turn, three
+    /// numbers for a cell; one or two left over are no cell. Writes the keys to the front of
+    /// `keys`, and their number to `length`. The volume is judged also where there is no cell.
+    ///
+    /// Refusals: 2 where an extent is 0 or any cell is outside the grid, 3, 13 where `keys` has
+    /// room for fewer
+    pub fn coronagamba_keys_of(
+        volume: Volume,
+        cells: *const u32,
+        count: usize,
+        keys: *mut u64,
+        keys_count: usize,
+        length: *mut u64,
+    ) -> u64;
+
+    /// The cell of a key. Writes its x, y and z to `cell`.
+    ///
+    /// Refusals: 2 where an extent is 0, 3, 4
+    pub fn coronagamba_cell_of(volume: Volume, key: u64, cell: *mut [u32; 3]) -> u64;
+
+    /// Where a cell lies, in voxels, the volume's offset included. Writes where it begins along x,
+    /// y and z to `begin` and where it ends, that voxel excluded, to `end`.
+    ///
+    /// Refusals: 2
+    pub fn coronagamba_bounds_of(
+        volume: Volume,
+        cell: Cell,
+        begin: *mut [i64; 3],
+        end: *mut [i64; 3],
+    ) -> u64;
+
+    /// The shard and the minishard of an id. Writes them to `shard` and `minishard`.
+    ///
+    /// Refusals: 1
+    pub fn coronagamba_place_of(
+        sharding: Sharding,
+        id: u64,
+        shard: *mut u64,
+        minishard: *mut u64,
+    ) -> u64;
+
+    /// The shards and the minishards of many ids, in their order. Writes them to the front of
+    /// `shards` and of `minishards`, and their number to `length`.
+    ///
+    /// Refusals: 1, 13 where `shards` or `minishards` has room for fewer
+    pub fn coronagamba_places_of(
+        sharding: Sharding,
+        ids: *const u64,
+        count: usize,
+        shards: *mut u64,
+        shards_count: usize,
+        minishards: *mut u64,
+        minishards_count: usize,
+        length: *mut u64,
+    ) -> u64;
+
+    /// The file name of a cell's chunk where chunks are not sharded. Writes its ASCII bytes, at
+    /// most 71 and with no 0 byte behind them, to the front of `out`, and their number to `length`.
+    ///
+    /// Refusals: 2, 13 where `out` is shorter than the name
+    pub fn coronagamba_chunk_name(
+        volume: Volume,
+        cell: Cell,
+        out: *mut u8,
+        count: usize,
+        length: *mut u64,
+    ) -> u64;
+
+    /// The file name of a shard. Writes its ASCII bytes, at most 14 and with no 0 byte behind them,
+    /// to the front of `out`, and their number to `length`.
+    ///
+    /// Refusals: 1, 5, 13 where `out` is shorter than the name
+    pub fn coronagamba_shard_name(
+        sharding: Sharding,
+        shard: u64,
+        out: *mut u8,
+        count: usize,
+        length: *mut u64,
+    ) -> u64;
+
+    /// Where the chunk of an id lies in the shard's file. Writes where it begins, counted from the
+    /// file's first byte, to `start`, and its number of bytes to `length`. Of the minishards it
+    /// judges the id's own alone.
+    ///
+    /// Refusals: 1, 5, 6, 7 to 11 of the id's minishard, 12
+    pub fn coronagamba_lookup(
+        sharding: Sharding,
+        shard: u64,
+        file: *const u8,
+        count: usize,
+        id: u64,
+        start: *mut u64,
+        length: *mut u64,
+    ) -> u64;
+
+    /// Whether the whole shard is sound. Writes nothing. Where a minishard has a fault, the answer
+    /// word names the first such minishard.
+    ///
+    /// Refusals: 1, 5, 6, 7 to 11 with the minishard
+    pub fn coronagamba_check(sharding: Sharding, shard: u64, file: *const u8, count: usize) -> u64;
+
+    /// How many chunks a minishard lists. Writes the number to `chunks`.
+    ///
+    /// Refusals: 1, 5 (also for a minishard that is not there), 6, 7 to 11 of that minishard
+    pub fn coronagamba_listed_count(
+        sharding: Sharding,
+        shard: u64,
+        file: *const u8,
+        count: usize,
+        minishard: u64,
+        chunks: *mut u64,
+    ) -> u64;
+
+    /// The chunks that a minishard lists, in stored order. Writes three numbers for each to the
+    /// front of `out`: id, start counted from the file's first byte, length in bytes. Writes how
+    /// many numbers these are, three times what coronagamba_listed_count gives, to `length`.
+    ///
+    /// Refusals: 1, 5 (also for a minishard that is not there), 6, 7 to 11 of that minishard, 13
+    /// where `out` has room for fewer
+    pub fn coronagamba_listing(
+        sharding: Sharding,
+        shard: u64,
+        file: *const u8,
+        count: usize,
+        minishard: u64,
+        out: *mut u64,
+        out_count: usize,
+        length: *mut u64,
+    ) -> u64;
+
+    /// How many bytes a shard's settled form has. Writes the number to `length`.
+    ///
+    /// Refusals: 1, 5, 6, 7 to 11 of the first faulty minishard, 13 where the form would pass 1 GiB
+    pub fn coronagamba_settled_length(
+        sharding: Sharding,
+        shard: u64,
+        file: *const u8,
+        count: usize,
+        length: *mut u64,
+    ) -> u64;
+
+    /// A shard's settled form. Writes it to the front of `out`, which needs the room that
+    /// coronagamba_settled_length tells, and its number of bytes to `length`.
+    ///
+    /// Refusals: 1, 5, 6, 7 to 11 of the first faulty minishard, 13 where `out` is shorter than the
+    /// form or the form would pass 1 GiB
+    pub fn coronagamba_settle(
+        sharding: Sharding,
+        shard: u64,
+        file: *const u8,
+        count: usize,
+        out: *mut u8,
+        out_count: usize,
+        length: *mut u64,
+    ) -> u64;
+
+    /// What a deposit card of these bytes says. Writes preshift, hash, minishard bits and shard
+    /// bits to `sharding`, and volume size, chunk size and voxel offset along x, y and z to `size`,
+    /// `chunk` and `offset`. To use them in other calls, copy the numbers into the structs one by
+    /// one.
+    ///
+    /// Refusals: 14, 1, 2, 3
+    pub fn coronagamba_card_read(
+        bytes: *const u8,
+        count: usize,
+        sharding: *mut [u8; 4],
+        size: *mut [u32; 3],
+        chunk: *mut [u32; 3],
+        offset: *mut [i32; 3],
+    ) -> u64;
+
+    /// A deposit card. Writes its bytes, 46 or 61, to the front of `out`, and their number to
+    /// `length`.
+    ///
+    /// Refusals: 1, 2, 3, 13 where `out` is shorter than the card
+    pub fn coronagamba_card_write(
+        sharding: Sharding,
+        volume: Volume,
+        out: *mut u8,
+        count: usize,
+        length: *mut u64,
+    ) -> u64;
+
+    /// Whether the bytes are a sound manifest. Writes nothing.
+    ///
+    /// Refusals: 15, 16, 17
+    pub fn coronagamba_manifest_check(bytes: *const u8, count: usize) -> u64;
+
+    /// The shape and the origin of a manifest. Writes the bits of six reals to `header`: the chunk
+    /// shape along x, y and z, then the grid origin.
+    ///
+    /// Refusals: 15, 16, 17
+    pub fn coronagamba_manifest_header(
+        bytes: *const u8,
+        count: usize,
+        header: *mut [u32; 6],
+    ) -> u64;
+
+    /// A field of a manifest, by its number, counted from 0 in file order, one for each 4 bytes.
+    /// Writes its kind to `kind`: CORONAGAMBA_FIELD_REAL where it is a real,
+    /// CORONAGAMBA_FIELD_WHOLE where it is a whole number. Writes the real's bits, or the number,
+    /// to `value`.
+    ///
+    /// Refusals: 15, 16, 17, 18
+    pub fn coronagamba_manifest_field(
+        bytes: *const u8,
+        count: usize,
+        number: u32,
+        kind: *mut u32,
+        value: *mut u32,
+    ) -> u64;
+
+    /// A node of a level, both counted from 0. Writes its position along x, y and z to `position`,
+    /// where its fragment starts, counted from the first fragment, to `start`, and the fragment's
+    /// number of bytes to `size`.
+    ///
+    /// Refusals: 15, 16, 17, 18
+    pub fn coronagamba_manifest_node(
+        bytes: *const u8,
+        count: usize,
+        level: u32,
+        node: u32,
+        position: *mut [u32; 3],
+        start: *mut u64,
+        size: *mut u32,
+    ) -> u64;
+
+    /// All nodes of a level, counted from 0, in node order. Writes five numbers for each to the
+    /// front of `out`: its position along x, y and z, where its fragment starts, counted from the
+    /// first fragment, and the fragment's number of bytes. Writes how many numbers these are to
+    /// `length`. A level has fewer nodes than a sixteenth of the bytes.
+    ///
+    /// Refusals: 15, 16, 17, 18 where there is no such level, 13 where `out` has room for fewer
+    pub fn coronagamba_manifest_nodes(
+        bytes: *const u8,
+        count: usize,
+        level: u32,
+        out: *mut u64,
+        out_count: usize,
+        length: *mut u64,
+    ) -> u64;
+
+    /// The corners of a node's box, level and node counted from 0. Writes the bits of origin +
+    /// (position x shape) x 2^level along x, y and z to `near_corner`, and of that + shape x
+    /// 2^level to `far_corner`, each operation rounded once to a float. They are computed in the
+    /// floating-point environment that a C program starts with: round to nearest, subnormal numbers
+    /// kept, no traps.
+    ///
+    /// Refusals: 15, 16, 17, 18 also where a position is 2^24 or more or a corner is not finite
+    pub fn coronagamba_manifest_corners(
+        bytes: *const u8,
+        count: usize,
+        level: u32,
+        node: u32,
+        near_corner: *mut [u32; 3],
+        far_corner: *mut [u32; 3],
+    ) -> u64;
+}

@@ -1,0 +1,395 @@
+//! Each call that writes, refused in each way that the header names for it:
+//! the answer is the refusal's number alone, and every byte that was lent is as
+//! it was, whatever it was.
+
+use super::*;
+use crate::{Cell, Sharding, Volume};
+use std::collections::BTreeSet;
+use std::iter::once;
+
+/// How many words of memory a call has.
+const WORDS: usize = 64;
+
+/// Memory that is lent to a call part by part. A word before and behind each
+/// part is lent to nobody.
+struct Memory {
+    words: Vec<u64>,
+    used: usize,
+}
+
+impl Memory {
+    fn holding(words: &[u64]) -> Self {
+        Memory {
+            words: words.to_vec(),
+            used: 0,
+        }
+    }
+
+    /// Room for this many items.
+    fn many<T>(&mut self, count: usize) -> *mut T {
+        let start = self.used + 1;
+        self.used = start + (count * size_of::<T>()).div_ceil(8);
+        assert!(self.used < self.words.len(), "the memory has room");
+        self.words.as_mut_ptr().wrapping_add(start).cast()
+    }
+
+    /// Room for a result.
+    fn one<T>(&mut self) -> *mut T {
+        self.many(1)
+    }
+}
+
+/// A NaN of 32 bits in each half of a word, with a payload by the word's place.
+fn nans(front: u32, place: u64) -> u64 {
+    let nan = |half: u64| u64::from(front) | (2 * place + half + 1);
+    nan(0) | nan(1) << 32
+}
+
+/// What memory may hold: each byte value throughout, all of them in turn, and
+/// NaNs of 32 and of 64 bits, quiet and signalling, of both signs, with
+/// payloads.
+fn contents() -> Vec<Vec<u64>> {
+    let bytes = (0..=255).map(|byte| vec![u64::from_ne_bytes([byte; 8]); WORDS]);
+    let words = |word: &dyn Fn(u64) -> u64| (0..WORDS as u64).map(word).collect::<Vec<u64>>();
+    let turn = |place: u64| std::array::from_fn(|i| (8 * place) as u8 + i as u8);
+    let turns = words(&|place| u64::from_ne_bytes(turn(place)));
+    let short = [0x7fc0_0000, 0xffc0_0000, 0x7f80_0000, 0xff80_0000];
+    let long = [0x7ff8 << 48, 0xfff8 << 48, 0x7ff0 << 48, 0xfff0 << 48];
+    bytes
+        .chain(once(turns))
+        .chain(short.map(|front| words(&|place| nans(front, place))))
+        .chain(long.map(|front: u64| words(&|place| front | (place + 1))))
+        .collect()
+}
+
+/// A call, and the number with which it refuses.
+struct Case<'a> {
+    name: &'static str,
+    number: u64,
+    call: Box<dyn Fn(&mut Memory) -> u64 + 'a>,
+}
+
+/// Cases from lines of a number and a call, in which `lent` is the memory.
+macro_rules! cases {
+    ($lent:ident: $($number:expr => $name:ident($($argument:expr),* $(,)?);)*) => {
+        [$(Case {
+            name: stringify!($name),
+            number: $number,
+            // SAFETY: each pointer and count are those of one live slice or of
+            // a part of the memory, and each part is lent once.
+            call: Box::new(move |$lent: &mut Memory| unsafe { $name($($argument),*) }),
+        }),*]
+    };
+}
+
+/// A specification that is not allowed.
+const FORBIDDEN: Sharding = bits(64, 1);
+/// One shard of two minishards.
+const TWO: Sharding = bits(0, 1);
+
+const fn bits(preshift: u8, minishard_bits: u8) -> Sharding {
+    Sharding {
+        preshift,
+        hash: Sharding::IDENTITY,
+        minishard_bits,
+        shard_bits: 0,
+    }
+}
+
+/// A volume of this size in chunks of one voxel.
+fn volume(size: [u32; 3]) -> Volume {
+    Volume::new(size, [1; 3], [0; 3])
+}
+
+fn grid() -> Vec<Case<'static>> {
+    let (empty, row) = (volume([0, 1, 1]), volume([5, 3, 1]));
+    let large = volume([1 << 22, 1 << 22, 1 << 21]);
+    let (first, outside) = (Cell::from([0; 3]), Cell::from([5, 0, 0]));
+    const CELLS: &[u32] = &[0, 0, 0, 4, 2, 0];
+    const ONE_OUTSIDE: &[u32] = &[4, 2, 0, 5, 0, 0];
+    Vec::from(cases! { lent:
+        2 => coronagamba_grid_of(empty, lent.one());
+        2 => coronagamba_key_of(empty, first, lent.one());
+        2 => coronagamba_key_of(row, outside, lent.one());
+        3 => coronagamba_key_of(large, first, lent.one());
+        2 => coronagamba_keys_of(empty, CELLS.as_ptr(), 6, lent.many(2), 2, lent.one());
+        2 => coronagamba_keys_of(row, ONE_OUTSIDE.as_ptr(), 6, lent.many(2), 2, lent.one());
+        3 => coronagamba_keys_of(large, CELLS.as_ptr(), 6, lent.many(2), 2, lent.one());
+        13 => coronagamba_keys_of(row, CELLS.as_ptr(), 6, lent.many(1), 1, lent.one());
+        2 => coronagamba_cell_of(empty, 0, lent.one());
+        3 => coronagamba_cell_of(large, 0, lent.one());
+        4 => coronagamba_cell_of(row, 20, lent.one());
+        2 => coronagamba_bounds_of(empty, first, lent.one(), lent.one());
+        2 => coronagamba_bounds_of(row, outside, lent.one(), lent.one());
+        2 => coronagamba_chunk_name(empty, first, lent.many(71), 71, lent.one());
+        2 => coronagamba_chunk_name(row, outside, lent.many(71), 71, lent.one());
+        13 => coronagamba_chunk_name(row, first, lent.many(10), 10, lent.one());
+    })
+}
+
+fn sharding() -> Vec<Case<'static>> {
+    const IDS: &[u64] = &[7, 8];
+    let ids = IDS.as_ptr();
+    Vec::from(cases! { lent:
+        1 => coronagamba_place_of(FORBIDDEN, 7, lent.one(), lent.one());
+        1 => coronagamba_places_of(FORBIDDEN, ids, 2, lent.many(2), 2, lent.many(2), 2, lent.one());
+        13 => coronagamba_places_of(TWO, ids, 2, lent.many(1), 1, lent.many(2), 2, lent.one());
+        13 => coronagamba_places_of(TWO, ids, 2, lent.many(2), 2, lent.many(1), 1, lent.one());
+        1 => coronagamba_shard_name(FORBIDDEN, 0, lent.many(14), 14, lent.one());
+        5 => coronagamba_shard_name(TWO, 1, lent.many(14), 14, lent.one());
+        13 => coronagamba_shard_name(TWO, 0, lent.many(6), 6, lent.one());
+    })
+}
+
+/// Numbers as they stand in a shard.
+fn row(numbers: &[u64]) -> Vec<u8> {
+    let bytes = numbers.iter().flat_map(|number| number.to_le_bytes());
+    bytes.collect()
+}
+
+/// A shard of two minishards. The first is empty, the second has this entry,
+/// five chunk bytes and these rows.
+fn shard(entry: [u64; 2], rows: [u64; 6]) -> Vec<u8> {
+    [row(&[0, 0]), row(&entry), b"abcde".to_vec(), row(&rows)].concat()
+}
+
+/// The rows of ids 5 and 11.
+const ROWS: [u64; 6] = [5, 6, 0, 0, 2, 3];
+
+/// A specification, a shard number and a file that each call on a shard
+/// refuses with the number in front.
+type Faulty = (u64, Sharding, u64, Vec<u8>);
+
+fn faulty_shards() -> Vec<Faulty> {
+    let sound = shard([5, 53], ROWS);
+    vec![
+        (1, FORBIDDEN, 0, sound.clone()),
+        (5, TWO, 1, sound.clone()),
+        (6, TWO, 0, sound[..31].to_vec()),
+        (7, TWO, 0, shard([53, 5], ROWS)),
+        (8, TWO, 0, shard([5, 52], ROWS)),
+        (9, TWO, 0, shard([5, 53], [5, 0, 0, 0, 2, 3])),
+        (10, TWO, 0, shard([5, 53], [5, 5, 0, 0, 2, 3])),
+        (11, TWO, 0, shard([5, 53], [5, 6, 0, 0, 2, 52])),
+    ]
+}
+
+/// The calls that write, on a shard whose second minishard is faulty.
+fn on_faulty_shard((number, sharding, shard, file): &Faulty) -> Vec<Case<'_>> {
+    let (number, sharding, shard) = (*number, *sharding, *shard);
+    let (from, count) = (file.as_ptr(), file.len());
+    Vec::from(cases! { lent:
+        number => coronagamba_lookup(sharding, shard, from, count, 5, lent.one(), lent.one());
+        number => coronagamba_listed_count(sharding, shard, from, count, 1, lent.one());
+        number => coronagamba_listing(sharding, shard, from, count, 1, lent.many(9), 9, lent.one());
+        number => coronagamba_settled_length(sharding, shard, from, count, lent.one());
+        number => coronagamba_settle(sharding, shard, from, count, lent.many(99), 99, lent.one());
+    })
+}
+
+/// The calls that write, on the sound shard of ids 5 and 11.
+fn on_sound_shard(file: &[u8]) -> Vec<Case<'_>> {
+    let (from, count) = (file.as_ptr(), file.len());
+    Vec::from(cases! { lent:
+        12 => coronagamba_lookup(TWO, 0, from, count, 7, lent.one(), lent.one());
+        5 => coronagamba_listed_count(TWO, 0, from, count, 2, lent.one());
+        5 => coronagamba_listing(TWO, 0, from, count, 2, lent.many(9), 9, lent.one());
+        13 => coronagamba_listing(TWO, 0, from, count, 1, lent.many(5), 5, lent.one());
+        13 => coronagamba_settle(TWO, 0, from, count, lent.many(84), 84, lent.one());
+    })
+}
+
+/// How many minishards list the same bytes in [`overlapping`], and how many
+/// bytes: the settled form would have more than 1 GiB.
+const MINISHARDS: u64 = 4096;
+const LISTED: u64 = 1 << 18;
+
+/// A sound shard of [`MINISHARDS`] minishards, each of one chunk.
+fn overlapping() -> Vec<u8> {
+    let place = |minishard: u64| LISTED + 24 * minishard;
+    let index = (0..MINISHARDS).flat_map(|m| [place(m), place(m + 1)]);
+    let entries = (0..MINISHARDS).flat_map(|m| [m, 0, LISTED]);
+    let chunk = vec![0; LISTED as usize];
+    let [index, entries] = [index.collect::<Vec<_>>(), entries.collect()].map(|all| row(&all));
+    [index, chunk, entries].concat()
+}
+
+/// Settling, where the form would be too long for any shard.
+fn on_overlapping_shard(file: &[u8]) -> Vec<Case<'_>> {
+    let (from, count) = (file.as_ptr(), file.len());
+    let sharding = bits(0, 12);
+    Vec::from(cases! { lent:
+        13 => coronagamba_settled_length(sharding, 0, from, count, lent.one());
+        13 => coronagamba_settle(sharding, 0, from, count, lent.many(99), 99, lent.one());
+    })
+}
+
+/// A card of this preshift, with these extents of the volume and of a chunk
+/// along each axis.
+fn card(preshift: u8, size: u32, chunk: u32) -> Vec<u8> {
+    let [size, chunk] = [size, chunk].map(|extent| extent.to_le_bytes().repeat(3));
+    let four = [1, 1, 0, preshift, 2, 1, 0, 0, 3, 1, 0, 1, 4, 1, 0, 0];
+    [&four[..], &[5, 12, 0], &size, &[6, 12, 0], &chunk].concat()
+}
+
+fn faulty_cards() -> Vec<(u64, Vec<u8>)> {
+    vec![
+        (14, card(0, 8, 1)[..45].to_vec()),
+        (1, card(64, 8, 1)),
+        (2, card(0, 0, 1)),
+        (3, card(0, 1 << 22, 1)),
+    ]
+}
+
+fn on_faulty_card((number, bytes): &(u64, Vec<u8>)) -> Vec<Case<'_>> {
+    let (from, count) = (bytes.as_ptr(), bytes.len());
+    Vec::from(cases! { lent:
+        *number => coronagamba_card_read(
+            from, count, lent.one(), lent.one(), lent.one(), lent.one(),
+        );
+    })
+}
+
+fn card_write() -> Vec<Case<'static>> {
+    let (empty, row) = (volume([0, 1, 1]), volume([5, 3, 1]));
+    let large = volume([1 << 22, 1 << 22, 1 << 21]);
+    Vec::from(cases! { lent:
+        1 => coronagamba_card_write(FORBIDDEN, row, lent.many(61), 61, lent.one());
+        2 => coronagamba_card_write(TWO, empty, lent.many(61), 61, lent.one());
+        3 => coronagamba_card_write(TWO, large, lent.many(61), 61, lent.one());
+        13 => coronagamba_card_write(TWO, row, lent.many(45), 45, lent.one());
+    })
+}
+
+/// A manifest of one level with two nodes at these x positions.
+fn manifest(shape: f32, x: [u32; 2]) -> Vec<u8> {
+    let [first, second] = x;
+    let shape = shape.to_bits();
+    let head = [shape, shape, shape, 0, 0, 0, 1, 0, 0, 0, 0, 2];
+    let items = [&head[..], &[first, second, 0, 0, 0, 0, 5, 5]].concat();
+    items.into_iter().flat_map(u32::to_le_bytes).collect()
+}
+
+fn faulty_manifests() -> Vec<(u64, Vec<u8>)> {
+    vec![
+        (15, manifest(1.0, [0, 1])[1..].to_vec()),
+        (16, manifest(f32::NAN, [0, 1])),
+        (16, manifest(0.0, [0, 1])),
+        (17, manifest(1.0, [1, 0])),
+    ]
+}
+
+fn on_faulty_manifest((number, bytes): &(u64, Vec<u8>)) -> Vec<Case<'_>> {
+    let (number, from, count) = (*number, bytes.as_ptr(), bytes.len());
+    Vec::from(cases! { lent:
+        number => coronagamba_manifest_header(from, count, lent.one());
+        number => coronagamba_manifest_field(from, count, 0, lent.one(), lent.one());
+        number => coronagamba_manifest_node(
+            from, count, 0, 0, lent.one(), lent.one(), lent.one(),
+        );
+        number => coronagamba_manifest_corners(from, count, 0, 0, lent.one(), lent.one());
+        number => coronagamba_manifest_nodes(from, count, 0, lent.many(10), 10, lent.one());
+    })
+}
+
+/// Questions to a sound manifest, the far node of which has no corners.
+fn on_sound_manifest(bytes: &[u8]) -> Vec<Case<'_>> {
+    let (from, count) = (bytes.as_ptr(), bytes.len());
+    let items = count as u32 / 4;
+    Vec::from(cases! { lent:
+        18 => coronagamba_manifest_field(from, count, items, lent.one(), lent.one());
+        18 => coronagamba_manifest_node(from, count, 0, 2, lent.one(), lent.one(), lent.one());
+        18 => coronagamba_manifest_node(from, count, 1, 0, lent.one(), lent.one(), lent.one());
+        18 => coronagamba_manifest_corners(from, count, 0, 2, lent.one(), lent.one());
+        18 => coronagamba_manifest_corners(from, count, 0, 1, lent.one(), lent.one());
+        18 => coronagamba_manifest_nodes(from, count, 1, lent.many(10), 10, lent.one());
+        13 => coronagamba_manifest_nodes(from, count, 0, lent.many(9), 9, lent.one());
+    })
+}
+
+/// Makes each case's call on memory of all contents, and sees that it stays.
+fn stays(cases: &[Case]) {
+    for content in contents() {
+        for Case { name, number, call } in cases {
+            let mut memory = Memory::holding(&content);
+            assert_eq!(call(&mut memory), *number, "{name}");
+            assert!(memory.words == content, "{name}, {number}: a byte changed");
+        }
+    }
+}
+
+/// What the header says of a call: behind `Refusals:`, numbers and ranges with
+/// words behind them, or `none`.
+fn numbers(refusals: &str) -> Vec<u64> {
+    if refusals.trim() == "none" {
+        return Vec::new();
+    }
+    let number = |text: &str| text.parse::<u64>().expect("a number");
+    let range = |part: &str| {
+        let words: Vec<&str> = part.split_whitespace().collect();
+        match words[..] {
+            [first, "to", last, ..] => number(first)..=number(last),
+            [only, ..] => number(only)..=number(only),
+            [] => panic!("no number in {refusals}"),
+        }
+    };
+    refusals.split(',').flat_map(range).collect()
+}
+
+/// Each call that writes with each refusal that the header names for it. Two
+/// calls give a word and nothing else.
+fn named() -> BTreeSet<(String, u64)> {
+    let header = concat!(env!("CARGO_MANIFEST_DIR"), "/../../include/coronagamba.h");
+    let header = std::fs::read_to_string(header).expect("the header");
+    let mut named = BTreeSet::new();
+    for paragraph in header.split("\n\n") {
+        let Some((comment, declaration)) = paragraph.split_once("*/\n") else {
+            continue;
+        };
+        let comment = comment.replace("\n *", " ");
+        let Some((_, refusals)) = comment.split_once("Refusals: ") else {
+            continue;
+        };
+        let name = declaration.split(['(', ' ']).nth(1).expect("a name");
+        if !["coronagamba_check", "coronagamba_manifest_check"].contains(&name) {
+            named.extend(numbers(refusals).iter().map(|n| (name.to_string(), *n)));
+        }
+    }
+    named
+}
+
+#[test]
+fn a_refusal_leaves_every_lent_byte() {
+    let (shards, cards, manifests) = (faulty_shards(), faulty_cards(), faulty_manifests());
+    let (sound, long) = (shard([5, 53], ROWS), overlapping());
+    let far = manifest(1.0, [0, 1 << 24]);
+    let cases: Vec<Case> = [grid(), sharding(), card_write()]
+        .into_iter()
+        .chain(shards.iter().map(on_faulty_shard))
+        .chain([on_sound_shard(&sound), on_overlapping_shard(&long)])
+        .chain(cards.iter().map(on_faulty_card))
+        .chain(manifests.iter().map(on_faulty_manifest))
+        .chain([on_sound_manifest(&far)])
+        .flatten()
+        .collect();
+    let tried: BTreeSet<_> = cases
+        .iter()
+        .map(|case| (case.name.to_string(), case.number))
+        .collect();
+    assert_eq!(tried, named(), "the refusals tried and those of the header");
+    stays(&cases);
+}
+
+#[test]
+fn contents_have_every_byte_and_every_kind_of_nan() {
+    let words = contents().concat();
+    let bytes: BTreeSet<u8> = words.iter().flat_map(|word| word.to_ne_bytes()).collect();
+    assert_eq!(bytes.len(), 256);
+    // Sign, and whether quiet.
+    let short = words.iter().map(|word| *word as u32);
+    let short = short.filter(|bits| f32::from_bits(*bits).is_nan());
+    let short: BTreeSet<_> = short.map(|bits| (bits >> 31, bits >> 22 & 1)).collect();
+    let long = words.iter().filter(|bits| f64::from_bits(**bits).is_nan());
+    let long: BTreeSet<_> = long.map(|bits| (bits >> 63, bits >> 51 & 1)).collect();
+    assert_eq!((short.len(), long.len()), (4, 4));
+}

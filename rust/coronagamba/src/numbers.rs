@@ -1,0 +1,133 @@
+//! Refusals and other numbers, as the tables have them.
+//!
+//! Made by ./interface: change the export crate or rust/interface, then run it.
+
+use crate::refusal::Refusal;
+
+/// The version that these declarations belong to: major, minor, patch.
+pub const VERSION: [u64; 3] = [0, 2, 0];
+
+/// A sharding's hash that leaves an id as it is.
+pub const HASH_IDENTITY: u8 = 0;
+
+/// A sharding's hash MurmurHash3_x86_128, its first 8 bytes.
+pub const HASH_MURMUR: u8 = 1;
+
+/// The kind of a manifest's field that is a whole number.
+pub const FIELD_WHOLE: u32 = 0;
+
+/// The kind of a manifest's field that is a real.
+pub const FIELD_REAL: u32 = 1;
+
+impl Refusal {
+    /// Preshift above 63, hash neither identity nor murmur, minishard bits above 12, or shard bits
+    /// above 32.
+    pub const SHARDING_NOT_ALLOWED: u8 = 1;
+
+    /// A volume or chunk extent is 0, or a cell coordinate is not below its grid size.
+    pub const NO_SUCH_CELL: u8 = 2;
+
+    /// A key is made or decoded, or a card read or written, and the grid needs more than 64 key
+    /// bits.
+    pub const TOO_MANY_KEY_BITS: u8 = 3;
+
+    /// A key is no cell of the grid.
+    pub const KEY_OF_NO_CELL: u8 = 4;
+
+    /// A shard number is not below 2^shard_bits, or the id asked for belongs to another shard;
+    /// beyond the table, in a listing, also where a minishard number is not below 2^minishard_bits.
+    pub const NO_SUCH_SHARD: u8 = 5;
+
+    /// The shard is shorter than its shard index or longer than 1,073,741,824 bytes.
+    pub const SHARD_LENGTH: u8 = 6;
+
+    /// An index entry has start after end, or start before end and its end past the file.
+    pub const INDEX_ENTRY: u8 = 7;
+
+    /// A minishard index length is no multiple of 24.
+    pub const INDEX_LENGTH: u8 = 8;
+
+    /// An id does not exceed the one before, or passes 2^64-1.
+    pub const ID_ORDER: u8 = 9;
+
+    /// A listed id belongs to another shard or minishard.
+    pub const ID_ELSEWHERE: u8 = 10;
+
+    /// A chunk's bytes end past the file.
+    pub const CHUNK_PAST_END: u8 = 11;
+
+    /// The id is not listed.
+    pub const NOT_LISTED: u8 = 12;
+
+    /// The output is too short for the whole answer, or a settled form would exceed 1,073,741,824
+    /// bytes.
+    pub const NO_ROOM: u8 = 13;
+
+    /// The card is malformed.
+    pub const CARD_MALFORMED: u8 = 14;
+
+    /// The manifest's length or level count is wrong.
+    pub const MANIFEST_LENGTH: u8 = 15;
+
+    /// A manifest real is not finite, or a chunk shape is not above zero.
+    pub const MANIFEST_REAL: u8 = 16;
+
+    /// A level's nodes are not in strictly rising Z-curve order.
+    pub const NODE_ORDER: u8 = 17;
+
+    /// No such level, node or field; or, where corners are asked for, that node has a position of
+    /// 2^24 or more or either corner is not finite.
+    pub const NO_SUCH_NODE: u8 = 18;
+}
+
+/// Each number with its sentence, rising.
+pub(crate) const SENTENCES: &[(u8, &str)] = &[
+    (
+        1,
+        "The sharding specification has a field that is not allowed.",
+    ),
+    (2, "An extent is zero, or the cell is outside the grid."),
+    (3, "The grid needs more than 64 key bits."),
+    (4, "The key is no cell of the grid."),
+    (
+        5,
+        "There is no such shard or minishard, or the id belongs to another shard.",
+    ),
+    (
+        6,
+        "The shard is shorter than its index or longer than 1 GiB.",
+    ),
+    (
+        7,
+        "An entry of the shard index is reversed or ends past the file.",
+    ),
+    (
+        8,
+        "A minishard index has a length that is no multiple of 24.",
+    ),
+    (
+        9,
+        "The ids of a minishard do not rise, or one is too large.",
+    ),
+    (10, "A listed id belongs to another shard or minishard."),
+    (11, "A chunk ends past the file."),
+    (12, "The id is not listed."),
+    (
+        13,
+        "The output is too short, or the settled form is longer than 1 GiB.",
+    ),
+    (14, "The card is malformed."),
+    (15, "The manifest has a wrong length or level count."),
+    (
+        16,
+        "A real in the manifest is not finite, or a chunk shape is not above zero.",
+    ),
+    (
+        17,
+        "The nodes of a level are not in strictly rising Z-curve order.",
+    ),
+    (
+        18,
+        "There is no such level, node or field, or the node has no corners.",
+    ),
+];

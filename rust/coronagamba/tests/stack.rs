@@ -1,0 +1,57 @@
+//! How much stack a call needs: what the header says is enough.
+
+use coronagamba::{Card, Manifest, Shard, Sharding, Volume};
+use std::thread;
+
+/// The bytes that coronagamba.h names; the thread's own needs come out of them
+/// too.
+const STACK: usize = 64 * 1024;
+
+const SHARDING: Sharding = Sharding {
+    preshift: 0,
+    hash: Sharding::MURMUR,
+    minishard_bits: 1,
+    shard_bits: 0,
+};
+
+/// Numbers as they stand in a shard.
+fn row(numbers: &[u64]) -> Vec<u8> {
+    let bytes = numbers.iter().flat_map(|number| number.to_le_bytes());
+    bytes.collect()
+}
+
+/// A call of each kind. One that passes the stack ends the program.
+fn calls() {
+    let volume = Volume::new([100, 200, 300], [64; 3], [-64, 0, 0]);
+    let cell = [1, 2, 3].into();
+    let key = volume.key(cell).expect("the cell is in the grid");
+    assert_eq!(volume.cell(key), Ok(cell));
+    assert_eq!(volume.keys(&[cell; 9]), Ok(vec![key; 9]));
+    assert!(volume.chunk_name(cell).is_ok());
+    assert!(SHARDING.places(&[1, 2, 3]).is_ok() && SHARDING.shard_name(0).is_ok());
+    let card = Card {
+        sharding: SHARDING,
+        volume,
+    };
+    assert_eq!(Card::read(&card.to_bytes().expect("a card")), Ok(card));
+    let id = (0..).find(|id| SHARDING.place(*id).map(|place| place.minishard) == Ok(0));
+    let id = id.expect("an id of the first minishard");
+    let file = [row(&[2, 26, 0, 0]), b"ab".to_vec(), row(&[id, 0, 2])].concat();
+    let shard = Shard::open(SHARDING, 0, &file);
+    assert_eq!(shard.check(), Ok(()));
+    assert_eq!(shard.chunk(id), Ok(&b"ab"[..]));
+    assert_eq!(shard.listing(0).map(|listed| listed.len()), Ok(1));
+    assert!(shard.settled().is_ok_and(|form| form == file));
+    let mut items = vec![1f32.to_bits(); 6];
+    items.extend([1, 0, 0, 0, 0, 1, 0, 0, 0, 9]);
+    let bytes: Vec<u8> = items.iter().flat_map(|item| item.to_le_bytes()).collect();
+    let manifest = Manifest::open(&bytes);
+    assert!(manifest.header().is_ok() && manifest.levels().is_ok());
+    assert!(manifest.node(0, 0).is_ok() && manifest.corners(0, 0).is_ok());
+}
+
+#[test]
+fn a_small_stack_is_enough() {
+    let thread = thread::Builder::new().stack_size(STACK).spawn(calls);
+    thread.expect("a thread").join().expect("the calls pass");
+}

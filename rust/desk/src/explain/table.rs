@@ -1,0 +1,154 @@
+//! What the refusals mean.
+//!
+//! Made by ./interface: change the export crate or rust/interface, then run it.
+
+use super::Explained;
+
+/// The table of refusals, numbers rising.
+pub const TABLE: &[Explained] = &[
+    Explained {
+        number: 1,
+        given: "preshift above 63, hash neither identity nor murmur, minishard bits above 12, or \
+         shard bits above 32",
+        cause: "A mistyped option, or a card that was made for another format.",
+        remedy: "Take the four values from the deposit's own papers or its info file, and make \
+         the card again with 'card make'.",
+    },
+    Explained {
+        number: 2,
+        given: "a volume or chunk extent is 0, or a cell coordinate is not below its grid size",
+        cause: "A cell given in voxels instead of chunks, axes in another order, or the card of \
+         another volume.",
+        remedy: "Look at the grid with 'card show'. A cell counts chunks from 0 on each axis: \
+         subtract the voxel offset from the voxel and divide by the chunk size.",
+    },
+    Explained {
+        number: 3,
+        given: "a key is made or decoded, or a card read or written, and the grid needs more \
+         than 64 key bits",
+        cause: "A chunk size that is much too small for the volume, often 1,1,1 by mistake.",
+        remedy: "Correct --size and --chunk. Such a grid has no keys in the published format.",
+    },
+    Explained {
+        number: 4,
+        given: "a key is no cell of the grid",
+        cause: "The key comes from another volume or another chunk size, or it is an id that is \
+         no key.",
+        remedy: "Compare the volume with 'card show'; 'locate X,Y,Z' gives the key of a cell.",
+    },
+    Explained {
+        number: 5,
+        given: "a shard number is not below 2^shard_bits, or the id asked for belongs to another \
+         shard; beyond the table, in a listing, also where a minishard number is not below \
+         2^minishard_bits",
+        cause: "The wrong shard file for this id, a file from a deposit with other shard bits, a \
+         --minishard beyond the last one, or wrong settings.",
+        remedy: "Give the deposit's folder in place of the file: 'get' then finds the shard of \
+         the id by itself. 'card show' tells how many shards and minishards there are. If \
+         the place still surprises you, compare the settings with the deposit's papers.",
+    },
+    Explained {
+        number: 6,
+        given: "the shard is shorter than its shard index or longer than 1,073,741,824 bytes",
+        cause: "A copy that was cut short, an empty file, or too many minishard bits in the \
+         settings.",
+        remedy: "Compare the file's length with the source and copy it again; compare the \
+         minishard bits with the deposit's papers.",
+    },
+    Explained {
+        number: 7,
+        given: "an index entry has start after end, or start before end and its end past the file",
+        cause: "A copy that was cut short, bytes damaged in the shard index, or wrong minishard \
+         bits, which make other bytes count as the shard index.",
+        remedy: "Compare the file's length with the source and copy it again. If all shards of \
+         the deposit are refused in this way, suspect the settings.",
+    },
+    Explained {
+        number: 8,
+        given: "a minishard index length is no multiple of 24",
+        cause: "Bytes damaged in the shard index, wrong minishard bits, or minishard indexes \
+         that are compressed, which this archive does not hold.",
+        remedy: "If all shards are refused in this way, look into the deposit's info file for \
+         minishard_index_encoding: it must be raw. Otherwise copy the shard again.",
+    },
+    Explained {
+        number: 9,
+        given: "an id does not exceed the one before, or passes 2^64-1",
+        cause: "Bytes damaged in a minishard index, a writer that listed an id twice or did not \
+         sort the ids, or minishard indexes that are compressed.",
+        remedy: "Look for a sound copy with 'check' and copy the shard from there. If the fault \
+         is in the source, its writer must repair it: which of two chunks is meant cannot \
+         be told from the file.",
+    },
+    Explained {
+        number: 10,
+        given: "a listed id belongs to another shard or minishard",
+        cause: "Wrong settings, above all the hash or the preshift; a file under another shard's \
+         name; or damaged bytes.",
+        remedy: "If many shards are refused in this way, the settings are wrong: compare them \
+         with the deposit's papers. If it is one shard, look at its name, then copy it \
+         again.",
+    },
+    Explained {
+        number: 11,
+        given: "a chunk's bytes end past the file",
+        cause: "A copy that was cut short, or bytes damaged in a minishard index.",
+        remedy: "Compare the file's length with the source and copy it again.",
+    },
+    Explained {
+        number: 12,
+        given: "the id is not listed",
+        cause: "The volume has no data in this cell: writers leave empty chunks out. Or the id \
+         comes from another deposit.",
+        remedy: "This is an answer, not damage: the chunk is absent and its minishard is sound. \
+         'list' shows what is there.",
+    },
+    Explained {
+        number: 13,
+        given: "the output is too short for the whole answer, or a settled form would exceed \
+         1,073,741,824 bytes",
+        cause: "A shard whose chunks share bytes: written out one by one they pass 1 GiB.",
+        remedy: "Keep the shard as it is. It is sound, but it has no settled form that a shard \
+         may have; a deposit with more shard bits would.",
+    },
+    Explained {
+        number: 14,
+        given: "the card is malformed",
+        cause: "The file is no deposit card, or it was cut short or edited.",
+        remedy: "Make the card again with 'card make' from the deposit's papers. A card is not \
+         text: do not edit it.",
+    },
+    Explained {
+        number: 15,
+        given: "the manifest's length or level count is wrong",
+        cause: "The file is no manifest of this kind, it was cut short, or it holds the \
+         fragments too.",
+        remedy: "Compare the file's length with the source and copy it again.",
+    },
+    Explained {
+        number: 16,
+        given: "a manifest real is not finite, or a chunk shape is not above zero",
+        cause: "Damaged bytes, or a writer that divided by zero.",
+        remedy: "Look for a sound copy with 'manifest check'. If the fault is in the source, its \
+         writer must repair it.",
+    },
+    Explained {
+        number: 17,
+        given: "a level's nodes are not in strictly rising Z-curve order",
+        cause: "A writer that sorted by x, y, z, or listed a node twice; or damaged bytes.",
+        remedy: "Look for a sound copy with 'manifest check'. If the fault is in the source, its \
+         writer must repair it.",
+    },
+    Explained {
+        number: 18,
+        given: "no such level, node or field; or, where corners are asked for, that node has a \
+         position of 2^24 or more or either corner is not finite",
+        cause: "A level or node number beyond the last one; they count from 0. Where only the \
+         corners are missing: a position that a 32-bit real may not hold exactly, or a \
+         chunk shape or grid origin so large that a corner passes the greatest real, from \
+         a writer or from damaged bytes.",
+        remedy: "'manifest show' tells how many levels and nodes there are. A node without \
+         corners has its position and its fragment all the same; compare its position, \
+         the chunk shape and the grid origin with the source.",
+    },
+];
