@@ -100,8 +100,8 @@
  * size */
 #define CORONAGAMBA_REFUSED_NO_SUCH_CELL 2
 
-/* a key is made or decoded, or a card read or written, and the grid needs
- * more than 64 key bits */
+/* a key is made or decoded, or a card read or written, or an info file read,
+ * and the grid needs more than 64 key bits */
 #define CORONAGAMBA_REFUSED_TOO_MANY_KEY_BITS 3
 
 /* a key is no cell of the grid */
@@ -154,6 +154,15 @@
 /* no such level, node or field; or, where corners are asked for, that node
  * has a position of 2^24 or more or either corner is not finite */
 #define CORONAGAMBA_REFUSED_NO_SUCH_NODE 18
+
+/* not JSON, not UTF-8 or too deep, the outermost value being at depth 1 and
+ * each value in another, a plain number too, one deeper; 32 is the greatest
+ * depth */
+#define CORONAGAMBA_REFUSED_INFO_NOT_JSON 19
+
+/* no scale k, a needed member missing, a used one doubled or of the wrong
+ * kind, another @type or a refused encoding */
+#define CORONAGAMBA_REFUSED_INFO_SETTINGS 20
 
 /* ---- other numbers ------------------------------------------------------- */
 
@@ -348,6 +357,16 @@ uint64_t coronagamba_card_read(const uint8_t *bytes, size_t count,
 uint64_t coronagamba_card_write(coronagamba_sharding sharding,
                                 coronagamba_volume volume, uint8_t *out,
                                 size_t count, uint64_t *length);
+
+/* ---- Info files ---------------------------------------------------------- */
+
+/* What the text of an info file says of its scale number `scale`, from 0:
+ * the numbers that a deposit card of it says, written as
+ * coronagamba_card_read writes them. Refusals: 19, 20, 1, 2, 3 */
+uint64_t coronagamba_info_read(const uint8_t *text, size_t count,
+                               uint64_t scale, uint8_t sharding[4],
+                               uint32_t size[3], uint32_t chunk[3],
+                               int32_t offset[3]);
 
 /* ---- Mesh manifests. Reals cross the border as their bit patterns -------- */
 

@@ -157,6 +157,32 @@ static void cards(void) {
       "card_read, cut short");
 }
 
+static void infos(void) {
+  static const char text[] =
+      "{\"type\": \"image\", \"scales\": [{\"key\": \"8_8_8\","
+      " \"size\": [100, 1, 1], \"chunk_sizes\": [[64, 1, 1]],"
+      " \"voxel_offset\": [-64, 0, 0],"
+      " \"sharding\": {\"@type\": \"neuroglancer_uint64_sharded_v1\","
+      " \"preshift_bits\": 9, \"hash\": \"murmurhash3_x86_128\","
+      " \"minishard_bits\": 6, \"shard_bits\": 15}}]}";
+  const uint8_t *bytes = (const uint8_t *)text;
+  size_t count = sizeof text - 1;
+  uint8_t four[4];
+  uint32_t size[3], chunk[3];
+  int32_t offset[3];
+  see(coronagamba_info_read(bytes, count, 0, four, size, chunk, offset) == 0 &&
+          four[0] == 9 && four[1] == CORONAGAMBA_HASH_MURMUR && four[2] == 6 &&
+          four[3] == 15 && size[0] == 100 && chunk[0] == 64 &&
+          offset[0] == -64 && offset[2] == 0,
+      "info_read");
+  see(coronagamba_info_read(bytes, count, 1, four, size, chunk, offset) ==
+          CORONAGAMBA_REFUSED_INFO_SETTINGS,
+      "info_read, no such scale");
+  see(coronagamba_info_read(bytes, count - 1, 0, four, size, chunk, offset) ==
+          CORONAGAMBA_REFUSED_INFO_NOT_JSON,
+      "info_read, cut short");
+}
+
 /* Origin 10, shape 8, position 3, level 2: corners 106 and 138. */
 static void manifests(void) {
   const uint32_t eight = 0x41000000, ten = 0x41200000;
@@ -211,6 +237,7 @@ int main(void) {
   places();
   shards();
   cards();
+  infos();
   manifests();
   printf("example: %d wrong\n", wrong);
   return wrong != 0;

@@ -332,6 +332,22 @@ FUNCTIONS: Dict[str, Tuple[Any, Tuple[Any, ...]]] = {
             POINTER(ctypes.c_uint64),
         ),
     ),
+    # What the text of an info file says of its scale number `scale`, from 0:
+    # the numbers that a deposit card of it says, written as
+    # coronagamba_card_read writes them.
+    # Refusals: 19, 20, 1, 2, 3
+    "coronagamba_info_read": (
+        ctypes.c_uint64,
+        (
+            POINTER(ctypes.c_uint8),
+            ctypes.c_size_t,
+            ctypes.c_uint64,
+            POINTER(ctypes.c_uint8 * 4),
+            POINTER(ctypes.c_uint32 * 3),
+            POINTER(ctypes.c_uint32 * 3),
+            POINTER(ctypes.c_int32 * 3),
+        ),
+    ),
     # Whether the bytes are a sound manifest. Writes nothing.
     # Refusals: 15, 16, 17
     "coronagamba_manifest_check": (

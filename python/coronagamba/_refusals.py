@@ -19,8 +19,8 @@ class Numbers:
     # size
     NO_SUCH_CELL = 2
 
-    # a key is made or decoded, or a card read or written, and the grid needs
-    # more than 64 key bits
+    # a key is made or decoded, or a card read or written, or an info file
+    # read, and the grid needs more than 64 key bits
     TOO_MANY_KEY_BITS = 3
 
     # a key is no cell of the grid
@@ -74,6 +74,15 @@ class Numbers:
     # has a position of 2^24 or more or either corner is not finite
     NO_SUCH_NODE = 18
 
+    # not JSON, not UTF-8 or too deep, the outermost value being at depth 1 and
+    # each value in another, a plain number too, one deeper; 32 is the greatest
+    # depth
+    INFO_NOT_JSON = 19
+
+    # no scale k, a needed member missing, a used one doubled or of the wrong
+    # kind, another @type or a refused encoding
+    INFO_SETTINGS = 20
+
 
 # Each number with its sentence, rising.
 SENTENCES: Dict[int, str] = {
@@ -101,4 +110,6 @@ SENTENCES: Dict[int, str] = {
     ),
     17: "The nodes of a level are not in strictly rising Z-curve order.",
     18: "There is no such level, node or field, or the node has no corners.",
+    19: "The info file is not JSON in UTF-8, or values in it lie too deep.",
+    20: "The info file does not give the settings of this scale.",
 }

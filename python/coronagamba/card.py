@@ -4,9 +4,11 @@ from __future__ import annotations
 
 from ctypes import byref, c_int32, c_uint8, c_uint32, c_uint64
 from dataclasses import dataclass
+from typing import Any
 
 from ._buffers import Lent, ReadableBuffer
 from ._library import library
+from ._numbers import u64
 from .grid import Volume
 from .refusal import answer
 from .sharding import Sharding
@@ -44,19 +46,44 @@ class Card:
     @classmethod
     def read(cls, bytes: ReadableBuffer) -> Card:
         """What the card of these bytes says. Refusals 14, 1, 2, 3."""
+        with Lent("bytes", bytes) as lent:
+            return cls._said(
+                library.coronagamba_card_read, lent.bytes, lent.count
+            )
+
+    @classmethod
+    def read_info(cls, text: ReadableBuffer, scale: int) -> Card:
+        """What the text of an info file says of its scale number `scale`,
+        from 0, as a card. Refusals 19, 20, 1, 2, 3.
+
+        >>> from coronagamba import Card, Refused
+        >>> text = b'''{"type": "image", "scales": [{
+        ...     "size": [100, 1, 1], "chunk_sizes": [[64, 1, 1]],
+        ...     "sharding": {"@type": "neuroglancer_uint64_sharded_v1",
+        ...         "preshift_bits": 0, "hash": "murmurhash3_x86_128",
+        ...         "minishard_bits": 3, "shard_bits": 9}}]}'''
+        >>> Card.read_info(text, 0).volume.size
+        Extents(x=100, y=1, z=1)
+        >>> try:
+        ...     Card.read_info(text, scale=1)
+        ... except Refused as refusal:
+        ...     print(refusal)
+        refused 20: The info file does not give the settings of this scale.
+        """
+        number = u64("scale", scale)
+        with Lent("text", text) as lent:
+            return cls._said(
+                library.coronagamba_info_read, lent.bytes, lent.count, number
+            )
+
+    @classmethod
+    def _said(cls, function: Any, *question: Any) -> Card:
+        """What a function writes of this question, behind which its results
+        stand."""
         sharding, offset = _FourU8(), _ThreeI32()
         size, chunk = _ThreeU32(), _ThreeU32()
-        with Lent("bytes", bytes) as lent:
-            answer(
-                library.coronagamba_card_read(
-                    lent.bytes,
-                    lent.count,
-                    byref(sharding),
-                    byref(size),
-                    byref(chunk),
-                    byref(offset),
-                )
-            )
+        results = map(byref, (sharding, size, chunk, offset))
+        answer(function(*question, *results))
         return cls(Sharding(*sharding), Volume(size, chunk, offset))
 
     def to_bytes(self) -> bytes:

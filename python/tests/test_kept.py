@@ -20,6 +20,7 @@ CELL = _declared.Cell(0, 0, 0)
 # The first minishard is empty, the second one's entry is reversed.
 FILE = (c_uint8 * 32).from_buffer_copy(u64s(0, 0, 1, 0))
 SHARD = (ALLOWED, 0, FILE, 32)
+NO_SCALES = (c_uint8 * 2).from_buffer_copy(b"{}")
 MANIFEST = (c_uint8 * 28).from_buffer_copy(manifest((1, 1, 1), (0, 0, 0), []))
 CELLS = (c_uint32 * 6)()
 IDS = (c_uint64 * 2)()
@@ -72,6 +73,18 @@ CALLS = [
         14,
         "card_read",
         (FILE, 32),
+        [c_uint8 * 4, THREE_U32, THREE_U32, c_int32 * 3],
+    ),
+    (
+        19,
+        "info_read",
+        (FILE, 32, 0),
+        [c_uint8 * 4, THREE_U32, THREE_U32, c_int32 * 3],
+    ),
+    (
+        20,
+        "info_read",
+        (NO_SCALES, 2, 0),
         [c_uint8 * 4, THREE_U32, THREE_U32, c_int32 * 3],
     ),
     (1, "card_write", (FORBIDDEN, UNIT), [(c_uint8 * 61, 61), U64]),

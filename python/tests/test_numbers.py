@@ -39,6 +39,7 @@ ARGUMENTS = [
     ("id", U64, SHARD.chunk),
     ("minishard", U64, SHARD.listed_count),
     ("minishard", U64, SHARD.listing),
+    ("scale", U64, lambda n: Card.read_info(b"", n)),
     ("number", U64, MANIFEST.field),
     ("level", U64, lambda n: MANIFEST.node(n, 0)),
     ("node", U64, lambda n: MANIFEST.node(0, n)),

@@ -138,6 +138,17 @@ CALLS = {
         lambda: Manifest(SOUND).nodes_of(1),
         lambda: Manifest(SOUND).corners(0, 0),
     ],
+    19: [
+        lambda: Card.read_info(b"", 0),
+        lambda: Card.read_info(b"{", 0),
+        lambda: Card.read_info(b'"\xff"', 0),
+        lambda: Card.read_info(b"[" * 33 + b"]" * 33, 0),
+    ],
+    20: [
+        lambda: Card.read_info(b"{}", 0),
+        lambda: Card.read_info(b'{"scales": [{}]}', 0),
+        lambda: Card.read_info(b'{"scales": []}', 2**64 - 1),
+    ],
 }
 
 

@@ -1,40 +1,13 @@
 // Deposit cards.
 ghost use mathlib.Core.Path.{_≡_};
-ghost use mathlib.Core.List.{[], _∷_};
-ghost use Rattle.sharding.specs.Specification.{minishardBits, shardBits};
 ghost use Rattle.card.specs.Answers.{readAnswer, writeAnswer, writeLeft};
 ghost use Rattle.coronagamba.specs.Word.{writtenWord, lengthAfter};
 ghost use Rattle.coronagamba.specs.Cards.{cardWord, shardingAfter, volumeAfter, chunkAfter, offsetAfter};
 use card::Card;
 use card::CardAnswer;
-use grid::Extents;
-use grid::Offset;
 use grid::Volume;
 use refusal::Written;
 use sharding::Sharding;
-
-fn four(sharding: Sharding) -> [u8; 4]
-    ensures { λ r. ⌜ r ≡ sharding .preshift ∷ sharding .hash ∷ minishardBits sharding ∷ shardBits sharding ∷ [] ⌝ }
-{
-    [
-        sharding.preshift,
-        sharding.hash,
-        sharding.minishard_bits,
-        sharding.shard_bits,
-    ]
-}
-
-fn three_extents(e: Extents) -> [u32; 3]
-    ensures { λ r. ⌜ r ≡ e .x ∷ e .y ∷ e .z ∷ [] ⌝ }
-{
-    [e.x, e.y, e.z]
-}
-
-fn three_offsets(o: Offset) -> [i32; 3]
-    ensures { λ r. ⌜ r ≡ o .x ∷ o .y ∷ o .z ∷ [] ⌝ }
-{
-    [o.x, o.y, o.z]
-}
 
 // What a deposit card of these bytes says. Writes preshift, hash, minishard bits and shard bits to
 // `sharding`, and volume size, chunk size and voxel offset along x, y and z to `size`, `chunk` and
@@ -57,10 +30,10 @@ pub extern "C" fn coronagamba_card_read(
     match card::read_card(bytes) {
         CardAnswer::Says(card) => {
             let volume = card.volume;
-            *sharding = four(card.sharding);
-            *size = three_extents(volume.size);
-            *chunk = three_extents(volume.chunk);
-            *offset = three_offsets(volume.offset);
+            *sharding = crate::numbers::four(card.sharding);
+            *size = crate::numbers::three_extents(volume.size);
+            *chunk = crate::numbers::three_extents(volume.chunk);
+            *offset = crate::numbers::three_offsets(volume.offset);
             0
         }
         CardAnswer::Refused(refusal) => refusal as u64,

@@ -1,7 +1,9 @@
 // The C interface. Each exported function hands its arguments to the library and carries the whole answer in its contract.
 pub mod cards;
 pub mod cells;
+pub mod infos;
 pub mod manifests;
+mod numbers;
 pub mod places;
 pub mod shards;
 pub mod texts;

@@ -15,6 +15,7 @@ use Rattle.form.proofs.Demand3.{file-form-length, demand-3-one-form, demand-3-s
 use Rattle.settle.proofs.Refused.{length-refuses, settle-refuses, settle-kept}
 use Rattle.settle.proofs.Demand3.{demand-3-form-settles, demand-3-length, demand-3-length-refused, demand-3-refused, demand-3-written}
 use Rattle.card.proofs.Meaning.{one-meaning-one-card}
+use Rattle.document.proofs.Meaning.{meaning}
 use Rattle.nodes.proofs.Each.{node-numbers}
 use Rattle.theorems.specs.Demands.{Demand1, Demand2, Demand3}
 use Rattle.theorems.proofs.Calls.{grid-refuses, key-refuses, keys-refuses, keys-kept, cell-refuses, bounds-refuses, chunk-name-refuses, chunk-name-kept, place-refuses, places-refuses, places-kept, shard-name-refuses, shard-name-kept, card-read-refuses, card-write-refuses, card-kept, manifest-refuses, header-refuses, field-refuses, node-refuses, nodes-refuses, nodes-kept, corners-refuses}
@@ -42,6 +43,7 @@ demand-1 =
       settle = settle-refuses;
       cardRead = card-read-refuses;
       cardWritten = card-write-refuses;
+      infoRead = meaning .refused;
       manifest = manifest-refuses;
       header = header-refuses;
       field = field-refuses;
@@ -69,6 +71,7 @@ demand-2 =
       listed = listing-says-what-is-listed;
       levelled = node-numbers;
       card = one-meaning-one-card;
+      info = meaning;
     }
 
 pub demand-3 : Demand3

@@ -42,6 +42,8 @@ use Rattle.card.specs.declared.Card.{Card}
 use Rattle.card.specs.declared.CardAnswer.the-variants as D
 use Rattle.card.specs.Answers.{readChecks, readAnswer, writeChecks, writeAnswer, writeLeft}
 use Rattle.card.specs.Meaning.{OneCard}
+use Rattle.info.specs.Answers.{infoChecks, infoAnswer}
+use Rattle.document.specs.Meaning.{InfoMeaning}
 use Rattle.manifest.specs.declared.ManifestAnswer.the-variants as M
 use Rattle.manifest.specs.declared.HeaderAnswer.the-variants as H
 use Rattle.manifest.specs.declared.Field.the-variants as F
@@ -79,6 +81,7 @@ pub record Demand1 : Type 0 where
   pub settle : (spec : Sharding) (shard : ℕ) (file out : List ℕ) → Refuses (settleAnswer spec shard file out) Refused (settleChecks spec shard file out)
   pub cardRead : (s : List ℕ) → Refuses (readAnswer s) D.Refused (readChecks s)
   pub cardWritten : (c : Card) (out : List ℕ) → Refuses (writeAnswer c out) Refused (writeChecks c out)
+  pub infoRead : (s : List ℕ) (k : ℕ) → Refuses (infoAnswer s k) D.Refused (infoChecks s k)
   pub manifest : (s : List ℕ) → Refuses (manifestAnswer s) M.Refused (manifestChecks s)
   pub header : (s : List ℕ) → Refuses (headerAnswer s) H.Refused (manifestChecks s)
   pub field : (s : List ℕ) (i : ℕ) → Refuses (fieldAnswer s i) F.Refused (fieldChecks s i)
@@ -132,6 +135,8 @@ pub record Demand2 : Type 0 where
   pub levelled : (s : List ℕ) (l i : ℕ) (past : List ℕ) → i < countOf s l → Holds (nodesOf s l ++ past) (5 * i) (numbersOf (nodeAt s l i))
   -- One meaning has one card.
   pub card : OneCard
+  -- (order 1) The settings read from an info file are those that its document says, and the card written of them reads back.
+  pub info : InfoMeaning
 
 -- ---- Demand 3
 

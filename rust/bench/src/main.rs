@@ -5,11 +5,12 @@
 //! runs, its median and its middle half, and, where the memory sets one, the
 //! limit. Both sides do the same work with the same tests, and must give the
 //! same answers. Words on the command line choose the measures whose group has
-//! one of them: key, place, shard, card, manifest, locate, desk.
+//! one of them: key, place, shard, card, info, manifest, locate, desk.
 
 mod cards;
 mod clock;
 mod desk;
+mod infos;
 mod locating;
 mod manifests;
 mod places;
@@ -17,11 +18,12 @@ mod runner;
 mod shards;
 
 /// The groups of measures, by the word that chooses them.
-const GROUPS: [(&str, fn()); 7] = [
+const GROUPS: [(&str, fn()); 8] = [
     ("key", places::run_keys),
     ("place", places::run_places),
     ("shard", shards::run),
     ("card", cards::run),
+    ("info", infos::run),
     ("manifest", manifests::run),
     ("locate", locating::run),
     ("desk", desk::run),

@@ -37,6 +37,12 @@ pub struct Part {
     pub sample: fn(&mut testkit::Rng) -> Vec<u8>,
 }
 
+/// Asks library and reference for a scale's settings in an info file, and panics
+/// where they differ. Gives the refusal that both gave, 0 for success.
+pub fn compare_info(text: &[u8], scale: u64) -> u8 {
+    parts::info::compare_text(text, scale)
+}
+
 /// All parts.
 pub const PARTS: &[Part] = &[
     parts::grid::GRID,
@@ -58,6 +64,7 @@ pub const PARTS: &[Part] = &[
     parts::settle::SAME,
     parts::card::CARD_READ,
     parts::card::CARD_WRITE,
+    parts::info::INFO_READ,
     parts::manifest::MANIFEST_CHECK,
     parts::manifest::MANIFEST_HEADER,
     parts::manifest::MANIFEST_LEVELS,

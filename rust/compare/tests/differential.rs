@@ -96,6 +96,7 @@ quick! {
     same: 160_000,
     card_read: 400_000,
     card_write: 300_000,
+    info_read: 200_000,
     manifest_check: 80_000,
     manifest_header: 60_000,
     manifest_levels: 10_000,

@@ -77,6 +77,35 @@ impl Card {
         numbers.map(of_numbers)
     }
 
+    /// Reads what the text of an info file says of its scale number `scale`,
+    /// from 0, as a card; or refusal 19, 20, 1, 2 or 3.
+    ///
+    /// ```
+    /// use coronagamba::Card;
+    ///
+    /// let text = br#"{"type": "image", "data_type": "uint8", "num_channels": 1,
+    ///     "scales": [{"key": "8_8_8", "resolution": [8, 8, 8], "encoding": "raw",
+    ///         "size": [100, 1, 1], "chunk_sizes": [[64, 1, 1]], "voxel_offset": [-64, 0, 0],
+    ///         "sharding": {"@type": "neuroglancer_uint64_sharded_v1", "preshift_bits": 0,
+    ///             "hash": "murmurhash3_x86_128", "minishard_bits": 3, "shard_bits": 9}}]}"#;
+    /// let card = Card::read_info(text, 0)?;
+    /// assert_eq!(card.sharding.shard_bits, 9);
+    /// assert_eq!(card.volume.offset, [-64, 0, 0].into());
+    /// assert_eq!(Card::read(&card.to_bytes()?)?, card);
+    /// assert_eq!(Card::read_info(text, 1).unwrap_err().number, 20);
+    /// assert_eq!(Card::read_info(&text[1..], 0).unwrap_err().number, 19);
+    /// # Ok::<(), coronagamba::Refusal>(())
+    /// ```
+    pub fn read_info(text: &[u8], scale: u64) -> Result<Card, Refusal> {
+        // SAFETY: pointer and count are those of one live slice; the results
+        // are four live arrays, lent to this call alone.
+        let numbers = given(|(sharding, size, chunk, offset): &mut Numbers| unsafe {
+            let (from, count) = (text.as_ptr(), text.len());
+            ffi::coronagamba_info_read(from, count, scale, sharding, size, chunk, offset)
+        });
+        numbers.map(of_numbers)
+    }
+
     /// Writes the card to the front of `out` and gives its length, 46 or 61;
     /// or refusal 1, 2, 3 or 13.
     pub fn write(&self, out: &mut [u8]) -> Result<usize, Refusal> {

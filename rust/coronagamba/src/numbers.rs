@@ -27,8 +27,8 @@ impl Refusal {
     /// A volume or chunk extent is 0, or a cell coordinate is not below its grid size.
     pub const NO_SUCH_CELL: u8 = 2;
 
-    /// A key is made or decoded, or a card read or written, and the grid needs more than 64 key
-    /// bits.
+    /// A key is made or decoded, or a card read or written, or an info file read, and the grid
+    /// needs more than 64 key bits.
     pub const TOO_MANY_KEY_BITS: u8 = 3;
 
     /// A key is no cell of the grid.
@@ -78,6 +78,14 @@ impl Refusal {
     /// No such level, node or field; or, where corners are asked for, that node has a position of
     /// 2^24 or more or either corner is not finite.
     pub const NO_SUCH_NODE: u8 = 18;
+
+    /// Not JSON, not UTF-8 or too deep, the outermost value being at depth 1 and each value in
+    /// another, a plain number too, one deeper; 32 is the greatest depth.
+    pub const INFO_NOT_JSON: u8 = 19;
+
+    /// No scale k, a needed member missing, a used one doubled or of the wrong kind, another @type
+    /// or a refused encoding.
+    pub const INFO_SETTINGS: u8 = 20;
 }
 
 /// Each number with its sentence, rising.
@@ -129,5 +137,13 @@ pub(crate) const SENTENCES: &[(u8, &str)] = &[
     (
         18,
         "There is no such level, node or field, or the node has no corners.",
+    ),
+    (
+        19,
+        "The info file is not JSON in UTF-8, or values in it lie too deep.",
+    ),
+    (
+        20,
+        "The info file does not give the settings of this scale.",
     ),
 ];

@@ -72,6 +72,8 @@ fn refused(number: u8) -> Refusal {
         18 => Manifest::open(&manifest(1.0, [0, 1]))
             .node(0, 2)
             .map(|_| ()),
+        19 => Card::read_info(b"{", 0).map(|_| ()),
+        20 => Card::read_info(b"{}", 0).map(|_| ()),
         _ => panic!("no call of these tests gives {number}"),
     };
     answer.expect_err("the call refuses")

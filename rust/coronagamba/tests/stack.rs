@@ -20,6 +20,22 @@ fn row(numbers: &[u64]) -> Vec<u8> {
     bytes.collect()
 }
 
+/// An info file whose other members lie 32 deep, half of them in objects, and
+/// one with a member that lies one deeper.
+fn info() -> (Vec<u8>, Vec<u8>) {
+    let nested = |inner: &str| format!("{}{inner}{}", "[{\"a\":".repeat(15), "}]".repeat(15));
+    let info = |member: String| {
+        format!(
+            r#"{{"a": {member}, "scales": [{{"size": [100, 200, 300], "chunk_sizes": [[64, 64, 64]],
+                "voxel_offset": [-64, 0, 0], "sharding": {{"@type": "neuroglancer_uint64_sharded_v1",
+                "preshift_bits": 0, "hash": "murmurhash3_x86_128", "minishard_bits": 1,
+                "shard_bits": 0}}}}]}}"#
+        )
+        .into_bytes()
+    };
+    (info(nested("0")), info(nested("[0]")))
+}
+
 /// A call of each kind. One that passes the stack ends the program.
 fn calls() {
     let volume = Volume::new([100, 200, 300], [64; 3], [-64, 0, 0]);
@@ -34,6 +50,12 @@ fn calls() {
         volume,
     };
     assert_eq!(Card::read(&card.to_bytes().expect("a card")), Ok(card));
+    let (info, deep) = info();
+    assert_eq!(Card::read_info(&info, 0), Ok(card));
+    assert_eq!(
+        Card::read_info(&deep, 0).map_err(|refusal| refusal.number),
+        Err(19)
+    );
     let id = (0..).find(|id| SHARDING.place(*id).map(|place| place.minishard) == Ok(0));
     let id = id.expect("an id of the first minishard");
     let file = [row(&[2, 26, 0, 0]), b"ab".to_vec(), row(&[id, 0, 2])].concat();

@@ -109,9 +109,14 @@ pub enum Fault {
         /// What was wrong, one sentence without an end.
         message: String,
     },
-    /// The card that gives the settings was refused or could not be read. It is
+    /// The file that gives the settings was refused or could not be read. It is
     /// told apart from the inputs.
-    Card(Box<Fault>),
+    Settings {
+        /// What it is: 'card' or 'info'.
+        kind: &'static str,
+        /// What is the matter with it.
+        fault: Box<Fault>,
+    },
     /// The operating system's error.
     System {
         /// The file or folder.
@@ -147,12 +152,20 @@ impl Fault {
         }
     }
 
+    /// The same over a file of this kind that gives the settings.
+    pub fn of_settings(self, kind: &'static str) -> Self {
+        Fault::Settings {
+            kind,
+            fault: Box::new(self),
+        }
+    }
+
     /// The exit status that goes with it.
     pub fn status(&self) -> Status {
         match self {
             Fault::Refused(_) => Status::No,
             Fault::Use { .. } => Status::Use,
-            Fault::Card(fault) => fault.status(),
+            Fault::Settings { fault, .. } => fault.status(),
             Fault::System { .. } | Fault::ClosedPipe | Fault::Unwritten { .. } => Status::System,
         }
     }
@@ -179,7 +192,7 @@ impl fmt::Display for Fault {
         match self {
             Fault::Refused(refused) => refused.fmt(f),
             Fault::Use { message } => f.write_str(message),
-            Fault::Card(fault) => fault.fmt(f),
+            Fault::Settings { fault, .. } => fault.fmt(f),
             Fault::System { path, done, error } => {
                 write!(f, "{}: cannot be {done}: {error}", shown(path))
             }

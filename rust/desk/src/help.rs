@@ -6,7 +6,9 @@ macro_rules! sharding {
     () => {
         "\
 settings, which are never assumed:
-  --card FILE         sharding and volume from a deposit card; or all of:
+  --card FILE         sharding and volume from a deposit card; or:
+  --info FILE         the same from an info file of the published format, and
+  --scale K           the number of its scale, from 0; or all of:
   --preshift N        low bits of an id that do not count, 0 to 63
   --hash NAME         identity or murmur (also: murmurhash3_x86_128)
   --minishard-bits N  0 to 12
@@ -130,9 +132,9 @@ A folder's shards are settled into files of the same names; the run goes on
 after a refused one. An output is written beside its place and gets its name
 only when it is whole. Inputs are never changed. A run that was stopped can
 be started again: what is already there with the same bytes is left. None of
-the inputs, the card among them, is ever an output too, by whatever path, also
-with --force. Who closes the output, as 'head' does, ends the run: shards that
-were not begun are not settled then.
+the inputs, the card or info file among them, is ever an output too, by
+whatever path, also with --force. Who closes the output, as 'head' does, ends
+the run: shards that were not begun are not settled then.
 
 ",
     sharding!(),
@@ -279,7 +281,7 @@ options:
     json!(),
     "
 exit status: 0 all located; 1 one is refused; 2 wrong use, or one is no cell;
-3 the card or standard input cannot be read.
+3 the settings or standard input cannot be read.
 
 example:
   coronagamba locate 1,2,1 0,0,0 --card demo/deposit.card
@@ -299,6 +301,8 @@ is no number is 'wrong', and standard error says why.
 
 settings, which are never assumed:
   --card FILE         the volume from a deposit card; or:
+  --info FILE         the same from an info file of the published format, and
+  --scale K           the number of its scale, from 0; or:
 ",
     volume!(),
     "
@@ -307,7 +311,7 @@ options:
     json!(),
     "
 exit status: 0 all are cells; 1 one is refused; 2 wrong use, or one is no
-number; 3 the card cannot be read.
+number; 3 the settings cannot be read.
 
 example:
   coronagamba cell 21 0x15 --card demo/deposit.card
@@ -337,7 +341,7 @@ options:
     json!(),
     "
 exit status: 0 all are named; 1 one is refused; 2 wrong use, or one is no
-cell; 3 the card cannot be read.
+cell; 3 the settings cannot be read.
 
 example:
   coronagamba name 1,2,1 --card demo/deposit.card
@@ -352,6 +356,7 @@ volume of a deposit in 46 or 61 bytes, so that nobody has to assume them.
 
 usage: coronagamba card make --out FILE [OPTIONS]
        coronagamba card show FILE [--json]
+       coronagamba card show --info FILE --scale K [--json]
        coronagamba card check FILE... [--json]
 
 'coronagamba card make --help' and so on tell more.
@@ -363,11 +368,15 @@ example:
 /// `card make`.
 pub const CARD_MAKE: &str = concat!(
     "\
-Writes a deposit card.
+Writes a deposit card, from an info file or from options.
 
-usage: coronagamba card make --out FILE [OPTIONS]
+usage: coronagamba card make --info FILE --scale K --out FILE2 [OPTIONS]
+       coronagamba card make --out FILE [OPTIONS]
 
-what the card says, all needed but the offset:
+what the card says:
+  --info FILE         what an info file of the published format says, and
+  --scale K           the number of its scale, from 0; or these, all needed but
+                      the offset:
   --preshift N        low bits of an id that do not count, 0 to 63
   --hash NAME         identity or murmur (also: murmurhash3_x86_128)
   --minishard-bits N  0 to 12
@@ -379,10 +388,11 @@ options:
   --out FILE          the card; it appears only when it is whole
   --force             overwrite an existing file
 
-exit status: 0 written; 1 no card can say this; 2 wrong use, or the output
-exists; 3 the file cannot be written.
+exit status: 0 written; 1 no card can say this, or the info file is refused; 2
+wrong use, or the output exists; 3 a file cannot be read or written.
 
-example, the card of the sample deposit:
+example, the card of the sample deposit, twice:
+  coronagamba card make --info demo/info --scale 0 --out info.card
   coronagamba card make --out my.card --preshift 1 --hash identity \\
     --minishard-bits 1 --shard-bits 3 --size 300,260,200 --chunk 64,64,64 \\
     --offset -64,0,0
@@ -392,19 +402,24 @@ example, the card of the sample deposit:
 /// `card show`.
 pub const CARD_SHOW: &str = concat!(
     "\
-Shows what a deposit card says, and the same settings as options.
+Shows what a deposit card says, or a scale of an info file, and the same
+settings as options.
 
 usage: coronagamba card show FILE [OPTIONS]
+       coronagamba card show --info FILE --scale K [OPTIONS]
 
 options:
+  --info FILE         an info file of the published format, in a card's place
+  --scale K           the number of its scale, from 0
 ",
     json!(),
     "
-exit status: 0 shown; 1 the card is refused; 2 wrong use; 3 the file cannot be
-read.
+exit status: 0 shown; 1 the card or info file is refused; 2 wrong use; 3 the
+file cannot be read.
 
 example:
   coronagamba card show demo/deposit.card
+  coronagamba card show --info demo/info --scale 1
 ",
 );
 
@@ -516,7 +531,8 @@ to do. Without a number, all of them in short.
 
 usage: coronagamba explain [N] [OPTIONS]
 
-Bytes, minishards, entries, levels and nodes are counted from 0 everywhere.
+Bytes, minishards, entries, levels, nodes and scales are counted from 0
+everywhere; lines and columns of an info file from 1.
 
 options:
 ",
@@ -543,6 +559,8 @@ DIR must be missing or empty. It then has:
                   missing
   murmur.card     the same volume under another hash
   murmur          its shards
+  info            an info file of the published format: scale 0 says what
+                  deposit.card says, scale 1 what murmur.card says
   mesh.manifest   a mesh manifest
 
 exit status: 0 made; 2 wrong use, or DIR is not empty; 3 it cannot be written.

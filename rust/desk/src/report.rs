@@ -118,7 +118,7 @@ pub fn complaint(text: impl fmt::Display) {
 fn fault_object(fault: &Fault) -> Option<Object> {
     match fault {
         Fault::Refused(refused) => Some(refusal_object(refused)),
-        Fault::Card(fault) => Some(fault_object(fault)?.text("subject", "card")),
+        Fault::Settings { kind, fault } => Some(fault_object(fault)?.text("subject", kind)),
         Fault::System { path, .. } => Some(
             Object::new()
                 .path(path)
@@ -159,6 +159,9 @@ pub fn diagnosis_members(object: Object, diagnosis: &Diagnosis) -> Object {
         .text("look_at", &diagnosis.look_at);
     if let Some(byte) = diagnosis.byte {
         object = object.number("byte", byte);
+    }
+    if let Some((line, column)) = diagnosis.line {
+        object = object.number("line", line).number("column", column);
     }
     if let Some((entry, id)) = diagnosis.entry {
         object = object.number("entry", entry).number("id", id);
@@ -212,6 +215,7 @@ mod tests {
     fn a_refusal_as_an_object() {
         let diagnosis = Diagnosis {
             byte: Some(460),
+            line: Some((4, 7)),
             entry: Some((3, 1 << 64)),
             ..Diagnosis::new("f", "e", "l")
         };
@@ -224,7 +228,7 @@ mod tests {
             refusal_object(&refused).finish(),
             "{\"path\":\"0.shard\",\"result\":\"refused\",\"refusal\":11,\"minishard\":2,\
              \"sentence\":\"A chunk ends past the file.\",\"found\":\"f\",\"expected\":\"e\",\
-             \"look_at\":\"l\",\"byte\":460,\"entry\":3,\"id\":18446744073709551616}"
+             \"look_at\":\"l\",\"byte\":460,\"line\":4,\"column\":7,\"entry\":3,\"id\":18446744073709551616}"
         );
     }
 }

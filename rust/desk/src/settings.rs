@@ -1,4 +1,5 @@
-//! The sharding and the volume, from a deposit card or from plain options.
+//! The sharding and the volume, from a deposit card, from an info file or from
+//! plain options.
 //! Nothing is assumed: a deposit was once opened under an assumed hash.
 
 use std::ffi::OsStr;
@@ -9,12 +10,14 @@ use coronagamba::{Card, Cell, Extents, Offset, Sharding, Volume};
 use crate::args::{decimal, triple, value, Args, Opt, I32, U32, U8};
 use crate::diagnosis;
 use crate::fault::{Fault, Refused};
-use crate::files::read_whole;
+use crate::files::{read_whole, MOST_BYTES};
 use crate::report::shown;
 
 /// The options that give settings.
 pub const OPTIONS: &[Opt] = &[
     value(CARD),
+    value(INFO),
+    value(SCALE),
     value("--preshift"),
     value("--hash"),
     value("--minishard-bits"),
@@ -24,10 +27,18 @@ pub const OPTIONS: &[Opt] = &[
     value(OFFSET),
 ];
 
-/// The options that give settings one by one, as `card make` takes them.
-pub const PLAIN_OPTIONS: &[Opt] = OPTIONS.split_at(1).1;
+/// The options that give what a card should hold, as `card make` takes them.
+pub const FOR_CARD: &[Opt] = OPTIONS.split_at(1).1;
+
+/// The options that name an info file and one of its scales.
+pub const INFO_OPTIONS: &[Opt] = FOR_CARD.split_at(2).0;
+
+/// The options that give settings one by one.
+const PLAIN_OPTIONS: &[Opt] = FOR_CARD.split_at(2).1;
 
 const CARD: &str = "--card";
+const INFO: &str = "--info";
+const SCALE: &str = "--scale";
 const SHARDING: [&str; 4] = ["--preshift", "--hash", "--minishard-bits", "--shard-bits"];
 const EXTENTS: [&str; 2] = ["--size", "--chunk"];
 const OFFSET: &str = "--offset";
@@ -38,7 +49,7 @@ pub struct Settings {
     /// The sharding specification, allowed by the library.
     pub sharding: Sharding,
     /// The volume, where one is given. The library has not judged it unless it
-    /// comes from a card.
+    /// comes from a card or an info file.
     pub volume: Option<Volume>,
 }
 
@@ -78,9 +89,14 @@ pub fn volume(args: &Args) -> Result<Volume, Fault> {
     Ok(volume)
 }
 
-/// What plain options say a card should hold. Writing the card judges it.
+/// What an info file or plain options say a card should hold. Writing the card
+/// judges the latter.
 pub fn for_card(args: &Args) -> Result<Card, Fault> {
-    let given = plain(args, &[SHARDING.as_slice(), &EXTENTS].concat(), "")?;
+    if let Some((path, scale)) = info_given(args)? {
+        return read_info(path, scale);
+    }
+    let hint = " (an info file gives them all: --info FILE --scale K)";
+    let given = plain(args, &[SHARDING.as_slice(), &EXTENTS].concat(), hint)?;
     Ok(Card {
         sharding: there(given.sharding),
         volume: there(given.volume),
@@ -110,13 +126,23 @@ fn refused_volume(volume: Volume, refusal: coronagamba::Refusal) -> Fault {
     Refused::asked("settings", refusal, diagnosis).into()
 }
 
-/// Reads the card, or the options that stand in its place.
+/// The files that give the settings: they are inputs, and never written over.
+pub fn files(args: &Args) -> impl Iterator<Item = &Path> {
+    let named = [CARD, INFO].into_iter();
+    named.filter_map(|name| args.value(name).map(Path::new))
+}
+
+/// Reads the card, the info file, or the options that stand in their place.
 fn read(args: &Args, needed: &[&'static str]) -> Result<Given, Fault> {
-    let Some(path) = args.value(CARD) else {
-        let hint = " (a deposit card gives them all: --card FILE)";
-        return plain(args, needed, hint);
+    let card = match (card_given(args)?, info_given(args)?) {
+        (Some(path), _) => read_card(path)?,
+        (None, Some((path, scale))) => read_info(path, scale)?,
+        (None, None) => {
+            let hint =
+                " (a deposit card gives them all: --card FILE; so does an info file: --info FILE --scale K)";
+            return plain(args, needed, hint);
+        }
     };
-    let card = read_card(args, Path::new(path))?;
     Ok(Given {
         sharding: Some(card.sharding),
         volume: Some(card.volume),
@@ -151,17 +177,67 @@ fn missing(args: &Args, with_sharding: bool, with_volume: bool) -> Vec<&'static 
     needed.filter(|name| !args.flag(name)).collect()
 }
 
-/// Reads the card of a deposit.
-fn read_card(args: &Args, path: &Path) -> Result<Card, Fault> {
-    if let Some(option) = PLAIN_OPTIONS.iter().find(|option| args.flag(option.name)) {
-        return Err(Fault::wrong_use(format!(
-            "--card and {} are given together; a card already says it",
-            option.name
-        )));
+/// The card that is named, with nothing beside it that says the same.
+fn card_given(args: &Args) -> Result<Option<&Path>, Fault> {
+    let given = args.value(CARD).map(Path::new);
+    if given.is_some() {
+        alone(args, FOR_CARD, "--card", "a card")?;
     }
+    Ok(given)
+}
+
+/// The info file that is named and its scale, with nothing beside them that
+/// says the same.
+pub fn info_given(args: &Args) -> Result<Option<(&Path, u64)>, Fault> {
+    match (args.value(INFO), args.number(SCALE)?) {
+        (None, None) => Ok(None),
+        (None, Some(_)) => Err(Fault::wrong_use("--scale is given without --info")),
+        (Some(_), None) => Err(Fault::wrong_use(
+            "settings are never assumed; missing: --scale, the number of the info file's scale, from 0",
+        )),
+        (Some(path), Some(scale)) => {
+            alone(args, PLAIN_OPTIONS, "--info", "an info file")?;
+            Ok(Some((Path::new(path), scale)))
+        }
+    }
+}
+
+/// None of these options is given beside what already says it.
+fn alone(args: &Args, options: &[Opt], name: &str, what: &str) -> Result<(), Fault> {
+    match options.iter().find(|option| args.flag(option.name)) {
+        None => Ok(()),
+        Some(option) => Err(Fault::wrong_use(format!(
+            "{name} and {} are given together; {what} already says it",
+            option.name
+        ))),
+    }
+}
+
+/// Reads the card of a deposit.
+fn read_card(path: &Path) -> Result<Card, Fault> {
     read_whole(path)
         .and_then(|bytes| card_in(path, &bytes))
-        .map_err(|fault| Fault::Card(Box::new(fault)))
+        .map_err(|fault| fault.of_settings("card"))
+}
+
+/// Reads the settings of a scale from an info file.
+fn read_info(path: &Path, scale: u64) -> Result<Card, Fault> {
+    read_whole(path)
+        .and_then(|text| info_in(path, &text, scale))
+        .map_err(|fault| fault.of_settings("info"))
+}
+
+/// The settings of a scale in the text of an info file.
+pub fn info_in(path: &Path, text: &[u8], scale: u64) -> Result<Card, Fault> {
+    if text.len() as u64 >= MOST_BYTES {
+        // It was read only so far, and what was read may say something else.
+        let message = format!("{}: longer than 1 GiB, and not read", shown(path));
+        return Err(Fault::wrong_use(message));
+    }
+    Card::read_info(text, scale).map_err(|refusal| {
+        let diagnosis = diagnosis::of_info(text, scale, refusal);
+        Refused::file(path, refusal, diagnosis).into()
+    })
 }
 
 /// The card in a file's bytes.
@@ -258,7 +334,7 @@ mod tests {
         let named = |names: &str| {
             format!(
                 "settings are never assumed; missing: {names} (a deposit card gives them all: \
-                 --card FILE)"
+                 --card FILE; so does an info file: --info FILE --scale K)"
             )
         };
         assert_eq!(
@@ -314,8 +390,62 @@ mod tests {
             both,
             "--card and --hash are given together; a card already says it"
         );
-        assert_eq!(PLAIN_OPTIONS.len(), OPTIONS.len() - 1);
-        assert!(PLAIN_OPTIONS.iter().all(|option| option.name != CARD));
+        let told = |line: &str| complaint(of_shards(&args(line)), 2);
+        assert_eq!(
+            told("--card a --info b --scale 0"),
+            "--card and --info are given together; a card already says it"
+        );
+        assert_eq!(
+            told("--info a --scale 0 --size 1,1,1"),
+            "--info and --size are given together; an info file already says it"
+        );
+        assert_eq!(
+            told("--info a"),
+            "settings are never assumed; missing: --scale, the number of the info file's scale, from 0"
+        );
+        assert_eq!(told("--scale 0"), "--scale is given without --info");
+        assert!(told("--info a --scale -1").starts_with("--scale: '-1' is not a number"));
+        assert_eq!(
+            complaint(for_card(&args("--scale 0")), 2),
+            told("--scale 0")
+        );
+        assert!(FOR_CARD.iter().all(|option| option.name != CARD));
+        assert!(INFO_OPTIONS
+            .iter()
+            .map(|option| option.name)
+            .eq([INFO, SCALE]));
+        assert_eq!(PLAIN_OPTIONS.len(), OPTIONS.len() - 3);
+    }
+
+    #[test]
+    fn an_info_file_gives_all() {
+        let folder = crate::trial::Folder::new("settings-info");
+        let text = r#"{"scales": [{"size": [9, 9, 9]},
+            {"size": [100, 90, 80], "chunk_sizes": [[64, 32, 16]], "voxel_offset": [-64, 0, 7],
+             "sharding": {"@type": "neuroglancer_uint64_sharded_v1", "preshift_bits": 1,
+                "hash": "murmurhash3_x86_128", "minishard_bits": 2, "shard_bits": 3}}]}"#;
+        let path = folder.write("info", text.as_bytes());
+        let given = |scale: u64| args(&format!("--info {} --scale {scale}", path.display()));
+        let volume = Volume::new([100, 90, 80], [64, 32, 16], [-64, 0, 7]);
+        assert_eq!(of_cells(&given(1)).unwrap(), (ALLOWED, volume));
+        assert_eq!(of_shards(&given(1)).unwrap().volume, Some(volume));
+        let card = for_card(&given(1)).unwrap();
+        assert_eq!((card.sharding, card.volume), (ALLOWED, volume));
+        let told = complaint(of_shards(&given(0)), 1);
+        assert!(told.contains("info: refused 20: "), "{told}");
+        assert!(
+            told.contains("look at: line 1, column 13 (byte 12)"),
+            "{told}"
+        );
+        let told = complaint(for_card(&given(2)), 1);
+        assert!(told.contains("found: 2 scales, numbers 0 to 1"), "{told}");
+        folder.write("info", b"{\"scales\": [\n}");
+        let told = complaint(of_shards(&given(1)), 1);
+        assert!(told.contains("info: refused 19: "), "{told}");
+        assert!(
+            told.contains("look at: line 2, column 1 (byte 13)"),
+            "{told}"
+        );
     }
 
     #[test]

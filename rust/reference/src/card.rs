@@ -77,7 +77,7 @@ fn parse(bytes: &[u8]) -> Result<Card, u8> {
 }
 
 /// Tests 1, 2 and 3 of what a card says.
-fn judge(card: &Card) -> Result<(), u8> {
+pub(crate) fn judge(card: &Card) -> Result<(), u8> {
     card.sharding.allowed()?;
     if key_bits(grid_size(&card.volume)?) > 64 {
         return Err(3);

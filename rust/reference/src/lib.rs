@@ -9,6 +9,8 @@
 pub mod card;
 pub mod endian;
 pub mod grid;
+pub mod info;
+pub mod json;
 pub mod locate;
 pub mod manifest;
 pub mod murmur;

@@ -7,6 +7,7 @@
 #![forbid(unsafe_code)]
 
 pub mod cards;
+pub mod infos;
 pub mod lent;
 pub mod manifests;
 pub mod places;

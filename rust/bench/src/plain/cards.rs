@@ -26,7 +26,7 @@ fn three(body: &[u8]) -> [u32; 3] {
 }
 
 /// Tests 1, 2 and 3 of what a card says.
-fn judge(card: &Card) -> Result<(), u8> {
+pub(super) fn judge(card: &Card) -> Result<(), u8> {
     judged(&card.sharding)?;
     if grid(&card.volume)?.map(bits).iter().sum::<u32>() > 64 {
         return Err(3);

@@ -2,6 +2,7 @@
 
 pub mod card;
 pub mod grid;
+pub mod info;
 pub mod manifest;
 pub mod names;
 pub mod settle;

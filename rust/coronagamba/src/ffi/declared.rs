@@ -272,6 +272,20 @@ extern "C" {
         length: *mut u64,
     ) -> u64;
 
+    /// What the text of an info file says of its scale number `scale`, from 0: the numbers that a
+    /// deposit card of it says, written as coronagamba_card_read writes them.
+    ///
+    /// Refusals: 19, 20, 1, 2, 3
+    pub fn coronagamba_info_read(
+        text: *const u8,
+        count: usize,
+        scale: u64,
+        sharding: *mut [u8; 4],
+        size: *mut [u32; 3],
+        chunk: *mut [u32; 3],
+        offset: *mut [i32; 3],
+    ) -> u64;
+
     /// Whether the bytes are a sound manifest. Writes nothing.
     ///
     /// Refusals: 15, 16, 17

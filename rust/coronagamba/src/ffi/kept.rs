@@ -250,6 +250,38 @@ fn on_faulty_card((number, bytes): &(u64, Vec<u8>)) -> Vec<Case<'_>> {
     })
 }
 
+/// An info file of a volume of this size in chunks of one voxel.
+fn info(preshift: &str, size: u32) -> Vec<u8> {
+    let sharding = format!(
+        r#"{{"@type": "neuroglancer_uint64_sharded_v1", "preshift_bits": {preshift},
+            "hash": "identity", "minishard_bits": 1, "shard_bits": 0}}"#
+    );
+    format!(
+        r#"{{"scales": [{{"size": [{size}, {size}, {size}], "chunk_sizes": [[1, 1, 1]],
+            "voxel_offset": [-1, 0, 1], "sharding": {sharding}}}]}}"#
+    )
+    .into_bytes()
+}
+
+fn faulty_infos() -> Vec<(u64, Vec<u8>)> {
+    vec![
+        (19, info("00", 8)),
+        (20, info("0.5", 8)),
+        (1, info("64", 8)),
+        (2, info("0", 0)),
+        (3, info("0", 1 << 22)),
+    ]
+}
+
+fn on_faulty_info((number, bytes): &(u64, Vec<u8>)) -> Vec<Case<'_>> {
+    let (from, count) = (bytes.as_ptr(), bytes.len());
+    Vec::from(cases! { lent:
+        *number => coronagamba_info_read(
+            from, count, 0, lent.one(), lent.one(), lent.one(), lent.one(),
+        );
+    })
+}
+
 fn card_write() -> Vec<Case<'static>> {
     let (empty, row) = (volume([0, 1, 1]), volume([5, 3, 1]));
     let large = volume([1 << 22, 1 << 22, 1 << 21]);
@@ -361,6 +393,7 @@ fn named() -> BTreeSet<(String, u64)> {
 #[test]
 fn a_refusal_leaves_every_lent_byte() {
     let (shards, cards, manifests) = (faulty_shards(), faulty_cards(), faulty_manifests());
+    let infos = faulty_infos();
     let (sound, long) = (shard([5, 53], ROWS), overlapping());
     let far = manifest(1.0, [0, 1 << 24]);
     let cases: Vec<Case> = [grid(), sharding(), card_write()]
@@ -368,6 +401,7 @@ fn a_refusal_leaves_every_lent_byte() {
         .chain(shards.iter().map(on_faulty_shard))
         .chain([on_sound_shard(&sound), on_overlapping_shard(&long)])
         .chain(cards.iter().map(on_faulty_card))
+        .chain(infos.iter().map(on_faulty_info))
         .chain(manifests.iter().map(on_faulty_manifest))
         .chain([on_sound_manifest(&far)])
         .flatten()

@@ -19,7 +19,7 @@ use crate::settings;
 pub const MAKE: Command = Command {
     name: "card make",
     help: help::CARD_MAKE,
-    options: &[settings::PLAIN_OPTIONS, &[value("--out"), flag("--force")]],
+    options: &[settings::FOR_CARD, &[value("--out"), flag("--force")]],
     run: make,
 };
 
@@ -27,7 +27,7 @@ pub const MAKE: Command = Command {
 pub const SHOW: Command = Command {
     name: "card show",
     help: help::CARD_SHOW,
-    options: &[&[flag("--json")]],
+    options: &[settings::INFO_OPTIONS, &[flag("--json")]],
     run: show,
 };
 
@@ -44,7 +44,9 @@ fn make(args: &Args, report: &mut Report) -> Result<(), Fault> {
     let out = Path::new(args.needed("--out")?);
     let card = settings::for_card(args)?;
     let bytes = card.to_bytes().map_err(|refusal| refused(&card, refusal))?;
-    remove_stale_parts_of(out, &Inputs::default());
+    let inputs = Inputs::of(settings::files(args));
+    inputs.spare(out)?;
+    remove_stale_parts_of(out, &inputs);
     write_new(out, args.flag("--force"), &bytes)?;
     report.line(format_args!(
         "{}: card written, {} bytes",
@@ -91,10 +93,22 @@ fn check_file(report: &mut Report, path: &Path) -> Result<(), Fault> {
 }
 
 fn show(args: &Args, report: &mut Report) -> Result<(), Fault> {
-    let [file] = args.exactly(["FILE"])?;
-    let path = Path::new(file);
+    let (path, scale) = match settings::info_given(args)? {
+        Some((path, scale)) => {
+            let [] = args.exactly([])?;
+            (path, Some(scale))
+        }
+        None => {
+            let [file] = args.exactly(["FILE (or --info FILE --scale K)"])?;
+            (Path::new(file), None)
+        }
+    };
     let bytes = read_whole(path)?;
-    let shown = Shown::new(settings::card_in(path, &bytes)?, path)?;
+    let card = match scale {
+        Some(scale) => settings::info_in(path, &bytes, scale)?,
+        None => settings::card_in(path, &bytes)?,
+    };
+    let shown = Shown::new(card, path, scale)?;
     if report.json() {
         report.object(shown.object(path, bytes.len()))
     } else {
@@ -102,9 +116,11 @@ fn show(args: &Args, report: &mut Report) -> Result<(), Fault> {
     }
 }
 
-/// A card with what follows from it.
+/// What a card or a scale of an info file says, with what follows from it.
 struct Shown {
     card: Card,
+    /// The scale of an info file.
+    scale: Option<u64>,
     hash: &'static str,
     grid: Extents,
     /// The names of the first and the last shard file.
@@ -112,7 +128,7 @@ struct Shown {
 }
 
 impl Shown {
-    fn new(card: Card, path: &Path) -> Result<Shown, Fault> {
+    fn new(card: Card, path: &Path, scale: Option<u64>) -> Result<Shown, Fault> {
         let Sharding {
             shard_bits, hash, ..
         } = card.sharding;
@@ -123,6 +139,7 @@ impl Shown {
         let name = |number| card.sharding.shard_name(number).map_err(refused);
         Ok(Shown {
             card,
+            scale,
             hash: if hash == 0 { "identity" } else { "murmur" },
             grid: card.volume.grid().map_err(refused)?,
             ends: [name(0)?, name((1 << shard_bits) - 1)?],
@@ -142,7 +159,13 @@ impl Shown {
         let size = extents(self.card.volume.size);
         let chunk = extents(self.card.volume.chunk);
         let Offset { x, y, z } = self.card.volume.offset;
-        report.line(format_args!("{}: card of {length} bytes", shown(path)))?;
+        report.line(match self.scale {
+            None => format!("{}: card of {length} bytes", shown(path)),
+            Some(scale) => format!(
+                "{}: scale {scale} of an info file of {length} bytes",
+                shown(path)
+            ),
+        })?;
         report.line(format_args!("  preshift: {preshift}"))?;
         report.line(format_args!("  hash: {hash}"))?;
         report.line(format_args!(
@@ -174,10 +197,15 @@ impl Shown {
         let volume = self.card.volume;
         let three = |Extents { x, y, z }: Extents| [x, y, z];
         let Offset { x, y, z } = volume.offset;
-        Object::new()
+        let object = Object::new()
             .path(path)
             .text("result", "sound")
-            .number("bytes", length as u64)
+            .number("bytes", length as u64);
+        let object = match self.scale {
+            None => object,
+            Some(scale) => object.number("scale", scale),
+        };
+        object
             .number("preshift", preshift)
             .text("hash", self.hash)
             .number("minishard_bits", minishard_bits)

@@ -42,8 +42,7 @@ fn run(args: &Args, report: &mut Report) -> Result<(), Fault> {
     }
     let out = args.value("--out").map(Path::new);
     if let Some(out) = out {
-        let inputs = [Some(path.as_path()), args.value("--card").map(Path::new)];
-        let inputs = Inputs::of(inputs.into_iter().flatten());
+        let inputs = Inputs::of(settings::files(args).chain([path.as_path()]));
         inputs.spare(out)?;
         remove_stale_parts_of(out, &inputs);
     }

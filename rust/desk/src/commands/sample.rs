@@ -94,6 +94,7 @@ fn next(folder: &str) -> String {
   coronagamba same {folder}/copy-a {folder}/copy-b --card {folder}/deposit.card
   coronagamba check {folder}/damaged --card {folder}/deposit.card
   coronagamba get {folder}/copy-b --cell 1,2,1 --card {folder}/deposit.card
+  coronagamba check {folder}/murmur --info {folder}/info --scale 1
   coronagamba manifest show {folder}/mesh.manifest"
     )
 }

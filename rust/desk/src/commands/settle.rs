@@ -51,12 +51,11 @@ fn run(args: &Args, report: &mut Report) -> Result<(), Fault> {
     if shards.is_empty() {
         return round::tell_no_shards(source, others, report);
     }
-    let card = args.value("--card").map(Path::new);
     let paths = shards.iter().map(|shard| shard.path.as_path());
     let task = Task {
         sharding,
         force: args.flag("--force"),
-        inputs: Inputs::of(paths.chain(card)),
+        inputs: Inputs::of(paths.chain(settings::files(args))),
     };
     if of_folder {
         let summary = task.folder(workers, shards, out, report)?;

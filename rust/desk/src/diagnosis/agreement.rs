@@ -6,7 +6,7 @@ use std::collections::BTreeSet;
 use compare::sides::{sharding, volume};
 use coronagamba::{Card, Cell, Manifest, Refusal, Shard};
 use testkit::shards::{self, Sample};
-use testkit::{manifests, places, Rng};
+use testkit::{infos, manifests, places, Rng};
 
 use super::*;
 
@@ -128,6 +128,20 @@ fn of_cards() {
         explained.note(Card::read(&card), |refusal| of_card(&card, refusal));
     }
     explained.assert_exactly([1, 2, 3, 14]);
+}
+
+#[test]
+fn of_info_files() {
+    let mut rng = Rng::new(1_105);
+    let mut explained = Explained::default();
+    for _ in 0..40_000 {
+        let (text, scale) = infos::text(&mut rng);
+        let told = explained.note(Card::read_info(&text, scale), |refusal| {
+            of_info(&text, scale, refusal)
+        });
+        assert!(told.is_none_or(|told| told.line.is_some()));
+    }
+    explained.assert_exactly([1, 2, 3, 19, 20]);
 }
 
 #[test]

@@ -2,16 +2,19 @@
 //! where to look. It reads the same bytes beside the library and explains; the
 //! number and the minishard are always the library's.
 //!
-//! Bytes, minishards, entries, levels and nodes are counted from 0.
+//! Bytes, minishards, entries, levels and nodes are counted from 0, lines and
+//! columns of a text from 1.
 
 #[cfg(test)]
 mod agreement;
 mod card;
+mod info;
 mod manifest;
 mod places;
 mod shard;
 
 pub use card::of_card;
+pub use info::of_info;
 pub use manifest::{of_manifest, of_node};
 pub use places::{of_cell, of_key, of_shard_number, of_sharding, of_volume};
 pub use shard::{of_listing, of_lookup, of_shard};
@@ -27,6 +30,9 @@ pub struct Diagnosis {
     pub look_at: String,
     /// The byte to look at, where there is one; the first of them.
     pub byte: Option<u64>,
+    /// The line and the column to look at in a text, counted from 1; the first
+    /// of them.
+    pub line: Option<(u64, u64)>,
     /// The entry of the minishard index that is at fault, and its id, which may
     /// need more than 64 bits.
     pub entry: Option<(u64, u128)>,
@@ -39,12 +45,13 @@ impl Diagnosis {
         expected: impl Into<String>,
         look_at: impl Into<Place>,
     ) -> Self {
-        let Place { words, byte } = look_at.into();
+        let Place { words, byte, line } = look_at.into();
         Diagnosis {
             found: found.into(),
             expected: expected.into(),
             look_at: words,
             byte,
+            line,
             entry: None,
         }
     }
@@ -72,6 +79,7 @@ impl Diagnosis {
 pub struct Place {
     words: String,
     byte: Option<u64>,
+    line: Option<(u64, u64)>,
 }
 
 impl Place {
@@ -80,6 +88,16 @@ impl Place {
         Place {
             words: format!("byte {place} of {of} ({what})"),
             byte: Some(place),
+            line: None,
+        }
+    }
+
+    /// A place in a text.
+    fn text(line: u64, column: u64, byte: u64) -> Self {
+        Place {
+            words: format!("line {line}, column {column} (byte {byte})"),
+            byte: Some(byte),
+            line: Some((line, column)),
         }
     }
 
@@ -89,6 +107,7 @@ impl Place {
         Place {
             words: words.join(", "),
             byte: places.first().and_then(|place| place.byte),
+            line: places.first().and_then(|place| place.line),
         }
     }
 
@@ -106,6 +125,7 @@ impl<T: Into<String>> From<T> for Place {
         Place {
             words: words.into(),
             byte: None,
+            line: None,
         }
     }
 }

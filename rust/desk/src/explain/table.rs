@@ -10,9 +10,10 @@ pub const TABLE: &[Explained] = &[
         number: 1,
         given: "preshift above 63, hash neither identity nor murmur, minishard bits above 12, or \
          shard bits above 32",
-        cause: "A mistyped option, or a card that was made for another format.",
-        remedy: "Take the four values from the deposit's own papers or its info file, and make \
-         the card again with 'card make'.",
+        cause: "A mistyped option, a card that was made for another format, or an info file with \
+         a hash that this archive does not know.",
+        remedy: "Make the card again from the deposit's info file, with 'card make --info', or \
+         take the four values from the deposit's own papers.",
     },
     Explained {
         number: 2,
@@ -24,8 +25,8 @@ pub const TABLE: &[Explained] = &[
     },
     Explained {
         number: 3,
-        given: "a key is made or decoded, or a card read or written, and the grid needs more \
-         than 64 key bits",
+        given: "a key is made or decoded, or a card read or written, or an info file read, and \
+         the grid needs more than 64 key bits",
         cause: "A chunk size that is much too small for the volume, often 1,1,1 by mistake.",
         remedy: "Correct --size and --chunk. Such a grid has no keys in the published format.",
     },
@@ -150,5 +151,26 @@ pub const TABLE: &[Explained] = &[
         remedy: "'manifest show' tells how many levels and nodes there are. A node without \
          corners has its position and its fragment all the same; compare its position, \
          the chunk shape and the grid origin with the source.",
+    },
+    Explained {
+        number: 19,
+        given: "not JSON, not UTF-8 or too deep, the outermost value being at depth 1 and each \
+         value in another, a plain number too, one deeper; 32 is the greatest depth",
+        cause: "A file that is no info file, one that was cut short or edited by hand, with a \
+         comma too many, a comment or single quotes; a byte order mark, or an encoding \
+         other than UTF-8; a compressed file.",
+        remedy: "Look at the line and column that the desk tool tells. Copy the info file again \
+         from its source, or have its writer write plain JSON.",
+    },
+    Explained {
+        number: 20,
+        given: "no scale k, a needed member missing, a used one doubled or of the wrong kind, \
+         another @type or a refused encoding",
+        cause: "A scale beyond the last one; they count from 0. A scale that is not sharded, so \
+         that it has no 'sharding'; more than one chunk size; a number with a fraction, an \
+         exponent or quotes, or one too large for a card; or index or data that is \
+         compressed with gzip, which this archive does not hold.",
+        remedy: "Look at the line and column that the desk tool tells, and at the scale's \
+         number. A deposit whose encoding is not raw must be written anew by its maker.",
     },
 ];

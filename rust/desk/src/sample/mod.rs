@@ -3,6 +3,7 @@
 //! same every time.
 
 mod damage;
+mod info;
 mod layout;
 mod mesh;
 mod volume;
@@ -21,6 +22,9 @@ const DEPOSIT: Sharding = Sharding {
 /// The same but for the hash: what a deposit looks like that is opened under
 /// an assumed one.
 const MURMUR: Sharding = Sharding { hash: 1, ..DEPOSIT };
+
+/// The scales of the info file: a folder of shards and its sharding.
+const SCALES: [(&str, &Sharding); 2] = [("copy-a", &DEPOSIT), ("murmur", &MURMUR)];
 
 /// Shard files by shard number.
 type Shards = BTreeMap<u64, Vec<u8>>;
@@ -62,6 +66,11 @@ pub fn parts() -> Result<Vec<Part>, Refusal> {
         folder("damaged", &DEPOSIT, damaged, "copy-b from a failing disk")?,
         card("murmur.card", &MURMUR, "the same volume, another hash")?,
         folder("murmur", &MURMUR, murmur, "the same chunks under that hash")?,
+        Part {
+            name: "info",
+            about: "an info file; scale 0 is copy-a, scale 1 is murmur".to_string(),
+            files: Files::One(info::text(&SCALES).into_bytes()),
+        },
         Part {
             name: "mesh.manifest",
             about: "a mesh manifest of 3 levels".to_string(),
@@ -127,4 +136,21 @@ fn damaged(mut shards: Shards) -> Shards {
         }
     }
     shards
+}
+
+#[cfg(test)]
+mod tests {
+    use super::*;
+
+    #[test]
+    fn the_info_file_says_what_the_cards_say() {
+        let text = info::text(&SCALES);
+        for (scale, sharding) in [&DEPOSIT, &MURMUR].into_iter().enumerate() {
+            let card = Card {
+                sharding: *sharding,
+                volume: volume::VOLUME,
+            };
+            assert_eq!(Card::read_info(text.as_bytes(), scale as u64), Ok(card));
+        }
+    }
 }

@@ -106,6 +106,52 @@ fn statuses() -> Vec<(String, i32)> {
         ("locate 0,0,0 --card nothing", 3),
         ("card show demo/deposit.card", 0),
         ("card show demo/mesh.manifest", 1),
+        ("card show --info demo/info --scale 1", 0),
+        ("card show --info demo/info --scale 2", 1),
+        ("card show --info demo/deposit.card --scale 0", 1),
+        ("card show --info demo/info", 2),
+        ("card show demo/deposit.card --info demo/info --scale 0", 2),
+        ("card show demo/deposit.card --scale 0", 2),
+        ("card show --info nothing --scale 0", 3),
+        ("check demo/copy-a --info demo/info --scale 0", 0),
+        ("check demo/murmur --info demo/info --scale 0x1", 0),
+        ("check demo/copy-a --info demo/info --scale 1", 1),
+        ("check demo/copy-a --info demo/info --scale 2", 1),
+        ("check demo/copy-a --info demo/info", 2),
+        ("check demo/copy-a --scale 0", 2),
+        ("check demo/copy-a --info demo/info --scale first", 2),
+        (
+            "check demo/copy-a --info demo/info --scale 0 --card demo/deposit.card",
+            2,
+        ),
+        (
+            "check demo/copy-a --info demo/info --scale 0 --hash murmur",
+            2,
+        ),
+        ("check demo/copy-a --info nothing --scale 0", 3),
+        (
+            "settle demo/copy-b --out by-info --info demo/info --scale 0",
+            0,
+        ),
+        ("same demo/copy-a demo/copy-b --info demo/info --scale 0", 0),
+        ("get demo/copy-b --cell 1,2,1 --info demo/info --scale 0", 0),
+        ("list demo/copy-a/0.shard --info demo/info --scale 0", 0),
+        ("locate 1,2,1 --info demo/info --scale 0", 0),
+        ("cell 21 --info demo/info --scale 0", 0),
+        ("name 1,2,1 --info demo/info --scale 0", 0),
+        ("name --shard 5 --info demo/info --scale 0", 0),
+        ("card make --info demo/info --scale 0 --out info.card", 0),
+        (
+            "card make --info demo/info --scale 0 --out demo/info --force",
+            2,
+        ),
+        (
+            "card make --info demo/info --scale 0 --out other.card --size 1,1,1",
+            2,
+        ),
+        ("card make --info demo/info --out other.card", 2),
+        ("card make --info demo/info --scale 7 --out other.card", 1),
+        ("card make --info nothing --scale 0 --out other.card", 3),
         ("card show", 2),
         ("card show a b", 2),
         ("card show nothing", 3),
@@ -132,9 +178,9 @@ fn statuses() -> Vec<(String, i32)> {
         ("manifest", 2),
         ("explain", 0),
         ("explain 9", 0),
-        ("explain 18", 0),
+        ("explain 20", 0),
         ("explain 0", 2),
-        ("explain 19", 2),
+        ("explain 200", 2),
         ("explain 99", 2),
         ("explain nine", 2),
         ("sample fresh", 0),
@@ -173,9 +219,19 @@ fn exit_statuses() {
         }
     }
     assert_eq!(folder.read("made.card"), folder.read("demo/deposit.card"));
+    assert_eq!(folder.read("info.card"), folder.read("demo/deposit.card"));
     assert_eq!(
         folder.names("."),
-        ["all", "demo", "fresh", "made.card", "one", "some"]
+        [
+            "all",
+            "by-info",
+            "demo",
+            "fresh",
+            "info.card",
+            "made.card",
+            "one",
+            "some"
+        ]
     );
     assert_eq!(folder.names("some"), ["0.shard", "5.shard", "6.shard"]);
 }

@@ -418,6 +418,25 @@ fn the_card_is_never_an_output() {
 }
 
 #[test]
+fn the_info_file_is_never_an_output() {
+    let folder = Folder::with_sample();
+    let info = folder.read("demo/info");
+    fs::hard_link(folder.at("demo/info"), folder.at("hard")).expect("a link");
+    for out in ["demo/info", "./demo/../demo/info", "hard"] {
+        for command in [
+            "settle demo/copy-b/5.shard",
+            "get demo/copy-b 21",
+            "card make",
+        ] {
+            let line = format!("{command} --out {out} --force --info demo/info --scale 0");
+            folder.run_line(&line).expect_status(2);
+            assert!(folder.read("demo/info") == info, "{line}");
+        }
+    }
+    assert_eq!(folder.names("."), ["demo", "hard"]);
+}
+
+#[test]
 fn an_output_is_none_of_all_inputs() {
     let folder = Folder::with_sample();
     let seventh = folder.read("demo/copy-b/7.shard");

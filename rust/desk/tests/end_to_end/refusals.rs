@@ -6,7 +6,7 @@ use crate::json::Json;
 use crate::shards::{example, options, with_index, ONE};
 use crate::support::{Folder, Run};
 use reference::sharding::Sharding;
-use reference::{card, manifest, settle, shard, Refusal};
+use reference::{card, info, manifest, settle, shard, Refusal};
 use std::fs::File;
 use testkit::manifests::Parts;
 
@@ -156,6 +156,75 @@ fn cards_give_14_then_1_then_2_then_3() {
     folder.run_line("card check good.card").expect_status(0);
     let check = folder.run_line("check 0.shard --card good.card");
     check.expect_status(0);
+}
+
+/// The sample's info file after an edit, which must change it.
+fn info_with(folder: &Folder, old: &str, new: &str) -> Vec<u8> {
+    let text = String::from_utf8(folder.read("demo/info")).expect("text");
+    let edited = text.replacen(old, new, 1);
+    assert_ne!(edited, text, "{old}");
+    edited.into_bytes()
+}
+
+#[test]
+fn info_files_give_19_then_20_then_1_then_2_then_3() {
+    let folder = Folder::with_sample();
+    folder.write("0.shard", example());
+    let size = "\"size\": [300, 260, 200]";
+    for (old, new, number, place) in [
+        ("[{\"chunk", "[{,\"chunk", 19, "line 4, column 14 "),
+        ("\"type\"", "\"type\": 1 \"a\"", 19, "line 30, column 12 "),
+        ("raw", "\\ra\\w", 19, "line 5, column 21 "),
+        ("\"scales\"", "\"scale\"", 20, "line 1, column 1 "),
+        (size, "\"size\": [300, 260]", 20, "line 15, column 12 "),
+        (size, "\"size\": [300, 260, 2e2]", 20, "line 15, column 23 "),
+        (
+            "\"preshift_bits\": 1",
+            "\"preshift_bits\": 64",
+            1,
+            "line 13, column 22 ",
+        ),
+        ("\"identity\"", "\"sha256\"", 1, "line 10, column 13 "),
+        (size, "\"size\": [300, 0, 200]", 2, "line 15, column 12 "),
+        (
+            size,
+            "\"size\": [4294967295, 4294967295, 4294967295]",
+            3,
+            "line 15, column 12 ",
+        ),
+    ] {
+        let mut text = info_with(&folder, old, new);
+        if number == 3 {
+            let wide = String::from_utf8(text).expect("text");
+            text = wide
+                .replacen("[[64, 64, 64]]", "[[1, 1, 1]]", 1)
+                .into_bytes();
+        }
+        assert_eq!(info::read(&text, 0), Err(number), "{old} {new}");
+        folder.write("bad", &text);
+        for line in [
+            "card show --info bad --scale 0",
+            "card make --out made.card --info bad --scale 0",
+            "locate 0,0,0 --info bad --scale 0",
+            "check 0.shard --info bad --scale 0",
+        ] {
+            refused_bare(&folder, line, number);
+            let run = folder.run_line(line);
+            assert!(
+                run.stderr.contains(&format!("look at: {place}")),
+                "{place}{run}"
+            );
+        }
+        assert!(!folder.names(".").contains(&"made.card".to_string()));
+    }
+    let told = folder.run_line("check 0.shard --json --info bad --scale 0");
+    let object = Json::read(told.lines()[0]).expect("JSON");
+    assert_eq!(object.text("subject"), Some("info"));
+    assert_eq!(
+        (object.number("line"), object.number("column")),
+        (Some("15"), Some("12"))
+    );
+    refused_bare(&folder, "card show --info demo/info --scale 2", 20);
 }
 
 #[test]

@@ -5,7 +5,7 @@ use reference::grid::{key_of, Volume};
 use reference::settle::settled_form;
 use reference::shard::{check, list};
 use reference::sharding::Sharding;
-use reference::{card, manifest, Refusal};
+use reference::{card, info, manifest, Refusal};
 use std::collections::BTreeMap;
 
 const DEPOSIT: Sharding = Sharding {
@@ -52,6 +52,7 @@ fn it_has_the_same_bytes_every_time() {
     for file in [
         "demo/deposit.card",
         "demo/murmur.card",
+        "demo/info",
         "demo/mesh.manifest",
     ] {
         assert_eq!(one.read(file), other.read(file));
@@ -65,6 +66,12 @@ fn the_cards_and_the_manifest_are_sound() {
         let card = card::read(&folder.read(format!("demo/{name}.card"))).expect("a card");
         assert_eq!((card.sharding, card.volume), (sharding, VOLUME));
     }
+    let text = folder.read("demo/info");
+    for (scale, sharding) in [(0, DEPOSIT), (1, MURMUR)] {
+        let card = info::read(&text, scale).expect("a scale");
+        assert_eq!((card.sharding, card.volume), (sharding, VOLUME));
+    }
+    assert_eq!(info::read(&text, 2), Err(20));
     let mesh = folder.read("demo/mesh.manifest");
     assert_eq!(manifest::level_count(&mesh), Ok(3));
     assert!(manifest::corners(&mesh, 0, 4).is_ok());

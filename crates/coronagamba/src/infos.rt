@@ -1,0 +1,36 @@
+// Info files.
+ghost use mathlib.Core.Path.{_≡_};
+ghost use Rattle.info.specs.Answers.{infoAnswer};
+ghost use Rattle.coronagamba.specs.Cards.{cardWord, shardingAfter, volumeAfter, chunkAfter, offsetAfter};
+use card::CardAnswer;
+
+// What the text of an info file says of its scale number `scale`, from 0: the numbers that a deposit
+// card of it says, written as coronagamba_card_read writes them.
+// Refusals: 19, 20, 1, 2, 3
+#[no_mangle]
+pub extern "C" fn coronagamba_info_read(
+    text: &[u8],
+    scale: u64,
+    sharding: &mut [u8; 4],
+    size: &mut [u32; 3],
+    chunk: &mut [u32; 3],
+    offset: &mut [i32; 3],
+) -> u64
+    ensures answer { λ r. ⌜ r ≡ cardWord (infoAnswer (now (text .entry)) scale) ⌝ }
+    ensures sharding { λ _. ⌜ now (sharding .exit) ≡ shardingAfter (infoAnswer (now (text .entry)) scale) (now (sharding .entry)) ⌝ }
+    ensures size { λ _. ⌜ now (size .exit) ≡ volumeAfter (infoAnswer (now (text .entry)) scale) (now (size .entry)) ⌝ }
+    ensures chunk { λ _. ⌜ now (chunk .exit) ≡ chunkAfter (infoAnswer (now (text .entry)) scale) (now (chunk .entry)) ⌝ }
+    ensures offset { λ _. ⌜ now (offset .exit) ≡ offsetAfter (infoAnswer (now (text .entry)) scale) (now (offset .entry)) ⌝ }
+{
+    match info::read_info(text, scale) {
+        CardAnswer::Says(card) => {
+            let volume = card.volume;
+            *sharding = crate::numbers::four(card.sharding);
+            *size = crate::numbers::three_extents(volume.size);
+            *chunk = crate::numbers::three_extents(volume.chunk);
+            *offset = crate::numbers::three_offsets(volume.offset);
+            0
+        }
+        CardAnswer::Refused(refusal) => refusal as u64,
+    }
+}

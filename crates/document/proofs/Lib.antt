@@ -1,0 +1,5 @@
+pub mod Reading
+pub mod Order
+pub mod Held
+pub mod Meaning
+pub mod Worked

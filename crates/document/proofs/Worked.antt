@@ -1,0 +1,25 @@
+-- The worked cases.
+use mathlib.Core.Path.{_≡_, refl}
+use mathlib.Core.List.{map}
+use Rattle.refusal.specs.Checks.{firstNumber, unless}
+use Rattle.text.specs.Bytes.{choose, same, under, inside, isWs, isDigit, spanIn}
+use Rattle.text.specs.Parts.{andThen, follow, markAt, closeAt, wordAt}
+use Rattle.text.specs.Numbers.{someDigits, intAt, fracAt, isSign, isE, signAt, expAt, unsignedAt, numberAt}
+use Rattle.strings.specs.Chars.{isHex, isShort, isTail, isSecond, utf8Len, escapeLen, charLen, charsAt, stringAt}
+use Rattle.strings.specs.Names.{hexValue, unitAt, utf8, shortByte, isPair, unitBytes, charBytes, unescaped, eqList}
+use Rattle.json.specs.Grammar.{scalarAt, itemsAt, listAt, memberAt, valueAt, endsAt, isJson}
+use Rattle.places.specs.Places.{nextElement, nextMember, orStart, valueOf, firstIn, itemsBy, elements, members, isText, keep, isName, named, only, member, onceOf, needed, pickNth, element, threeOf, loneOf}
+use Rattle.wholes.specs.Numbers.{decimalOn, decimalAt, goesOn, in32, digitsFrom, wholeFrom, naturalAt, negative, aboveOf, belowOf, coordinateAt}
+use Rattle.grid.specs.Grid.{gridSize, gridOf, hasZero, zeroExtent}
+use Rattle.grid.specs.Key.{bitOf, used, step, steps, keyBits, tooManyBits}
+use Rattle.sharding.specs.Specification.{allowed}
+use Rattle.card.specs.Layout.{bits32}
+use Rattle.card.specs.Answers.{recordChecks}
+use Rattle.card.specs.Reading.{signed32}
+use Rattle.info.specs.Settings.{extentsOf, extentsAt, offsetOf, offsetAt, sizeIn, chunkIn, offsetBy, offsetIn, volumeIn, typed, rawBy, formed, hashAt, hashIn, numberIn, shardingOf, numbersOf, numbersIn, shardingAt, shardingIn, settingsAt, scaleAt, settingsOf}
+use Rattle.info.specs.Answers.{noSettings, recordOf, infoChecks, infoAnswer}
+use Rattle.document.specs.Worked.{Case, cases}
+
+pub worked : map (λ (c : Case). infoAnswer (c .text) (c .scale)) cases ≡ map (λ (c : Case). c .answer) cases
+unfolding cases firstNumber unless choose same under inside isWs isDigit spanIn andThen follow markAt closeAt wordAt someDigits intAt fracAt isSign isE signAt expAt unsignedAt numberAt isHex isShort isTail isSecond utf8Len escapeLen charLen charsAt stringAt hexValue unitAt utf8 shortByte isPair unitBytes charBytes unescaped eqList scalarAt itemsAt listAt memberAt valueAt endsAt isJson nextElement nextMember orStart valueOf firstIn itemsBy elements members isText keep isName named only member onceOf needed pickNth element threeOf loneOf decimalOn decimalAt goesOn in32 digitsFrom wholeFrom naturalAt negative aboveOf belowOf coordinateAt gridSize gridOf hasZero zeroExtent bitOf used step steps keyBits tooManyBits allowed bits32 signed32 extentsOf extentsAt offsetOf offsetAt sizeIn chunkIn offsetBy offsetIn volumeIn typed rawBy formed hashAt hashIn numberIn shardingOf numbersOf numbersIn shardingAt shardingIn settingsAt scaleAt settingsOf noSettings recordOf recordChecks infoChecks infoAnswer
+worked = refl

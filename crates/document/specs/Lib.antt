@@ -1,0 +1,5 @@
+-- What an info file says, apart from how it is written, and what the answer of its reader means.
+pub mod Document
+pub mod Said
+pub mod Meaning
+pub mod Worked

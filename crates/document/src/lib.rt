@@ -1,0 +1,1 @@
+// No code: what the document of an info file says, and what the answer of its reader means.

@@ -1,0 +1,56 @@
+// Reading the settings of a volume from the text of its info file.
+mod parts;
+
+ghost use mathlib.Core.Path.{_≡_};
+ghost use Rattle.info.specs.Answers.{infoAnswer};
+use card::Card;
+use card::CardAnswer;
+use grid::Extents;
+use grid::Offset;
+use grid::Volume;
+use sharding::Sharding;
+
+// Parts of the settings, if the text has them.
+pub enum ExtentsIn {
+    Are(Extents),
+    Wrong,
+}
+
+pub enum OffsetIn {
+    Is(Offset),
+    Wrong,
+}
+
+pub enum VolumeIn {
+    Is(Volume),
+    Wrong,
+}
+
+pub enum ShardingIn {
+    Is(Sharding),
+    Wrong,
+}
+
+pub enum Settings {
+    Are(Card),
+    Wrong,
+}
+
+// The settings of the scale as a card says them: refused with 19, 20, 1, 2 or 3.
+// The time is linear in the text: it is walked once as JSON, once to the scale, and once for each of the twelve names that are
+// looked for; a walk passes over each value once, and calls nest no deeper than values, 32.
+pub fn read_info(text: &[u8], scale: u64) -> CardAnswer
+    ensures answer { λ r. ⌜ r ≡ infoAnswer (now (text .entry)) scale ⌝ }
+{
+    if !json::is_json(text) {
+        return CardAnswer::Refused(19);
+    }
+    let Settings::Are(card) = parts::settings_of(text, scale) else {
+        return CardAnswer::Refused(20);
+    };
+    let number = card::inner::judge(card);
+    if number != 0 {
+        return CardAnswer::Refused(number);
+    }
+    CardAnswer::Says(card)
+}

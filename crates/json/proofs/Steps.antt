@@ -1,0 +1,169 @@
+-- What the functions of this crate need: each way out as a case of its definition. b, i, r are what was read or what calls gave.
+use Prim.Native.Nat.{ℕ, zero, suc, _+_, _-_, _<_, _≤_}
+use mathlib.Core.Path.{_≡_, refl, sym, ap, _∙_}
+use mathlib.Core.List.{List}
+use mathlib.Core.Bool.{false}
+use native.Mathlib.Omega.{arith}
+use native.Mathlib.Numerals.{sub-one}
+use borrow.Author.Needs.{needs}
+use lib.ListN.{length, getD}
+use lib.Dec.{eqb}
+use Rattle.text.specs.Bytes.{choose, same}
+use Rattle.text.specs.Parts.{ws, markAt, closeAt, wordAt}
+use Rattle.text.specs.Numbers.{numberAt}
+use Rattle.text.specs.declared.Found.{Found}
+use Rattle.text.specs.declared.Found.the-variants.{At, Nothing}
+use Rattle.text.proofs.Laws.{if-eq, if-ne, then-at, then-nothing, at-byte}
+use Rattle.text.proofs.Steps.{mark-room}
+use Rattle.strings.specs.Chars.{stringAt}
+use Rattle.json.specs.Grammar.{scalarAt, itemsAt, listAt, memberAt, valueAt, endsAt, isJson}
+use Rattle.json.proofs.Ahead.{Ahead, value-ahead, member-ahead, mark-ahead}
+use Rattle.json.proofs.Turns.{items-none, items-last, items-on, mark-most}
+
+-- ---- a scalar
+
+module _ (s : List ℕ) (i : ℕ) {b : ℕ} (eb : b ≡ getD s i 0) where
+  pub byte-most : {m : ℕ} → b ≡ m → 0 < m → i ≤ length s
+  byte-most t h = omega (arith, at-byte s i _ h (sym eb ∙ t))
+
+  pub byte-next : {m : ℕ} → b ≡ m → 0 < m → i + 1 ≤ length s
+  byte-next t h = omega (arith, at-byte s i _ h (sym eb ∙ t))
+
+module _ (s : List ℕ) (i : ℕ) {b : ℕ} (eb : b ≡ getD s i 0) {r : Found} where
+  pub scalar-string : b ≡ 34 → r ≡ stringAt s i → r ≡ scalarAt s i
+  unfolding scalarAt
+  scalar-string t er = er ∙ sym (if-eq _ _ _ _ (sym eb ∙ t))
+
+  module _ (n : b ≡ 34 → ⊥) where
+    pub scalar-true : b ≡ 116 → r ≡ wordAt s i 116 114 117 101 → r ≡ scalarAt s i
+    unfolding scalarAt
+    scalar-true t er = er ∙ sym (if-ne _ _ _ _ (λ q. n (eb ∙ q)) ∙ if-eq _ _ _ _ (sym eb ∙ t))
+
+    module _ (m : b ≡ 116 → ⊥) where
+      pub scalar-null : b ≡ 110 → r ≡ wordAt s i 110 117 108 108 → r ≡ scalarAt s i
+      unfolding scalarAt
+      scalar-null t er = er ∙ sym (if-ne _ _ _ _ (λ q. n (eb ∙ q)) ∙ if-ne _ _ _ _ (λ q. m (eb ∙ q)) ∙ if-eq _ _ _ _ (sym eb ∙ t))
+
+      module _ (l : b ≡ 110 → ⊥) where
+        pub scalar-false : b ≡ 102 → r ≡ wordAt s (i + 1) 97 108 115 101 → r ≡ scalarAt s i
+        unfolding scalarAt
+        scalar-false t er = er ∙ sym (if-ne _ _ _ _ (λ q. n (eb ∙ q)) ∙ if-ne _ _ _ _ (λ q. m (eb ∙ q)) ∙ if-ne _ _ _ _ (λ q. l (eb ∙ q)) ∙ if-eq _ _ _ _ (sym eb ∙ t))
+
+        pub scalar-number : (b ≡ 102 → ⊥) → r ≡ numberAt s i → r ≡ scalarAt s i
+        unfolding scalarAt
+        scalar-number k er =
+            er ∙ sym (if-ne _ _ _ _ (λ q. n (eb ∙ q)) ∙ if-ne _ _ _ _ (λ q. m (eb ∙ q)) ∙ if-ne _ _ _ _ (λ q. l (eb ∙ q)) ∙ if-ne _ _ _ _ (λ q. k (eb ∙ q)))
+
+pub ruleset scalars = (mark-room, byte-most, byte-next, scalar-string, scalar-true, scalar-null, scalar-false, scalar-number, needs)
+
+-- ---- a value
+
+value-some : (d : ℕ) (s : List ℕ) (i : ℕ) → (d ≡ 0 → ⊥) → valueAt d s i ≡
+    choose (same (getD s i 0) 0x7B) (listAt (memberAt (valueAt (d - 1) s) s) 0x7D s (i + 1))
+    (choose (same (getD s i 0) 0x5B) (listAt (valueAt (d - 1) s) 0x5D s (i + 1)) (scalarAt s i))
+unfolding valueAt
+value-some zero s i h = absurd (h refl)
+value-some (suc d) s i h = rw (sub-one (suc d))
+
+module _ (d : ℕ) (s : List ℕ) (i : ℕ) where
+  pub value-none : d ≡ 0 → Nothing ≡ valueAt d s i
+  unfolding valueAt
+  value-none e = rw e
+
+  module _ (h : d ≡ 0 → ⊥) {b : ℕ} (eb : b ≡ getD s i 0) {r : Found} where
+    pub value-object : b ≡ 123 → r ≡ listAt (memberAt (valueAt (d - 1) s) s) 125 s (i + 1) → r ≡ valueAt d s i
+    value-object t er = er ∙ sym (value-some d s i h ∙ if-eq _ _ _ _ (sym eb ∙ t))
+
+    module _ (n : b ≡ 123 → ⊥) where
+      pub value-array : b ≡ 91 → r ≡ listAt (valueAt (d - 1) s) 93 s (i + 1) → r ≡ valueAt d s i
+      value-array t er = er ∙ sym (value-some d s i h ∙ if-ne _ _ _ _ (λ q. n (eb ∙ q)) ∙ if-eq _ _ _ _ (sym eb ∙ t))
+
+      pub value-scalar : (b ≡ 91 → ⊥) → r ≡ scalarAt s i → r ≡ valueAt d s i
+      value-scalar m er = er ∙ sym (value-some d s i h ∙ if-ne _ _ _ _ (λ q. n (eb ∙ q)) ∙ if-ne _ _ _ _ (λ q. m (eb ∙ q)))
+
+pub ruleset values = (mark-room, value-none, value-object, value-array, value-scalar, needs)
+
+-- ---- a member
+
+module _ (value : ℕ → Found) (s : List ℕ) (i : ℕ) {p : Found} (ep : p ≡ stringAt s i) where
+  pub member-unnamed : p ≡ Nothing → Nothing ≡ memberAt value s i
+  unfolding memberAt
+  member-unnamed e = sym (then-nothing _ _ (sym ep ∙ e))
+
+  module _ {e : ℕ} (ee : p ≡ At e) {q : Found} (eq : q ≡ markAt 58 s e) where
+    pub member-unmarked : q ≡ Nothing → Nothing ≡ memberAt value s i
+    unfolding memberAt
+    member-unmarked n = sym (then-at _ _ e (sym ep ∙ ee) ∙ then-nothing _ _ (sym eq ∙ n))
+
+    pub member-valued : {j : ℕ} {r : Found} → q ≡ At j → r ≡ value j → r ≡ memberAt value s i
+    unfolding memberAt
+    member-valued {j} t er = er ∙ sym (then-at _ _ e (sym ep ∙ ee) ∙ then-at _ _ j (sym eq ∙ t))
+
+pub ruleset members = (member-unnamed, member-unmarked, member-valued, needs)
+
+-- ---- the list that begins at `at` is passed up to i
+
+pub record Listing (item : ℕ → Found) (close : ℕ) (s : List ℕ) (at i : ℕ) : Type 0 where
+  pub ahead : (k : ℕ) → Ahead (k + 1) (item k)
+  pub fuel : ℕ
+  pub enough : length s ≤ fuel + i
+  pub left : listAt item close s at ≡ itemsAt item close s fuel i
+
+module _ (item : ℕ → Found) (close : ℕ) (s : List ℕ) (at : ℕ) {i b : ℕ} (ei : i ≡ ws s at) (eb : b ≡ getD s i 0) where
+  there : getD s (ws s at) 0 ≡ b
+  there = ap (λ (j : ℕ). getD s j 0) (sym ei) ∙ sym eb
+
+  pub list-empty : b ≡ close → At (i + 1) ≡ listAt item close s at
+  unfolding listAt
+  list-empty t = ap (λ (j : ℕ). At (j + 1)) ei ∙ sym (if-eq _ _ _ _ (there ∙ t))
+
+  list-start : ((k : ℕ) → Ahead (k + 1) (item k)) → (b ≡ close → ⊥) → Listing item close s at i
+  unfolding listAt
+  list-start h n = record {
+    ahead = h;
+    fuel = length s;
+    enough = omega arith;
+    left = if-ne _ _ _ _ (λ q. n (sym there ∙ q)) ∙ ap (itemsAt item close s (length s)) (sym ei);
+  }
+
+module _ (d : ℕ) (close : ℕ) (s : List ℕ) (at : ℕ) {i b : ℕ} (ei : i ≡ ws s at) (eb : b ≡ getD s i 0) (n : b ≡ close → ⊥) where
+  pub array-start : Listing (valueAt d s) close s at i
+  array-start = list-start (valueAt d s) close s at ei eb (value-ahead d s) n
+
+  pub object-start : Listing (memberAt (valueAt d s) s) close s at i
+  object-start = list-start (memberAt (valueAt d s) s) close s at ei eb (member-ahead (valueAt d s) s (value-ahead d s)) n
+
+module _ {item : ℕ → Found} {close : ℕ} {s : List ℕ} {at i : ℕ} (k : Listing item close s at i) {r : Found} (er : r ≡ item i) where
+  pub list-bad : r ≡ Nothing → Nothing ≡ listAt item close s at
+  list-bad e = sym (k .left ∙ items-none item close s (k .fuel) i (sym er ∙ e))
+
+  module _ {e : ℕ} (ee : r ≡ At e) {q : Found} (eq : q ≡ markAt 44 s e) where
+    pub list-last : {x : Found} → q ≡ Nothing → 0 < close → x ≡ closeAt close s e → x ≡ listAt item close s at
+    list-last n h ex = ex ∙ sym (k .left ∙ items-last item close s (k .ahead) (k .fuel) i e (k .enough) h (sym er ∙ ee) (sym eq ∙ n))
+
+    module _ {j : ℕ} (t : q ≡ At j) where
+      onward : i < j
+      onward = omega (arith, k .ahead i e (sym er ∙ ee), mark-ahead 44 s e j (sym eq ∙ t))
+
+      pub list-on : Listing item close s at j
+      list-on =
+          let x = items-on item close s (k .ahead) (k .fuel) i e j (listAt item close s at) (k .enough) (k .left) (sym er ∙ ee) (sym eq ∙ t) onward in
+          record { ahead = k .ahead; fuel = x .0; enough = x .1; left = x .2 }
+
+      pub list-less : length s - j < length s - i
+      list-less = omega (arith, onward, mark-most 44 s e j (omega arith) (sym eq ∙ t))
+
+pub ruleset listing = (mark-room, list-empty, array-start, object-start, list-bad, list-last, list-on, list-less, needs)
+
+-- ---- a whole text
+
+module _ (d : ℕ) (s : List ℕ) {j : ℕ} (ej : j ≡ ws s 0) {v : Found} (ev : v ≡ valueAt d s j) where
+  pub json-none : v ≡ Nothing → false ≡ isJson d s
+  unfolding isJson endsAt
+  json-none e = rw (← ej, ← ev, e)
+
+  pub json-ends : {e k : ℕ} → v ≡ At e → k ≡ ws s e → eqb k (length s) ≡ isJson d s
+  unfolding isJson endsAt same
+  json-ends h w = rw (← ej, ← ev, h, ← w)
+
+pub ruleset whole = (json-none, json-ends, needs)

@@ -1,0 +1,56 @@
+-- Where each value of a JSON text ends (RFC 8259), as it is computed.
+use Prim.Native.Nat.{ℕ, zero, suc, _+_}
+use mathlib.Core.List.{List}
+use mathlib.Core.Bool.{Bool, false}
+use lib.ListN.{length}
+use Rattle.text.specs.Bytes.{choose, byteAt, same}
+use Rattle.text.specs.Parts.{andThen, follow, ws, markAt, closeAt, wordAt}
+use Rattle.text.specs.Numbers.{numberAt}
+use Rattle.text.specs.declared.Found.{Found}
+use Rattle.text.specs.declared.Found.the-variants.{At, Nothing}
+use Rattle.strings.specs.Chars.{stringAt}
+
+-- "to a depth of 32" (order 'read the settings from the info file')
+abbrev pub deepest : ℕ
+deepest = 32
+
+-- true / null / false / string / number, by the first byte
+unfoldable pub scalarAt : List ℕ → ℕ → Found
+scalarAt s i =
+    choose (same (byteAt s i) 0x22) (stringAt s i)
+    (choose (same (byteAt s i) 0x74) (wordAt s i 0x74 0x72 0x75 0x65)
+    (choose (same (byteAt s i) 0x6E) (wordAt s i 0x6E 0x75 0x6C 0x6C)
+    (choose (same (byteAt s i) 0x66) (wordAt s (i + 1) 0x61 0x6C 0x73 0x65)
+    (numberAt s i))))
+
+-- item *( ws "," ws item ) ws close, of at most n items, each as `item` says
+unfoldable pub itemsAt : (ℕ → Found) → ℕ → List ℕ → ℕ → ℕ → Found
+itemsAt item close s zero i = Nothing
+itemsAt item close s (suc n) i =
+    andThen (item i) (λ e. follow (markAt 0x2C s e) (λ j. itemsAt item close s n j) (closeAt close s e))
+
+-- ws [ items ] ws close: what stands behind "[" or "{"
+unfoldable pub listAt : (ℕ → Found) → ℕ → List ℕ → ℕ → Found
+listAt item close s i =
+    choose (same (byteAt s (ws s i)) close) (At (ws s i + 1))
+    (itemsAt item close s (length s) (ws s i))
+
+-- member = string ws ":" ws value
+unfoldable pub memberAt : (ℕ → Found) → List ℕ → ℕ → Found
+memberAt value s i = andThen (stringAt s i) (λ e. andThen (markAt 0x3A s e) (λ j. value j))
+
+-- value, nested at most d deep: object / array / scalar
+unfoldable pub valueAt : ℕ → List ℕ → ℕ → Found
+valueAt zero s i = Nothing
+valueAt (suc d) s i =
+    choose (same (byteAt s i) 0x7B) (listAt (memberAt (valueAt d s) s) 0x7D s (i + 1))
+    (choose (same (byteAt s i) 0x5B) (listAt (valueAt d s) 0x5D s (i + 1))
+    (scalarAt s i))
+
+-- JSON-text = ws value ws, at most d deep
+unfoldable pub endsAt : List ℕ → Found → Bool
+endsAt s (At e) = same (ws s e) (length s)
+endsAt s Nothing = false
+
+unfoldable pub isJson : ℕ → List ℕ → Bool
+isJson d s = endsAt s (valueAt d s (ws s 0))

@@ -1,0 +1,4 @@
+pub mod Characters
+pub mod Naming
+pub mod Encoded
+pub mod Steps

@@ -1,0 +1,22 @@
+use Rattle.strings.proofs.Steps.{naming}
+use Rattle.strings.proofs.names.ascii_at.Statement.{statement}
+use Rattle.strings.proofs.names.ascii_at.Tie as tie
+
+pub ascii-at-spec : {M : Type 1} → statement M
+ascii-at-spec =
+    tie.close
+    (tie.spec
+    (λ c κs. search naming)
+    (λ c κs. search naming)
+    (λ c κs. search naming)
+    (λ c. search naming)
+    (λ c. search naming)
+    (λ c κs. search naming)
+    (λ c. search naming)
+    (λ c κs. search naming)
+    (λ c κs. search naming)
+    (λ c. search naming)
+    (λ c κs. search naming)
+    (λ c κs. search naming)
+    (λ c κs. search naming)
+    (λ c. search naming))

@@ -1,0 +1,50 @@
+// Strings of a JSON text: where they end, and whether they say a name.
+mod chars;
+mod names;
+
+ghost use mathlib.Core.Path.{_≡_};
+ghost use mathlib.Core.Bool.{true};
+ghost use Prim.Native.Nat.{_+_};
+ghost use lib.ListN.{length};
+ghost use Rattle.strings.specs.Chars.{stringAt};
+ghost use Rattle.strings.specs.Names.{unescaped, eqList, ascii};
+use text::Found;
+
+pub fn skip_string(s: &[u8], at: usize) -> Found
+    ensures { λ r. ⌜ r ≡ stringAt (now (s .entry)) at ⌝ }
+{
+    if text::byte(s, at) != b'"' {
+        return Found::Nothing;
+    }
+    let mut i = at + 1;
+    loop {
+        if text::byte(s, i) == b'"' {
+            return Found::At(i + 1);
+        }
+        let n = chars::char_len(s, i);
+        if n == 0 {
+            return Found::Nothing;
+        }
+        i += n;
+    }
+}
+
+// Do the characters from `at` on, unescaped, say the name, which is ASCII?
+pub fn name_is(s: &[u8], at: usize, name: &[u8]) -> bool
+    requires { ⌜ ascii (now name) ≡ true ⌝ }
+    ensures { λ r. ⌜ r ≡ eqList (unescaped (now (s .entry)) (length (now (s .entry)) + 1) at) (now (name .entry)) ⌝ }
+{
+    let mut i = at;
+    let mut k = 0;
+    loop {
+        let n = chars::char_len(s, i);
+        if n == 0 {
+            return k == name.len();
+        }
+        if !names::agrees(s, i, name, k) {
+            return false;
+        }
+        i += n;
+        k += 1;
+    }
+}

@@ -1,0 +1,2 @@
+-- Whole numbers in a JSON text.
+pub mod Numbers
