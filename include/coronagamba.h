@@ -12,7 +12,8 @@
  *
  * The header is C99 or later and C++. The archive is made for Linux on x86-64;
  * it needs the C library's memory functions and nothing else. A call needs at
- * most 64 KiB of stack and takes no memory of its own; none calls back.
+ * most 64 KiB of stack, one that reads a shard at most 384 KiB. It takes no
+ * memory of its own, and none calls back.
  *
  * Answers. Each function takes any numbers and bytes and returns. A function
  * that can refuse returns an answer word:
@@ -123,13 +124,13 @@
 /* a minishard index length is no multiple of 24 */
 #define CORONAGAMBA_REFUSED_INDEX_LENGTH 8
 
-/* an id does not exceed the one before, or passes 2^64-1 */
-#define CORONAGAMBA_REFUSED_ID_ORDER 9
+/* an id stands twice in a minishard */
+#define CORONAGAMBA_REFUSED_ID_TWICE 9
 
 /* a listed id belongs to another shard or minishard */
 #define CORONAGAMBA_REFUSED_ID_ELSEWHERE 10
 
-/* a chunk's bytes end past the file */
+/* index end plus start plus size of a chunk, taken exactly, passes the file */
 #define CORONAGAMBA_REFUSED_CHUNK_PAST_END 11
 
 /* the id is not listed */

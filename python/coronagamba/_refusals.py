@@ -42,13 +42,13 @@ class Numbers:
     # a minishard index length is no multiple of 24
     INDEX_LENGTH = 8
 
-    # an id does not exceed the one before, or passes 2^64-1
-    ID_ORDER = 9
+    # an id stands twice in a minishard
+    ID_TWICE = 9
 
     # a listed id belongs to another shard or minishard
     ID_ELSEWHERE = 10
 
-    # a chunk's bytes end past the file
+    # index end plus start plus size of a chunk, taken exactly, passes the file
     CHUNK_PAST_END = 11
 
     # the id is not listed
@@ -97,7 +97,7 @@ SENTENCES: Dict[int, str] = {
     6: "The shard is shorter than its index or longer than 1 GiB.",
     7: "An entry of the shard index is reversed or ends past the file.",
     8: "A minishard index has a length that is no multiple of 24.",
-    9: "The ids of a minishard do not rise, or one is too large.",
+    9: "An id stands twice in a minishard.",
     10: "A listed id belongs to another shard or minishard.",
     11: "A chunk ends past the file.",
     12: "The id is not listed.",

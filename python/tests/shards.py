@@ -29,15 +29,15 @@ def by_minishard(sharding, content):
 
 
 def steps(numbers):
-    """Each number less the one before."""
-    return [b - a for a, b in zip([0] + numbers, numbers)]
+    """Each number less the one before, modulo 2^64."""
+    return [(b - a) % 2**64 for a, b in zip([0] + numbers, numbers)]
 
 
 def rows(ids, starts, sizes):
     """A minishard index of chunks at these places, counted from the end of
     the shard index."""
     ends = [0] + [start + size for start, size in zip(starts, sizes)]
-    gaps = [start - end for start, end in zip(starts, ends)]
+    gaps = [(start - end) % 2**64 for start, end in zip(starts, ends)]
     return u64s(*steps(ids), *gaps, *sizes)
 
 
@@ -58,11 +58,13 @@ def settled(sharding, content):
     return index + data
 
 
-def scattered(sharding, content, rng):
+def scattered(sharding, content, rng, groups=None):
     """A sound shard of this content with its minishards in any order, bytes
     that nothing lists, and minishard indexes before or after their chunks.
-    Entries of empty minishards point anywhere."""
-    groups = by_minishard(sharding, content)
+    Entries of empty minishards point anywhere. Each minishard lists its group
+    of ids in the group's order, by rising id where none are given; chunks lie
+    by rising id."""
+    groups = groups or by_minishard(sharding, content)
     entries, data = [None] * len(groups), b""
     for number in rng.sample(range(len(groups)), len(groups)):
         ids = groups[number]
@@ -73,11 +75,12 @@ def scattered(sharding, content, rng):
         before = rng.random() < 0.5
         at = len(data)
         data += bytes(length) if before else b""
-        starts = []
-        for id in ids:
+        place = {}
+        for id in sorted(ids):
             data += rng.randbytes(rng.randrange(4))
-            starts.append(len(data))
+            place[id] = len(data)
             data += content[id]
+        starts = [place[id] for id in ids]
         table = rows(ids, starts, [len(content[id]) for id in ids])
         if before:
             data = data[:at] + table + data[at + length:]

@@ -82,7 +82,9 @@ CALLS = {
     8: [lambda: shard(u64s(0, 25) + bytes(25)).settled()],
     9: [
         lambda: shard(one_minishard(u64s(1, 0, 0, 0, 0, 0))).check(),
-        lambda: shard(one_minishard(u64s(1, 2**64 - 1, 0, 0, 0, 0))).check(),
+        lambda: shard(
+            one_minishard(u64s(1, 1, 2**64 - 1, 0, 0, 0, 0, 0, 0))
+        ).check(),
     ],
     10: [
         lambda: shard(u64s(0, 24, 0, 0, 1, 0, 0), TWO).check(),

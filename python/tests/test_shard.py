@@ -169,12 +169,21 @@ class Layouts(unittest.TestCase):
             self.assertNotEqual(*forms)
         self.assertGreater(changed, 30)
 
-    def test_stored_order_is_rising(self):
+    def test_ids_in_order_of_arrival(self):
         for rng, sharding, number, content in samples(6, 20):
-            shard = Shard(
-                sharding, number, shards.scattered(sharding, content, rng)
-            )
             groups = shards.by_minishard(sharding, content)
+            for ids in groups:
+                rng.shuffle(ids)
+            shard = Shard(
+                sharding,
+                number,
+                shards.scattered(sharding, content, rng, groups),
+            )
+            self.assertEqual(
+                shard.settled(), shards.settled(sharding, content)
+            )
+            for id, chunk in content.items():
+                self.assertEqual(bytes(shard.chunk(id)), chunk)
             for minishard, ids in enumerate(groups):
                 found = [entry.id for entry in shard.listing(minishard)]
                 self.assertEqual(found, ids)

@@ -1,5 +1,5 @@
 -- The settled form of a sound shard is a sound shard, with the content of its original.
-use Prim.Native.Nat.{ℕ, suc, _≤_, _<_}
+use Prim.Native.Nat.{ℕ, _≤_, _<_}
 use mathlib.Core.Path.{_≡_}
 use mathlib.Core.Logic.{inr}
 use mathlib.Core.List.{List, []}
@@ -14,7 +14,7 @@ use Rattle.shard.specs.Items.{Item}
 use Rattle.form.specs.Form.{partLength, partsFrom, entriesFrom, settledLength}
 use Rattle.form.specs.Sorted.{Member}
 use Rattle.form.specs.Content.{idOf, formOf, formLength, fileContent, fileForm, fileFormLength}
-use Rattle.form.proofs.Sorting.{member-at, rising-at}
+use Rattle.form.proofs.Sorting.{member-at, rising-later}
 use Rattle.form.proofs.Measures.{length-content, length-form, length-parts}
 use Rattle.form.proofs.Rows.{noItem, offset-size}
 use Rattle.form.proofs.ReadBack.{Readable, index-back, data-back, placeFrom, place-bound, entry-span, finish-most, reads-part, content-back}
@@ -35,12 +35,10 @@ sound-part {c = c} good m l g =
       ordered = omega (arith, r .the-start, r .the-end);
       within = inr (omega (arith, r .the-end, finish-most (placeFrom 0 c m) xs));
       whole = omega (arith, r .the-start, r .the-end);
-      rising = λ i k.
-          let h : suc i < length xs = omega (arith, r .the-count) in
-          rw (r .the-items i (omega arith) .the-id, r .the-items (suc i) h .the-id) (rising-at idOf noItem xs i h (good .each m l .rising));
-      bounded = λ i k.
-          let h : i < length xs = omega (arith, r .the-count) in
-          rw (r .the-items i h .the-id) (g .bounded (getD xs i noItem) (among i h));
+      distinct = λ i j o k e.
+          let h : j < length xs = omega (arith, r .the-count) in
+          let up = rising-later idOf noItem xs i j o h (good .each m l .rising) in
+          omega (arith, r .the-items i (omega arith) .the-id, r .the-items j h .the-id);
       ours = λ i k.
           let h : i < length xs = omega (arith, r .the-count) in
           rw (r .the-items i h .the-id) (g .ours (getD xs i noItem) (among i h));

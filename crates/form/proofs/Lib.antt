@@ -9,3 +9,4 @@ pub mod SoundContent
 pub mod SameContent
 pub mod FormSound
 pub mod Demand3
+pub mod Earlier

@@ -74,7 +74,7 @@ chunks-insert a [] = refl
 chunks-insert a (x ∷ xs) =
     chunks-pick (notAbove idOf a x) (a ∷ x ∷ xs) (x ∷ insertBy idOf a xs) _ refl (let h = chunks-insert a xs in omega arith)
 
-chunks-by-id : (xs : List Item) → chunksLength (byId xs) ≡ chunksLength xs
+pub chunks-by-id : (xs : List Item) → chunksLength (byId xs) ≡ chunksLength xs
 unfolding byId sortBy chunksLength
 chunks-by-id [] = refl
 chunks-by-id (x ∷ xs) =

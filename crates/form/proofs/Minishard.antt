@@ -12,8 +12,9 @@ use Rattle.sharding.specs.declared.Sharding.{Sharding}
 use Rattle.shard.specs.Index.{idSteps, startSteps, sizes, idAt, startAt, chunkAt}
 use Rattle.shard.specs.Items.{Item}
 use Rattle.form.specs.Form.{chunksOf, chunksLength, idRow, startRow, sizeRow, indexOf, partOf}
+use Rattle.form.proofs.Sorting.{member-at}
 use Rattle.form.proofs.Measures.{length-chunks, length-ids, length-starts, length-sizes}
-use Rattle.form.proofs.Rows.{noItem, InForm, sumTo-row, fit-ids, fit-starts, fit-sizes, sum-ids, offset, sum-starts, size-of, holds-body, holds-lead}
+use Rattle.form.proofs.Rows.{noItem, InForm, sumTo-row, fit-ids, fit-starts, fit-sizes, sum-ids, offset, offset-size, sum-starts, size-of, holds-body, holds-lead}
 
 -- what is read of item i, from the minishard index at s, in a minishard of the items xs that begins at p
 pub record ReadsItem (d : List ℕ) (p s : ℕ) (xs : List Item) (i : ℕ) : Type 0 where
@@ -53,6 +54,7 @@ module _ (d : List ℕ) (p : ℕ) (xs : List Item) (h : Holds d p (partOf p xs))
     reads-id =
         let u = sumTo-row (idRow 0 xs) (suc i) (fit-ids 0 xs (r .bounded)) holds-ids (omega (arith, length-ids 0 xs)) in
         let t = sum-ids 0 xs i (λ x m. omega arith) (r .rising) l in
+        let f = r .bounded (getD xs i noItem) (member-at noItem xs i l) in
         omega arith
 
     reads-start : startAt (startSteps d s (length xs)) (sizes d s (length xs)) i ≡ p + offset xs i
@@ -61,6 +63,7 @@ module _ (d : List ℕ) (p : ℕ) (xs : List Item) (h : Holds d p (partOf p xs))
         let u = sumTo-row (startRow p xs) (suc i) (fit-starts p xs b) holds-starts (omega (arith, length-starts p xs)) in
         let t = sumTo-row (sizeRow xs) i (fit-sizes xs (omega arith)) holds-sizes (omega (arith, length-sizes xs)) in
         let w = sum-starts p xs i l in
+        let f = offset-size xs i l in
         omega arith
 
     reads-size : sizes d s (length xs) i ≡ length (getD xs i noItem .body)

@@ -8,17 +8,17 @@ use lib.ListN.{length, getD}
 use Rattle.sharding.specs.declared.Sharding.{Sharding}
 use Rattle.sharding.specs.Specification.{minishardCount}
 use Rattle.sharding.specs.Place.{shardOf, minishardOf}
-use Rattle.shard.specs.Index.{entryCount}
+use Rattle.shard.specs.Index.{entryCount, idSteps}
 use Rattle.shard.specs.File.{mostShardBytes, indexPart, dataPart}
 use Rattle.shard.specs.Sound.{SoundFrom, SoundShard}
 use Rattle.shard.specs.Items.{Item, itemAt, leadLength}
 use Rattle.form.specs.Sorted.{Member, Distinct}
 use Rattle.form.specs.Content.{itemsAt, itemsOf, idOf, byId, contentFrom, contentOf, formLength, fileContent, fileFormLength}
-use Rattle.form.proofs.Sorting.{sort-mem, rising-sort, rising-distinct, distinct-sort}
+use Rattle.form.proofs.Sorting.{sort-mem, rising-sort, distinct-sort}
 use Rattle.form.proofs.Measures.{length-content}
 use Rattle.form.proofs.Rows.{InForm}
 use Rattle.form.proofs.ReadBack.{Readable}
-use Rattle.form.proofs.Stored.{each-item, rising-items, by-id-stored}
+use Rattle.form.proofs.Stored.{each-item, distinct-items, id-fits}
 
 -- ---- what a sound minishard m gives of its items, in whatever order they stand
 
@@ -33,16 +33,12 @@ pub sound-listed : {spec : Sharding} {shard m : ℕ} {d : List ℕ} {s e : ℕ} 
 unfolding itemAt leadLength
 sound-listed {spec} {shard} {m} {d} {s} {e} g =
     record {
-      distinct = rising-distinct idOf _ (rising-items spec d s (entryCount s e) (g .rising));
-      bounded = each-item spec d s (entryCount s e) (λ (x : Item). x .id < 2 ^ 64) (g .bounded);
+      distinct = distinct-items spec d s (entryCount s e) (g .distinct);
+      bounded = each-item spec d s (entryCount s e) (λ (x : Item). x .id < 2 ^ 64) (λ i l. id-fits (idSteps d s) i);
       ours = each-item spec d s (entryCount s e) (λ (x : Item). shardOf spec (x .id) ≡ shard) (g .ours);
       here = each-item spec d s (entryCount s e) (λ (x : Item). minishardOf spec (x .id) ≡ m) (g .here);
       led = each-item spec d s (entryCount s e) (λ (x : Item). length (x .lead) ≡ leadLength spec (x .body)) (λ i l. refl);
     }
-
--- they stand sorted already, as their ids rise
-pub sound-stored : {spec : Sharding} {shard m : ℕ} {d : List ℕ} {s e : ℕ} → SoundFrom spec shard m d s e → byId (itemsAt spec d s (entryCount s e)) ≡ itemsAt spec d s (entryCount s e)
-sound-stored {spec} {shard} {m} {d} {s} {e} g = by-id-stored spec d s (entryCount s e) (g .rising)
 
 -- what holds of them holds of them sorted
 module _ {spec : Sharding} {shard m : ℕ} {xs : List Item} (g : Listed spec shard m xs) where

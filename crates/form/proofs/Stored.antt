@@ -1,6 +1,6 @@
--- The items of a minishard as they stand: each is that of an entry, and where the stored ids rise, sorting changes nothing.
-use Prim.Native.Nat.{ℕ, zero, suc, _+_, _≤_, _<_}
-use mathlib.Core.Path.{_≡_, refl, sym, subst, ap}
+-- The items of a minishard as they stand: each is that of an entry, distinct ids make distinct items, and where the stored ids rise, sorting changes nothing.
+use Prim.Native.Nat.{ℕ, zero, suc, _+_, _^_, _≤_, _<_}
+use mathlib.Core.Path.{_≡_, refl, sym, subst, ap, _∙_}
 use mathlib.Core.Logic.{⊎-elim}
 use mathlib.Core.List.{List, List·Memᴰ·head, List·Memᴰ·tail, List·Memᴰ·not-nil, List·Memᴰ·cases-cons, Memᴰ·cast}
 use native.Mathlib.Omega.{arith}
@@ -8,7 +8,7 @@ use native.Mathlib.Nat.{not-suc-le-zero, eq-or-lt-of-le}
 use Rattle.sharding.specs.declared.Sharding.{Sharding}
 use Rattle.shard.specs.Index.{idSteps, idAt}
 use Rattle.shard.specs.Items.{Item, itemAt}
-use Rattle.form.specs.Sorted.{Member, Rising}
+use Rattle.form.specs.Sorted.{Member, Distinct, Rising}
 use Rattle.form.specs.Content.{itemsFrom, itemsAt, idOf, byId}
 use Rattle.form.proofs.ReadBack.{by-id-rising}
 
@@ -59,6 +59,28 @@ pub each-item : (spec : Sharding) (d : List ℕ) (s n : ℕ) (P : Item → Type 
 each-item spec d s n P h x m =
     let r = member-item spec d s n m in
     subst P (r .is) (h (r .entry) (r .before))
+
+-- an id is a u64
+pub id-fits : (steps : ℕ → ℕ) (i : ℕ) → idAt steps i < 2 ^ 64
+unfolding idAt
+id-fits steps i = omega arith
+
+-- ---- stored in any order
+
+distinct-from : (spec : Sharding) (d : List ℕ) (s n : ℕ) → ((i j : ℕ) → i < j → j < n → idAt (idSteps d s) i ≡ idAt (idSteps d s) j → ⊥)
+    → (i k : ℕ) → i + k ≤ n → Distinct idOf (itemsFrom spec d s n i k)
+unfolding Distinct itemsFrom itemAt
+distinct-from spec d s n apart i zero l = tt
+distinct-from spec d s n apart i (suc k) l = (later, distinct-from spec d s n apart (suc i) k (omega arith))
+  where
+    later : (y : Item) → Member y (itemsFrom spec d s n (suc i) k) → itemAt spec d s n i .id ≡ y .id → ⊥
+    later y m q =
+        let r = from-member spec d s n (suc i) k (suc i + k) refl m in
+        apart i (r .entry) (r .from) (omega (arith, r .before)) (q ∙ sym (ap (λ (x : Item). x .id) (r .is)))
+
+pub distinct-items : (spec : Sharding) (d : List ℕ) (s n : ℕ) → ((i j : ℕ) → i < j → j < n → idAt (idSteps d s) i ≡ idAt (idSteps d s) j → ⊥) → Distinct idOf (itemsAt spec d s n)
+unfolding itemsAt
+distinct-items spec d s n apart = distinct-from spec d s n apart 0 n (omega arith)
 
 -- ---- stored in rising order
 

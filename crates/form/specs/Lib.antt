@@ -2,3 +2,4 @@
 pub mod Sorted
 pub mod Form
 pub mod Content
+pub mod Before

@@ -1,5 +1,5 @@
 -- The entries of a listing: how many numbers they are, which these are, and what each turn of their writing leaves.
-use Prim.Native.Nat.{ℕ, zero, suc, _+_, _*_, _-_, _<_, _≤_}
+use Prim.Native.Nat.{ℕ, zero, suc, _+_, _*_, _-_, _%_, _^_, _<_, _≤_}
 use mathlib.Core.List.{List, [], _∷_}
 use mathlib.Core.Path.{_≡_, refl, sym, _∙_, ap}
 use native.Mathlib.Nat.{not-suc-le-zero}
@@ -7,10 +7,9 @@ use native.Mathlib.Omega.{arith}
 use native.Mathlib.Numerals.{add-one}
 use lib.ListN.{length, getD, set, length-set}
 use Rattle.endian.specs.Place.{paste}
-use Rattle.endian.specs.Range.{sumTo}
 use Rattle.endian.proofs.Paste.{paste-nil, paste-cons, paste-on, store, length-paste}
 use Rattle.shard.specs.Index.{idSteps, startSteps, sizes, idAt, startAt}
-use Rattle.shard.proofs.Tally.{Tally}
+use Rattle.shard.proofs.Tally.{Tally, tally-id, tally-place}
 use Rattle.listing.specs.Listing.{entriesFrom}
 
 -- three stores
@@ -72,15 +71,12 @@ module _ (base : ℕ) (d : List ℕ) (p n : ℕ) where
 
   -- invariant: pasting what is left into what is there gives the whole
   module _ (i : ℕ) (out : List ℕ) {whole : List ℕ} (v : paste (3 * i) (entriesFrom base d p n i (n - i)) out ≡ whole) where
-    pub listing-next : {cur end x y z : ℕ} {out′ : List ℕ} → Tally (idSteps d p) (startSteps d p n) (sizes d p n) n i cur end
-        → out′ ≡ paste (3 * i) ((cur + x) ∷ (base + (end + y)) ∷ z ∷ []) out
-        → i < n → x ≡ idSteps d p i → y ≡ startSteps d p n i → z ≡ sizes d p n i → {k : ℕ} → length out ≡ k → 3 * n ≤ k
+    pub listing-next : {cur end x y z u w : ℕ} {out′ : List ℕ} → Tally (idSteps d p) (startSteps d p n) (sizes d p n) n i cur end
+        → out′ ≡ paste (3 * i) (u ∷ (base + w) ∷ z ∷ []) out
+        → i < n → x ≡ idSteps d p i → u ≡ (cur + x) % 2 ^ 64 → y ≡ startSteps d p n i → w ≡ (end + y) % 2 ^ 64 → z ≡ sizes d p n i → {k : ℕ} → length out ≡ k → 3 * n ≤ k
         → paste (3 * (i + 1)) (entriesFrom base d p n (i + 1) (n - (i + 1))) out′ ≡ whole
-    unfolding idAt startAt sumTo
-    listing-next {cur} {end} {x} {y} {z} r w l f g h u k =
-        let a : cur + x ≡ idAt (idSteps d p) i = omega arith in
-        let b : base + (end + y) ≡ base + startAt (startSteps d p n) (sizes d p n) i = omega arith in
-        rw (w, a, b, h)
+    listing-next r w l f o g q h u k =
+        rw (w, tally-id r f o, tally-place r g q, h)
         (paste-on (3 * i) (triple base d p n i) (entriesFrom base d p n (i + 1) (n - (i + 1))) out (3 * (i + 1)) (omega arith) (omega arith)
         ∙ ap (λ (t : List ℕ). paste (3 * i) t out) (sym (left-some i l))
         ∙ v)

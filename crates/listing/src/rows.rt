@@ -32,11 +32,11 @@ fn put_entries(base: usize, data: &[u8], p: usize, n: usize, out: &mut [u64])
     let mut id: u64 = 0;
     let mut i: usize = 0;
     while i < n {
-        id += read_u64(data, p + 8 * i);
-        end += read_u64(data, q + 8 * i);
+        id = std::num::wrapping_add_u64(id, read_u64(data, p + 8 * i));
+        let start = std::num::wrapping_add_u64(end, read_u64(data, q + 8 * i));
         let size = read_u64(data, t + 8 * i);
-        put_entry(out, i, id, base as u64 + end, size);
-        end += size;
+        put_entry(out, i, id, base as u64 + start, size);
+        end = std::num::wrapping_add_u64(start, size);
         i += 1;
     }
 }

@@ -6,6 +6,8 @@ use mathlib.Core.Bool.{Bool, true, false, not}
 use native.Mathlib.Omega.{arith}
 use lib.ListN.{length, take, drop, length-take, length-drop}
 use Rattle.refusal.specs.Choice.{pick}
+use lib.Dec.{eqb}
+use Rattle.twice.specs.Twice.{repeats}
 use Rattle.endian.specs.Little.{leAt}
 use Rattle.endian.specs.Range.{sumTo, anyBelow, first}
 use Rattle.endian.proofs.Ranges.{first-lt}
@@ -38,12 +40,11 @@ same-sum f g (suc n) p = rw (same-sum f g n (λ i l. p i (omega arith)), p n (om
 module _ (f g : ℕ → ℕ) (n : ℕ) (p : Alike n f g) where
   same-id : (i : ℕ) → i < n → idAt f i ≡ idAt g i
   unfolding idAt
-  same-id i l = same-sum f g (suc i) (λ j h. p j (omega arith))
+  same-id i l = rw (same-sum f g (suc i) (λ j h. p j (omega arith)))
 
   same-bad : (i : ℕ) → i < n → badId f i ≡ badId g i
-  unfolding badId
-  same-bad zero l = rw (same-id zero l)
-  same-bad (suc i) l = rw (same-id (suc i) l, same-id i (omega arith))
+  unfolding repeats
+  same-bad i l = same-any (λ j. eqb (idAt f j) (idAt f i)) (λ j. eqb (idAt g j) (idAt g i)) i (λ j h. rw (same-id j (omega arith), same-id i l))
 
   same-foreign : (spec : Sharding) (shard m i : ℕ) → i < n → foreignAt spec shard m f i ≡ foreignAt spec shard m g i
   unfolding foreignAt

@@ -1,10 +1,9 @@
 -- What a lookup answers of a sound minishard: the bytes that it lists, and 12 for what it does not list.
 use Prim.Native.Nat.{ℕ, zero, suc, _+_, _<_, _≤_}
 use mathlib.Core.List.{List}
-use mathlib.Core.Logic.{_↔_, ⊎-elim}
+use mathlib.Core.Logic.{_↔_}
 use mathlib.Core.Path.{_≡_, refl, sym, subst, _∙_, ap}
 use mathlib.Core.Bool.{false, not, _||_}
-use native.Mathlib.Nat.{eq-or-lt-of-le, le-of-suc-le-suc, not-suc-le-zero}
 use native.Mathlib.Omega.{arith}
 use lib.ListN.{length, drop, length-drop}
 use lib.Seq.{length-take-le, drop-drop}
@@ -34,26 +33,16 @@ use Rattle.lookup.proofs.Handed.{found-inside}
 
 -- ---- ids that rise
 
--- an earlier id is smaller
-earlier : (steps : ℕ → ℕ) (n : ℕ) → ((i : ℕ) → suc i < n → idAt steps i < idAt steps (suc i)) → (j i : ℕ) → j < i → i < n → idAt steps j < idAt steps i
-earlier steps n r j zero l h = absurd (not-suc-le-zero l)
-earlier steps n r j (suc i) l h =
-    let up = r i h in
-    ⊎-elim
-    (λ q. subst (λ (k : ℕ). idAt steps k < idAt steps (suc i)) (sym q) up)
-    (λ m. let lo = earlier steps n r j i m (omega arith) in omega arith)
-    (eq-or-lt-of-le (le-of-suc-le-suc l))
-
--- so the first entry with an id is the only one
-first-is : (steps : ℕ → ℕ) (n id i : ℕ) → ((k : ℕ) → suc k < n → idAt steps k < idAt steps (suc k)) → i < n → idAt steps i ≡ id → first (isId steps id) n ≡ i
+-- as ids are distinct, the entry that has the id is the first that has it
+first-is : (steps : ℕ → ℕ) (n id i : ℕ) → ((j k : ℕ) → j < k → k < n → idAt steps j ≡ idAt steps k → ⊥) → i < n → idAt steps i ≡ id → first (isId steps id) n ≡ i
 unfolding isId
 first-is steps n id i r l e =
     first-hit (isId steps id) n i
-    (any-no (isId steps id) i (λ j h. ne-eqb (idAt steps j) id (λ q. let lo = earlier steps n r j i h l in omega arith)))
+    (any-no (isId steps id) i (λ j h. ne-eqb (idAt steps j) id (λ q. r j i h l (q ∙ sym e))))
     l
     (eq-eqb _ _ e)
 
-found-at : (base : ℕ) (d : List ℕ) (s n id i : ℕ) → ((k : ℕ) → suc k < n → idAt (idSteps d s) k < idAt (idSteps d s) (suc k)) → i < n → idAt (idSteps d s) i ≡ id
+found-at : (base : ℕ) (d : List ℕ) (s n id i : ℕ) → ((j k : ℕ) → j < k → k < n → idAt (idSteps d s) j ≡ idAt (idSteps d s) k → ⊥) → i < n → idAt (idSteps d s) i ≡ id
     → foundIn base d s n id ≡ Found (base + startAt (startSteps d s n) (sizes d s n) i) (sizes d s n i)
 unfolding isId
 found-at base d s n id i r l e = found-first base d s n id i l (eq-eqb _ _ e) (first-is (idSteps d s) n id i r l e)
@@ -75,7 +64,7 @@ module _ (spec : Sharding) (shard : ℕ) (x d : List ℕ) (id : ℕ) where
 
   in-listed : SoundMinishard spec shard x d m → (i : ℕ) {bytes : List ℕ} → ListsAt x d m i id bytes
       → lookupIn spec shard x d id ≡ Found (length x + chunkStart x d m i) (sizes d (entryStart x m) (entryCount (entryStart x m) (entryEnd x m)) i)
-  in-listed g i t = in-sound g ∙ found-at _ _ _ _ _ i (g .rising) (t .among) (t .named)
+  in-listed g i t = in-sound g ∙ found-at _ _ _ _ _ i (g .distinct) (t .among) (t .named)
 
   in-unlisted : SoundMinishard spec shard x d m → ((bytes : List ℕ) → ListsIn x d m id bytes → ⊥) → lookupIn spec shard x d id ≡ Refused 12
   in-unlisted g none = in-sound g ∙ found-none _ _ _ _ _ (λ i l q. none _ (record { entry = i; lists = record { among = l; named = q; holding = refl } }))

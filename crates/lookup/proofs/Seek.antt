@@ -1,5 +1,5 @@
 -- The search in a minishard index of n entries.
-use Prim.Native.Nat.{ℕ, _+_, _<_, _≤_}
+use Prim.Native.Nat.{ℕ, _+_, _%_, _^_, _<_, _≤_}
 use mathlib.Core.List.{List, [], _∷_}
 use mathlib.Core.Path.{_≡_, refl, sym, ap₂, _∙_}
 use mathlib.Core.Bool.{Bool, true, false, not}
@@ -8,10 +8,10 @@ use lib.ListN.{length}
 use borrow.Author.Tests.{eq-eqb, ne-eqb}
 use Rattle.refusal.specs.Choice.{pick}
 use Rattle.refusal.proofs.Picks.{by-picks}
-use Rattle.endian.specs.Range.{sumTo, anyBelow, first}
+use Rattle.endian.specs.Range.{anyBelow, first}
 use Rattle.endian.proofs.Ranges.{any-none, any-more, any-hit, any-no, first-hit, first-lt}
 use Rattle.shard.specs.Index.{idAt, startAt, endAt, idSteps, startSteps, sizes}
-use Rattle.shard.proofs.Tally.{Tally}
+use Rattle.shard.proofs.Tally.{Tally, tally-id, tally-place}
 use Rattle.lookup.specs.declared.LookupAnswer.the-variants.{Found, Refused}
 use Rattle.lookup.specs.Find.{isId, unlisted, chunkOf, foundIn}
 
@@ -59,26 +59,26 @@ module _ (base : ℕ) (d : List ℕ) (s n id : ℕ) where
 
 -- ---- as the loop finds it
 
-is-id : (f : ℕ → ℕ) (id i : ℕ) → sumTo f i + f i ≡ id → isId f id i ≡ true
-unfolding isId idAt sumTo
+is-id : (f : ℕ → ℕ) (id i : ℕ) → idAt f i ≡ id → isId f id i ≡ true
+unfolding isId
 is-id f id i p = eq-eqb _ _ p
 
-not-id : (f : ℕ → ℕ) (id i : ℕ) → (sumTo f i + f i ≡ id → ⊥) → isId f id i ≡ false
-unfolding isId idAt sumTo
+not-id : (f : ℕ → ℕ) (id i : ℕ) → (idAt f i ≡ id → ⊥) → isId f id i ≡ false
+unfolding isId
 not-id f id i p = ne-eqb _ _ p
 
 pub seek-start : (f : ℕ → ℕ) (id : ℕ) → anyBelow 0 (isId f id) ≡ false
 seek-start f id = any-none (isId f id)
 
-pub seek-turn : {f g h : ℕ → ℕ} {n i cur end : ℕ} → Tally f g h n i cur end → (id : ℕ) → {x : ℕ} → x ≡ f i → anyBelow i (isId f id) ≡ false → (cur + x ≡ id → ⊥) → anyBelow (i + 1) (isId f id) ≡ false
-seek-turn {f} {i = i} r id e p q = any-more (isId f id) i p (not-id f id i (λ k. q (omega arith)))
+pub seek-turn : {f g h : ℕ → ℕ} {n i cur end : ℕ} → Tally f g h n i cur end → (id : ℕ) → {x u : ℕ} → x ≡ f i → u ≡ (cur + x) % 2 ^ 64 → anyBelow i (isId f id) ≡ false → (u ≡ id → ⊥) → anyBelow (i + 1) (isId f id) ≡ false
+seek-turn {f} {i = i} r id e w p q = any-more (isId f id) i p (not-id f id i (λ k. q (tally-id r e w ∙ k)))
 
 module _ (base : ℕ) (d : List ℕ) (p n id : ℕ) {i cur end : ℕ} (r : Tally (idSteps d p) (startSteps d p n) (sizes d p n) n i cur end) (none : anyBelow i (isId (idSteps d p) id) ≡ false) where
-  pub seek-hit : i < n → {x y z : ℕ} → x ≡ idSteps d p i → y ≡ startSteps d p n i → z ≡ sizes d p n i → cur + x ≡ id → Found (base + (end + y)) z ≡ foundIn base d p n id
-  unfolding startAt sumTo
-  seek-hit l {x} {y} {z} e f c q =
-      let has = is-id (idSteps d p) id i (omega arith) in
-      ap₂ (λ (a b : ℕ). Found a b) (omega arith) c ∙ sym (found-first base d p n id i l has (first-hit (isId (idSteps d p) id) n i none l has))
+  pub seek-hit : i < n → {x y z u v : ℕ} → x ≡ idSteps d p i → u ≡ (cur + x) % 2 ^ 64 → y ≡ startSteps d p n i → v ≡ (end + y) % 2 ^ 64 → z ≡ sizes d p n i → u ≡ id
+      → Found (base + v) z ≡ foundIn base d p n id
+  seek-hit l e w f o c q =
+      let has = is-id (idSteps d p) id i (sym (tally-id r e w) ∙ q) in
+      ap₂ (λ (a b : ℕ). Found (base + a) b) (tally-place r f o) c ∙ sym (found-first base d p n id i l has (first-hit (isId (idSteps d p) id) n i none l has))
 
   pub seek-end : n ≤ i → Refused 12 ≡ foundIn base d p n id
   seek-end l =

@@ -16,7 +16,7 @@ use shard::judge::judge;
 use sharding::Sharding;
 use sharding::inner::minishard_of;
 
-// The chunk of an id in a minishard that passed the judge, whose n entries stand from p on; `base` is the length of the shard index.
+// The chunk of an id in a minishard that passed the judge, whose n entries stand from p on, in whatever order; `base` is the length of the shard index.
 pub fn find(base: usize, data: &[u8], p: usize, n: usize, id: u64) -> LookupAnswer
     requires { ⌜ Readable base (now «data») p n ⌝ }
     ensures { λ r. ⌜ r ≡ foundIn base (now («data» .entry)) p n id ⌝ }
@@ -27,16 +27,16 @@ pub fn find(base: usize, data: &[u8], p: usize, n: usize, id: u64) -> LookupAnsw
     let mut cur: u64 = 0;
     let mut i: usize = 0;
     while i < n {
-        cur += read_u64(data, p + 8 * i);
-        at += read_u64(data, q + 8 * i);
+        cur = std::num::wrapping_add_u64(cur, read_u64(data, p + 8 * i));
+        let start = std::num::wrapping_add_u64(at, read_u64(data, q + 8 * i));
         let size = read_u64(data, t + 8 * i);
         if cur == id {
             return LookupAnswer::Found {
-                start: base + at as usize,
+                start: base + start as usize,
                 length: size as usize,
             };
         }
-        at += size;
+        at = std::num::wrapping_add_u64(start, size);
         i += 1;
     }
     LookupAnswer::Refused(12)

@@ -3,6 +3,7 @@ pub mod Refused
 pub mod Answered
 pub mod WriteRows
 pub mod WriteChunks
+pub mod WriteSorted
 pub mod WriteWhole
 pub mod WriteAnswers
 pub mod Demand3

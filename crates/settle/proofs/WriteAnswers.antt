@@ -67,7 +67,7 @@ pub ruleset answering = (length-refused, length-given, long-refused, short-refus
 -- ---- after the check
 
 settleable : {spec : Sharding} {shard m : ℕ} {d : List ℕ} {s e : ℕ} → SoundFrom spec shard m d s e → Settleable d s e
-settleable g = record { ordered = g .ordered; within = g .within; whole = g .whole; rising = g .rising; inside = g .inside }
+settleable g = record { ordered = g .ordered; within = g .within; whole = g .whole; distinct = g .distinct; inside = g .inside }
 
 pub sound-settleable : {spec : Sharding} {shard : ℕ} {file : List ℕ} → SoundShard spec shard file → SettleableShard spec (indexPart spec file) (dataPart spec file)
 sound-settleable {spec} {shard} {file} g = record {

@@ -1,6 +1,6 @@
 -- The rows of a settled minishard index as parts of the data that it is made from, and the writes that make a settled minishard.
-use Prim.Native.Nat.{ℕ, zero, suc, _+_, _*_, _-_, _≤_, _<_}
-use mathlib.Core.Path.{_≡_, refl, ap, _∙_}
+use Prim.Native.Nat.{ℕ, zero, suc, _+_, _*_, _-_, _^_, _≤_, _<_}
+use mathlib.Core.Path.{_≡_, refl, sym, ap, _∙_}
 use mathlib.Core.List.{List, [], _∷_, _++_, append-assoc, append-nil}
 use native.Mathlib.Omega.{arith}
 use native.Mathlib.Nat.{add-zero, not-suc-le-zero}
@@ -12,16 +12,15 @@ use mir.Syntax.{w8}
 use Rattle.endian.specs.Little.{le, leAt, row}
 use Rattle.endian.specs.Place.{paste}
 use Rattle.endian.specs.Range.{sumTo}
-use Rattle.endian.proofs.Little.{le-leAt, length-le}
+use Rattle.endian.proofs.Little.{le-leAt, leAt-bound, length-le}
 use Rattle.endian.proofs.Copy.{part-length}
 use Rattle.endian.proofs.Paste.{paste-then}
-use Rattle.endian.proofs.Ranges.{sum-none}
 use Rattle.sharding.specs.declared.Sharding.{Sharding}
 use Rattle.shard.specs.Index.{idSteps, startSteps, sizes, idAt, endAt, chunkAt}
 use Rattle.shard.specs.Items.{itemAt, leadLength}
 use Rattle.form.specs.Form.{chunksOf, chunksLength, idRow, startRow, sizeRow, indexOf, partOf}
 use Rattle.form.specs.Content.{itemsFrom, itemsAt}
-use Rattle.settle.specs.Writing.{Readable, minishardLength}
+use Rattle.settle.specs.Writing.{Readable, Stored, minishardLength}
 use Rattle.form.proofs.Measures.{length-chunks}
 
 -- ---- the items of a minishard index, one after the other
@@ -52,23 +51,34 @@ row-raw d p (suc k) b h =
     let e : 8 * suc k ≡ 8 + 8 * k = omega arith in
     rw (le-leAt 8 d p b (omega arith), row-raw d (p + 8) k b (omega arith), e, take-add 8 (8 * k) (drop p d), drop-drop 8 p d)
 
-id-step : (steps : ℕ → ℕ) (i : ℕ) → idAt steps i - sumTo steps i ≡ steps i
-unfolding idAt sumTo
-id-step steps i = omega arith
+-- the id before entry i
+unfoldable idBefore : (ℕ → ℕ) → ℕ → ℕ
+idBefore steps zero = 0
+idBefore steps (suc i) = idAt steps i
 
-id-sum : (steps : ℕ → ℕ) (i : ℕ) → idAt steps i ≡ sumTo steps (suc i)
-unfolding idAt
-id-sum steps i = refl
+-- where it is below the next one, the step between them did not wrap
+id-step : (steps : ℕ → ℕ) (n i : ℕ) → ((j : ℕ) → steps j < 2 ^ 64) → ((j : ℕ) → suc j < n → idAt steps j < idAt steps (suc j)) → i < n → idAt steps i - idBefore steps i ≡ steps i
+unfolding idAt idBefore sumTo
+id-step steps n zero b up l = omega (arith, b 0)
+id-step steps n (suc i) b up l = omega (arith, b (suc i), up i l)
 
-ids-raw : (spec : Sharding) (d : List ℕ) (s n i k : ℕ) → idRow (sumTo (idSteps d s) i) (itemsFrom spec d s n i k) ≡ raw d (s + 8 * i) k
+next-before : (steps : ℕ → ℕ) (i : ℕ) → idBefore steps (suc i) ≡ idAt steps i
+unfolding idBefore
+next-before steps i = refl
+
+ids-raw : (spec : Sharding) (d : List ℕ) (s n i k : ℕ) → ((j : ℕ) → getD d j 0 < 256) → Stored d s n → i + k ≤ n → idRow (idBefore (idSteps d s) i) (itemsFrom spec d s n i k) ≡ raw d (s + 8 * i) k
 unfolding idRow raw
-ids-raw spec d s n i zero = rw (items-none spec d s n i 0 refl)
-ids-raw spec d s n i (suc k) =
-    let a = id-sum (idSteps d s) i in
-    let b = id-step (idSteps d s) i in
+ids-raw spec d s n i zero b t l = rw (items-none spec d s n i 0 refl)
+ids-raw spec d s n i (suc k) b t l =
+    let a = next-before (idSteps d s) i in
+    let c = id-step (idSteps d s) n i (λ j. leAt-bound 8 d (s + 8 * j) b) (t .up) (omega arith) in
     let e : s + 8 * i + 8 ≡ s + 8 * suc i = omega arith in
-    let r = ids-raw spec d s n (suc i) k in
+    let r = ids-raw spec d s n (suc i) k b t (omega arith) in
     rw (items-cons spec d s n i k) (cc)
+
+first-before : (steps : ℕ → ℕ) → idBefore steps 0 ≡ 0
+unfolding idBefore
+first-before steps = refl
 
 sizes-raw : (spec : Sharding) (d : List ℕ) (s n i k : ℕ) → ((j : ℕ) → j < n → endAt (startSteps d s n) (sizes d s n) j ≤ length d) → i + k ≤ n
     → sizeRow (itemsFrom spec d s n i k) ≡ raw d (s + 16 * n + 8 * i) k
@@ -104,26 +114,26 @@ starts-written p n at o l h u v =
 -- ---- a settled minishard
 
 -- as it is written
-part-is : (spec : Sharding) (d : List ℕ) (s n p : ℕ) → Readable d s n → ((i : ℕ) → getD d i 0 < 256)
+part-is : (spec : Sharding) (d : List ℕ) (s n p : ℕ) → Readable d s n → Stored d s n → ((i : ℕ) → getD d i 0 < 256)
     → partOf p (itemsAt spec d s n) ≡ chunksOf (itemsAt spec d s n) ++ (take (8 * n) (drop s d) ++ ((le 8 p ++ replicate (8 * n - 8) 0) ++ take (8 * n) (drop (s + 16 * n) d)))
 unfolding partOf indexOf itemsAt
-part-is spec d s n p r b =
+part-is spec d s n p r t b =
     let w = r .index in
     let a : idRow 0 (itemsFrom spec d s n 0 n) ≡ raw d s n =
-    ap (λ (z : ℕ). idRow z (itemsFrom spec d s n 0 n)) (sum-none (idSteps d s)) ∙ ids-raw spec d s n 0 n ∙ ap (λ (z : ℕ). raw d z n) (omega arith) in
+    ap (λ (z : ℕ). idRow z (itemsFrom spec d s n 0 n)) (sym (first-before (idSteps d s))) ∙ ids-raw spec d s n 0 n b t (omega arith) ∙ ap (λ (z : ℕ). raw d z n) (omega arith) in
     let z : sizeRow (itemsFrom spec d s n 0 n) ≡ raw d (s + 16 * n) n =
     sizes-raw spec d s n 0 n (r .inside) (omega arith) ∙ ap (λ (z : ℕ). raw d z n) (omega arith) in
     rw (a, z, row-raw d s n b (omega arith), row-raw d (s + 16 * n) n b (omega arith), starts-bytes spec d s n p (r .some))
 
 -- four writes make it
-pub part-written : (spec : Sharding) (d : List ℕ) (s n p at ids : ℕ) (o : List ℕ) {o₁ o₂ o₃ o₄ : List ℕ} → Readable d s n → ((i : ℕ) → Fits w8 (getD d i 0))
+pub part-written : (spec : Sharding) (d : List ℕ) (s n p at ids : ℕ) (o : List ℕ) {o₁ o₂ o₃ o₄ : List ℕ} → Readable d s n → Stored d s n → ((i : ℕ) → Fits w8 (getD d i 0))
     → at + minishardLength spec d s n ≤ length o → ids ≡ at + chunksLength (itemsAt spec d s n)
     → o₁ ≡ paste at (chunksOf (itemsAt spec d s n)) o
     → o₂ ≡ paste ids (take (8 * n) (drop s d)) o₁
     → o₃ ≡ paste (ids + 8 * n) (le 8 p ++ replicate (8 * n - 8) 0) o₂
     → o₄ ≡ paste (ids + 8 * n + 8 * n) (take (8 * n) (drop (s + 16 * n) d)) o₃
     → o₄ ≡ paste at (partOf p (itemsAt spec d s n)) o
-part-written spec d s n p at ids o r b l e h₁ h₂ h₃ h₄ =
+part-written spec d s n p at ids o r t b l e h₁ h₂ h₃ h₄ =
     let w = r .index in
     let A = chunksOf (itemsAt spec d s n) in
     let B = take (8 * n) (drop s d) in
@@ -137,7 +147,7 @@ part-written spec d s n p at ids o r b l e h₁ h₂ h₃ h₄ =
     let g₂ = paste-then at ids A B o h₁ h₂ (omega arith) (omega arith) in
     let g₃ = paste-then at (ids + 8 * n) (A ++ B) C o g₂ h₃ (omega arith) (omega arith) in
     let g₄ = paste-then at (ids + 8 * n + 8 * n) ((A ++ B) ++ C) D o g₃ h₄ (omega arith) (omega arith) in
-    g₄ ∙ rw (part-is spec d s n p r (λ i. b i .fits)) (simp append-assoc)
+    g₄ ∙ rw (part-is spec d s n p r t (λ i. b i .fits)) (simp append-assoc)
 
 -- two writes make an entry of the shard index
 pub entry-written : (b e at : ℕ) (o : List ℕ) {o₁ o₂ : List ℕ} → at + 16 ≤ length o → o₁ ≡ paste at (le 8 b) o → o₂ ≡ paste (at + 8) (le 8 e) o₁

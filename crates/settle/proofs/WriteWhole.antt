@@ -1,7 +1,7 @@
 -- A whole shard: a minishard with its entry, and a turn over the minishards, writing them and adding up their lengths.
 use Prim.Native.Nat.{ℕ, zero, suc, _+_, _*_, _-_, _/_, _^_, _≤_, _<_}
 use mathlib.Core.Path.{_≡_, refl, sym, ap, _∙_}
-use mathlib.Core.Bool.{true}
+use mathlib.Core.Bool.{Bool, true}
 use mathlib.Core.Logic.{_⊎_, ⊎-elim}
 use mathlib.Core.List.{List, [], _∷_, _++_, append-assoc, append-nil}
 use native.Mathlib.Omega.{arith}
@@ -19,15 +19,16 @@ use Rattle.endian.proofs.Little.{length-row}
 use Rattle.endian.proofs.Paste.{paste-nil, paste-front, paste-on, paste-apart, paste-reach, length-paste}
 use Rattle.sharding.specs.declared.Sharding.{Sharding}
 use Rattle.sharding.specs.Specification.{allowed, minishardCount}
-use Rattle.shard.specs.Index.{entryStart, entryEnd, entryCount}
+use Rattle.shard.specs.Index.{entryStart, entryEnd, entryCount, idSteps}
 use Rattle.shard.specs.File.{mostShardBytes}
 use Rattle.shard.specs.Items.{Item, leadLength, itemAt}
 use Rattle.form.specs.Form.{chunksOf, chunksLength, idRow, startRow, sizeRow, indexOf, partOf, partLength, partsFrom, partsLength, entryBegin, entryFinish, entriesFrom, settled, settledLength}
 use Rattle.form.specs.Sorted.{sortBy}
 use Rattle.form.specs.Content.{itemsFrom, itemsAt, itemsOf, byId, contentFrom, contentOf, formOf, formLength}
-use Rattle.settle.specs.Writing.{volume, Readable, Settleable, SettleableIn, SettleableParts, SettleableShard, minishardLength, oneLength, wholeLength, entryBytes, capped}
-use Rattle.form.proofs.Measures.{length-part, length-items, part-by-id, length-shard-index, length-content-from, length-content}
+use Rattle.settle.specs.Writing.{volume, Readable, Apart, Stored, Settleable, SettleableIn, SettleableParts, SettleableShard, minishardLength, oneLength, wholeLength, entryBytes, capped}
+use Rattle.form.proofs.Measures.{length-part, length-items, chunks-by-id, length-by-id, part-by-id, length-shard-index, length-content-from, length-content}
 use Rattle.form.proofs.Stored.{by-id-stored}
+use Rattle.settle.specs.Reordered.{Climbs}
 use Rattle.settle.proofs.WriteRows.{items-none, items-all}
 
 -- ---- one minishard and its entry
@@ -67,10 +68,23 @@ none-written : (spec : Sharding) (d : List ℕ) (s e p at at′ : ℕ) (o : List
 unfolding entryBytes entryBegin entryFinish partOf chunksOf indexOf idRow startRow sizeRow row
 none-written spec d s e p at at′ o q = rw (none-sorted spec d s e q, paste-nil at′ o)
 
-some-entry : (spec : Sharding) (d : List ℕ) (s n p : ℕ) → 0 < n → entryBytes p (itemsAt spec d s n) ≡ row ((p + chunksLength (itemsAt spec d s n)) ∷ (p + minishardLength spec d s n) ∷ [])
-unfolding entryBytes entryBegin entryFinish itemsAt itemsFrom
-some-entry spec d s zero p l = absurd (not-suc-le-zero l)
-some-entry spec d s (suc k) p l = ap (λ (z : ℕ). row ((p + chunksLength (itemsAt spec d s (suc k))) ∷ (p + z) ∷ [])) (stored-length spec d s (suc k))
+entry-of : (p : ℕ) (xs : List Item) → 0 < length xs → entryBytes p xs ≡ row ((p + chunksLength xs) ∷ (p + partLength xs) ∷ [])
+unfolding entryBytes entryBegin entryFinish
+entry-of p [] l = absurd (not-suc-le-zero l)
+entry-of p (x ∷ xs) l = refl
+
+some-entry : (spec : Sharding) (d : List ℕ) (s n p : ℕ) → 0 < n → entryBytes p (byId (itemsAt spec d s n)) ≡ row ((p + chunksLength (itemsAt spec d s n)) ∷ (p + minishardLength spec d s n) ∷ [])
+some-entry spec d s n p l =
+    entry-of p (byId (itemsAt spec d s n)) (omega (arith, length-by-id (itemsAt spec d s n), length-items spec d s n))
+    ∙ rw (chunks-by-id (itemsAt spec d s n), part-by-id (itemsAt spec d s n), stored-length spec d s n)
+
+-- where the ids rise, the settled minishard is as it stands
+pub stored-is : (d : List ℕ) (s n : ℕ) {b : Bool} → Climbs (idSteps d s) n b → b ≡ true → Stored d s n
+stored-is d s n h e = record { up = h .up e }
+
+pub stored-written : (d : List ℕ) (s n p at : ℕ) (o : List ℕ) {o₁ : List ℕ} {b : Bool} → Climbs (idSteps d s) n b → b ≡ true → o₁ ≡ paste at (partOf p (itemsAt volume d s n)) o
+    → o₁ ≡ paste at (partOf p (byId (itemsAt volume d s n))) o
+stored-written d s n p at o h e w = w ∙ rw (by-id-stored volume d s n (h .up e))
 
 -- of a minishard whose entry was read: s and e are what was read
 module _ (spec : Sharding) (index d : List ℕ) (m : ℕ) {s e : ℕ} (es : s ≡ entryStart index m) (ee : e ≡ entryEnd index m) where
@@ -79,6 +93,9 @@ module _ (spec : Sharding) (index d : List ℕ) (m : ℕ) {s e : ℕ} (es : s �
 
   pub readable-read : SettleableIn index d m → (s ≡ e → ⊥) → Readable d s ((e - s) / 24)
   readable-read t h = readable d s e (rw (es, ee) t) h
+
+  pub apart-read : SettleableIn index d m → Apart d s ((e - s) / 24)
+  apart-read t = record { ids = rw (es, ee) (t .distinct) }
 
   pub none-length-read : s ≡ e → 0 ≡ oneLength spec index d m
   none-length-read q = none-length spec d (entryStart index m) (entryEnd index m) (rw (es, ee) at q)
@@ -104,17 +121,16 @@ module _ (spec : Sharding) (index d : List ℕ) (m : ℕ) {s e : ℕ} (es : s �
   end-read base p out len h r f = record { fits = omega (arith, length-read h) }
 
   pub one-read : (base p : ℕ) (o : List ℕ) {len : ℕ} {o₁ o₂ : List ℕ} → SettleableIn index d m → (s ≡ e → ⊥) → len ≡ minishardLength spec d s ((e - s) / 24)
-      → o₁ ≡ paste (base + p) (partOf p (itemsAt spec d s ((e - s) / 24))) o
+      → o₁ ≡ paste (base + p) (partOf p (byId (itemsAt spec d s ((e - s) / 24)))) o
       → o₂ ≡ paste (16 * m) (row ((p + len - 24 * ((e - s) / 24)) ∷ (p + len) ∷ [])) o₁
       → o₂ ≡ paste (16 * m) (entryBytes p (byId (itemsOf spec index d m))) (paste (base + p) (partOf p (byId (itemsOf spec index d m))) o)
   one-read base p o {len} t h el w₁ w₂ =
       let n = (e - s) / 24 in
       let a : p + len - 24 * n ≡ p + chunksLength (itemsAt spec d s n) = omega arith in
       let b : p + len ≡ p + minishardLength spec d s n = omega arith in
-      let k = by-id-stored spec d (entryStart index m) (entryCount (entryStart index m) (entryEnd index m)) (t .rising) in
-      w₂ ∙ rw (k, a, b, w₁, ← some-entry spec d s n p (readable-read t h .some), es, ee)
+      w₂ ∙ rw (a, b, w₁, ← some-entry spec d s n p (readable-read t h .some), es, ee)
 
-pub ruleset reading = (ordered-read, readable-read, none-length-read, none-capped-read, none-read, length-read, capped-read, room-read, end-read, one-read, needs)
+pub ruleset reading = (ordered-read, readable-read, apart-read, none-length-read, none-capped-read, none-read, length-read, capped-read, room-read, end-read, one-read, needs)
 
 -- ---- the shard
 

@@ -1,3 +1,4 @@
 -- Settling (01, 'Settled form').
 pub mod Answers
 pub mod Writing
+pub mod Reordered

@@ -24,12 +24,20 @@ pub record Readable (d : List ℕ) (s n : ℕ) : Type 0 where
   pub index : s + 24 * n ≤ length d
   pub inside : (i : ℕ) → i < n → endAt (startSteps d s n) (sizes d s n) i ≤ length d
 
+-- and no two entries have one id
+pub record Apart (d : List ℕ) (s n : ℕ) : Type 0 where
+  pub ids : (i j : ℕ) → i < j → j < n → idAt (idSteps d s) i ≡ idAt (idSteps d s) j → ⊥
+
+-- the ids rise as they stand
+pub record Stored (d : List ℕ) (s n : ℕ) : Type 0 where
+  pub up : (i : ℕ) → suc i < n → idAt (idSteps d s) i < idAt (idSteps d s) (suc i)
+
 -- of 7, 8, 9 and 11 all that settling a minishard relies on, whose minishard index stands in d from s to e
 pub record Settleable (d : List ℕ) (s e : ℕ) : Type 0 where
   pub ordered : s ≤ e
   pub within : (s ≡ e) ⊎ (e ≤ length d)
   pub whole : (e - s) % 24 ≡ 0
-  pub rising : (i : ℕ) → suc i < entryCount s e → idAt (idSteps d s) i < idAt (idSteps d s) (suc i)
+  pub distinct : (i j : ℕ) → i < j → j < entryCount s e → idAt (idSteps d s) i ≡ idAt (idSteps d s) j → ⊥
   pub inside : (i : ℕ) → i < entryCount s e → endAt (startSteps d s (entryCount s e)) (sizes d s (entryCount s e)) i ≤ length d
 
 abbrev pub SettleableIn : List ℕ → List ℕ → ℕ → Type 0

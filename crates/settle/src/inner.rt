@@ -10,7 +10,9 @@ ghost use Rattle.shard.specs.File.{mostShardBytes};
 ghost use Rattle.form.specs.Form.{chunksOf, chunksLength, partOf, settled};
 ghost use Rattle.form.specs.Content.{itemsAt, itemsOf, byId, contentFrom, formOf, formLength};
 ghost use Rattle.settle.specs.Answers.{lengthIn, settleIn, leftIn};
-ghost use Rattle.settle.specs.Writing.{volume, Readable, SettleableIn, SettleableParts, SettleableShard, minishardLength, oneLength, wholeLength, entryBytes, capped};
+ghost use Rattle.settle.specs.Writing.{volume, Readable, Apart, Stored, SettleableIn, SettleableParts, SettleableShard, minishardLength, oneLength, wholeLength, entryBytes, capped};
+use crate::sorted::ids_rise;
+use crate::sorted::settle_sorted;
 use endian::inner::copy_bytes;
 use endian::inner::fill_zero;
 use endian::inner::put_u64;
@@ -35,21 +37,21 @@ fn copy_chunks(data: &[u8], s: usize, n: usize, out: &mut [u8], at: usize) -> us
     let starts = s + 8 * n;
     let sizes = s + 16 * n;
     let mut i = 0;
-    let mut from = 0;
+    let mut from: u64 = 0;
     let mut to = at;
     while i < n {
-        let start = from + read_u64(data, starts + 8 * i) as usize;
-        let size = read_u64(data, sizes + 8 * i) as usize;
-        copy_bytes(data, start, size, out, to);
+        let start = std::num::wrapping_add_u64(from, read_u64(data, starts + 8 * i));
+        let size = read_u64(data, sizes + 8 * i);
+        copy_bytes(data, start as usize, size as usize, out, to);
         from = start + size;
-        to += size;
+        to += size as usize;
         i += 1;
     }
     to
 }
 
 // The row of start steps: the place of the first chunk, then zeros.
-fn put_starts(out: &mut [u8], at: usize, n: usize, p: usize)
+pub fn put_starts(out: &mut [u8], at: usize, n: usize, p: usize)
     requires { ⌜ (0 < n) × (at + 8 * n ≤ length (now out)) ⌝ }
     ensures { λ _. ⌜ now (out .exit) ≡ paste at (le 8 p ++ replicate (8 * n - 8) 0) (now (out .entry)) ⌝ }
 {
@@ -57,9 +59,10 @@ fn put_starts(out: &mut [u8], at: usize, n: usize, p: usize)
     fill_zero(out, at + 8, 8 * n - 8);
 }
 
-// A minishard at the place p, which counts from `base`. The id steps and the sizes stay what they were: their rows are copied.
-fn settle_part(data: &[u8], s: usize, n: usize, out: &mut [u8], base: usize, p: usize) -> usize
-    requires { ⌜ Readable (now «data») s n ⌝ }
+// A minishard whose ids rise, at the place p, which counts from `base`. The id steps and the sizes stay what they were: their
+// rows are copied.
+fn settle_stored(data: &[u8], s: usize, n: usize, out: &mut [u8], base: usize, p: usize) -> usize
+    requires { ⌜ Readable (now «data») s n × Stored (now «data») s n ⌝ }
     requires { ⌜ base + p + minishardLength volume (now «data») s n ≤ length (now out) ⌝ }
     ensures { λ r. ⌜ r ≡ minishardLength volume (now («data» .entry)) s n ⌝ }
     ensures { λ _. ⌜ now (out .exit) ≡ paste (base + p) (partOf p (itemsAt volume (now («data» .entry)) s n)) (now (out .entry)) ⌝ }
@@ -72,6 +75,19 @@ fn settle_part(data: &[u8], s: usize, n: usize, out: &mut [u8], base: usize, p: 
     let sizes = starts + 8 * n;
     copy_bytes(data, s + 16 * n, 8 * n, out, sizes);
     (sizes + 8 * n) - begin
+}
+
+// A minishard at the place p: as it stands where its ids rise, else sorted.
+fn settle_part(data: &[u8], s: usize, n: usize, out: &mut [u8], base: usize, p: usize) -> usize
+    requires { ⌜ Readable (now «data») s n × Apart (now «data») s n ⌝ }
+    requires { ⌜ base + p + minishardLength volume (now «data») s n ≤ length (now out) ⌝ }
+    ensures { λ r. ⌜ r ≡ minishardLength volume (now («data» .entry)) s n ⌝ }
+    ensures { λ _. ⌜ now (out .exit) ≡ paste (base + p) (partOf p (byId (itemsAt volume (now («data» .entry)) s n))) (now (out .entry)) ⌝ }
+{
+    if ids_rise(data, s, n) {
+        return settle_stored(data, s, n, out, base, p);
+    }
+    settle_sorted(data, s, n, out, base, p)
 }
 
 // An entry of the shard index: where a minishard index begins and ends.

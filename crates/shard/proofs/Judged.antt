@@ -1,15 +1,16 @@
 -- The tests 7 to 11 pass a minishard exactly where it is sound.
-use Prim.Native.Nat.{ℕ, zero, suc, _-_, _%_, _^_, _≤_, _<_}
+use Prim.Native.Nat.{ℕ, _-_, _%_, _≤_, _<_}
 use mathlib.Core.Path.{_≡_}
 use mathlib.Core.Bool.{false, not, _&&_, and-false}
 use mathlib.Core.Logic.{_⊎_, inl, inr, ⊎-elim}
 use mathlib.Core.List.{List}
 use native.Mathlib.Nat.{eq-or-lt-of-le}
 use native.Mathlib.Omega.{arith}
-use lib.Dec.{ltb, leb, eqb}
+use lib.Dec.{ltb, eqb}
 use lib.ListN.{length}
-use borrow.Author.Tests.{ltb-false, lt-ltb, le-ltb, lt-leb, leb-false, eqb-true, eq-eqb, not-false}
+use borrow.Author.Tests.{ltb-false, lt-ltb, le-ltb, eqb-true, eq-eqb, not-false}
 use Rattle.refusal.proofs.Tests.{neither}
+use Rattle.twice.proofs.Ids.{repeats-no, repeats-miss}
 use Rattle.sharding.specs.declared.Sharding.{Sharding}
 use Rattle.sharding.specs.Place.{shardOf, minishardOf}
 use Rattle.shard.specs.Index.{entryStart, entryEnd, entryCount, idSteps, startSteps, sizes, idAt}
@@ -22,11 +23,11 @@ use Rattle.shard.proofs.Tests.{Passes, AllPass, Numbered, pick-none, pi
 past-end : (s e n : ℕ) → ltb s e && ltb n e ≡ false → s < e → e ≤ n
 past-end s e n p l = ltb-false n e (rw (lt-ltb s e l) at p)
 
-entry-order : (d : List ℕ) (s e : ℕ) → badEntry d s e ≡ false → s ≤ e
+pub entry-order : (d : List ℕ) (s e : ℕ) → badEntry d s e ≡ false → s ≤ e
 unfolding badEntry
 entry-order d s e p = ltb-false e s (neither (ltb e s) _ p .0)
 
-entry-within : (d : List ℕ) (s e : ℕ) → badEntry d s e ≡ false → s < e → e ≤ length d
+pub entry-within : (d : List ℕ) (s e : ℕ) → badEntry d s e ≡ false → s < e → e ≤ length d
 unfolding badEntry
 entry-within d s e p = past-end s e (length d) (neither (ltb e s) _ p .1)
 
@@ -35,21 +36,14 @@ unfolding badEntry
 entry-good d s e o (inl q) = rw (le-ltb e s o, le-ltb s e (omega arith))
 entry-good d s e o (inr q) = rw (le-ltb e s o, le-ltb (length d) e q) (and-false (ltb s e))
 
-id-bounded : (steps : ℕ → ℕ) (i : ℕ) → badId steps i ≡ false → idAt steps i < 2 ^ 64
-unfolding badId
-id-bounded steps zero e = leb-false _ _ e
-id-bounded steps (suc i) e = leb-false _ _ (neither (leb (idAt steps (suc i)) (idAt steps i)) _ e .1)
+-- no two entries have one id
+ids-apart : (f : ℕ → ℕ) (n : ℕ) → ((i : ℕ) → i < n → badId f i ≡ false) → (i j : ℕ) → i < j → j < n → idAt f i ≡ idAt f j → ⊥
+ids-apart f n p i j l h = repeats-miss (idAt f) j i (p j h) l
 
-id-rising : (steps : ℕ → ℕ) (i : ℕ) → badId steps (suc i) ≡ false → idAt steps i < idAt steps (suc i)
-unfolding badId
-id-rising steps i e = leb-false _ _ (neither _ (leb (2 ^ 64) (idAt steps (suc i))) e .0)
+apart-ids : (f : ℕ → ℕ) (n : ℕ) → ((i j : ℕ) → i < j → j < n → idAt f i ≡ idAt f j → ⊥) → (i : ℕ) → i < n → badId f i ≡ false
+apart-ids f n p i l = repeats-no (idAt f) i (λ j h. p j i h l)
 
-id-good : (steps : ℕ → ℕ) (n : ℕ) → ((i : ℕ) → suc i < n → idAt steps i < idAt steps (suc i)) → ((i : ℕ) → i < n → idAt steps i < 2 ^ 64) → (i : ℕ) → i < n → badId steps i ≡ false
-unfolding badId
-id-good steps n r b zero l = lt-leb _ _ (b zero l)
-id-good steps n r b (suc i) l = rw (lt-leb _ _ (r i l), lt-leb _ _ (b (suc i) l))
-
-foreign-not : (spec : Sharding) (shard m id : ℕ) → foreign spec shard m id ≡ false → (shardOf spec id ≡ shard) × (minishardOf spec id ≡ m)
+pub foreign-not : (spec : Sharding) (shard m id : ℕ) → foreign spec shard m id ≡ false → (shardOf spec id ≡ shard) × (minishardOf spec id ≡ m)
 unfolding foreign
 foreign-not spec shard m id e =
     let f = neither (not (eqb (shardOf spec id) shard)) _ e in
@@ -81,8 +75,7 @@ module _ (spec : Sharding) (shard m : ℕ) (d : List ℕ) (s e : ℕ) where
         ordered = entry-order d s e (q7 .0);
         within = ⊎-elim (λ k. inl k) (λ l. inr (entry-within d s e (q7 .0) l)) (eq-or-lt-of-le (entry-order d s e (q7 .0)));
         whole = eqb-true _ _ (not-false _ (q8 .0));
-        rising = λ i l. id-rising _ i (ids (suc i) l);
-        bounded = λ i l. id-bounded _ i (ids i l);
+        distinct = ids-apart (idSteps d s) n ids;
         ours = λ i l. foreign-not spec shard m _ (places i l) .0;
         here = λ i l. foreign-not spec shard m _ (places i l) .1;
         inside = λ i l. ltb-false _ _ (ends i l);
@@ -101,7 +94,7 @@ module _ {spec : Sharding} {shard m : ℕ} {d : List ℕ} {s e : ℕ} (g : Sound
   sound-entry = entry-good d s e (g .ordered) (g .within)
 
   ids-pass : (i : ℕ) → i < entryCount s e → badId (idSteps d s) i ≡ false
-  ids-pass = id-good _ _ (g .rising) (g .bounded)
+  ids-pass = apart-ids (idSteps d s) (entryCount s e) (g .distinct)
 
   places-pass : (i : ℕ) → i < entryCount s e → foreignAt spec shard m (idSteps d s) i ≡ false
   unfolding foreignAt

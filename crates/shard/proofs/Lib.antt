@@ -11,3 +11,4 @@ pub mod Split
 pub mod Whole
 pub mod WholeAnswers
 pub mod Chunks
+pub mod Earlier

@@ -1,20 +1,22 @@
 -- What holds in the loops of the judge, and what each way out of them shows.
-use Prim.Native.Nat.{ℕ, suc, _+_, _-_, _%_, _≤_, _<_}
+use Prim.Native.Nat.{ℕ, suc, _+_, _*_, _-_, _%_, _^_, _≤_, _<_}
 use mathlib.Core.Path.{_≡_, refl, _∙_}
-use mathlib.Core.Bool.{Bool}
+use mathlib.Core.Bool.{Bool, true}
 use mathlib.Core.List.{List, [], _∷_}
 use native.Mathlib.Numerals.{add-one}
 use native.Mathlib.Omega.{arith}
 use lib.ListN.{length}
 use borrow.Author.Tests.{ne-eqb}
+use Rattle.endian.specs.Little.{leAt, rowAt}
 use Rattle.endian.specs.Range.{first}
+use Rattle.twice.specs.Twice.{firstTwice}
 use Rattle.sharding.specs.declared.Sharding.{Sharding}
 use Rattle.shard.specs.declared.judge.Fault.{Fault}
 use Rattle.shard.specs.declared.judge.ShardFault.{ShardFault}
-use Rattle.shard.specs.Index.{entryStart, entryEnd, entryCount}
-use Rattle.shard.specs.Faults.{EntryTest, entryTest, outside, idTest, placeTest, endTest, entryTests, firstOf, fault, faultOf, faultAt, noFault, orLater, firstFault}
+use Rattle.shard.specs.Index.{entryStart, entryEnd, entryCount, idSteps}
+use Rattle.shard.specs.Faults.{EntryTest, entryTest, foreign, foreignAt, outside, idTest, placeTest, endTest, entryTests, firstOf, fault, faultOf, faultAt, noFault, orLater, firstFault}
 use Rattle.shard.proofs.Tests.{test-passed, test-failed}
-use Rattle.shard.proofs.Walks.{Span, span-end}
+use Rattle.shard.proofs.Walks.{twice-first, twice-none, Walk, ours-hit, Span, span-end, span-start-past, span-past}
 use Rattle.shard.proofs.Faulted.{fault-before, fault-empty, fault-past, fault-ragged, fault-entries, fault-entry}
 
 abbrev faultIn : ℕ → ℕ → ℕ → ShardFault
@@ -55,6 +57,40 @@ module _ {f : ℕ → Fault} {from to : ℕ} where
     unfolding orLater
     next s = record { left = s .left }
 
+-- ---- the tests over the entries of m
+
+module _ {f : ℕ → Fault} {from to m n : ℕ} where
+  -- all entries pass the first of them, and the others are left
+  pub test-next : {t : EntryTest} {ts : List EntryTest} → Testing f from to m n (t ∷ ts) → n ≡ first (t .fails) n → Testing f from to m n ts
+  test-next {t} {ts} r e = record { reached = record { left = rw (test-passed n t ts e) at (r .reached .left) } }
+
+  -- entry i fails it
+  pub end-entry : (k : ℕ) {i : ℕ} {test : ℕ → Bool} {ts : List EntryTest} {y : ShardFault}
+      → y ≡ faultIn (suc k) m i → Testing f from to m n (entryTest (suc k) test ∷ ts) → i ≡ first test n → i < n → y ≡ firstFault f from (to - from)
+  end-entry k {i} {test} {ts} u r e l =
+      hit k i (record { left = rw (test-failed n (entryTest (suc k) test) ts e l) at (r .reached .left) }) u
+
+  -- all pass the last
+  pub search-next : {k : ℕ} {g h : ℕ → ℕ} {len i sum : ℕ} → Testing f from to m n (entryTest k (outside len g h) ∷ []) → Span g h len n i sum → n ≤ i → Searching f from to (m + 1)
+  unfolding firstOf
+  search-next r w l = next (test-next r (span-end w l) .reached)
+
+  -- 10: the place of entry i is another
+  pub end-place : (spec : Sharding) (shard : ℕ) (d : List ℕ) (p : ℕ) {ts : List EntryTest} {i id x own : ℕ} {b : Bool} {y : ShardFault}
+      → y ≡ faultIn 10 m i → Testing f from to m n (placeTest spec shard m d p ∷ ts) → Walk (idSteps d p) (foreignAt spec shard m (idSteps d p)) n i id → i < n
+      → x ≡ leAt 8 d (p + 8 * i) → own ≡ (id + x) % 2 ^ 64 → b ≡ foreign spec shard m own → b ≡ true → y ≡ firstFault f from (to - from)
+  end-place spec shard d p u r w l e o q t = end-entry 9 u r (ours-hit spec shard m w l e o q t) l
+
+  -- 11: its chunk starts past the file, or ends past it
+  module _ (d : List ℕ) (q t len : ℕ) {ts : List EntryTest} {i end x v z : ℕ} {y : ShardFault} (u : y ≡ faultIn 11 m i)
+      (r : Testing f from to m n (entryTest 11 (outside len (rowAt d q) (rowAt d t)) ∷ ts)) (w : Span (rowAt d q) (rowAt d t) len n i end) (l : i < n)
+      (e : x ≡ leAt 8 d (q + 8 * i)) (o : v ≡ (end + x) % 2 ^ 64) (g : z ≡ leAt 8 d (t + 8 * i)) where
+    pub end-start : len < v → y ≡ firstFault f from (to - from)
+    end-start h = end-entry 10 u r (span-start-past w l e o g h) l
+
+    pub end-size : v ≤ len → len - v < z → y ≡ firstFault f from (to - from)
+    end-size h k = end-entry 10 u r (span-past w l e o g h k) l
+
 -- ---- the entry of m in the shard index
 
 module _ (spec : Sharding) (shard : ℕ) (x d : List ℕ) (from to m : ℕ) (r : Searching (faultOf spec shard x d) from to m) (l : m < to)
@@ -75,24 +111,15 @@ module _ (spec : Sharding) (shard : ℕ) (x d : List ℕ) (from to m : ℕ) (r :
     pub end-ragged : {y : ShardFault} → y ≡ faultIn 8 m 0 → e ≤ length d → ((e - s) % 24 ≡ 0 → ⊥) → y ≡ firstFault (faultOf spec shard x d) from (to - from)
     end-ragged u o z = hit 7 0 (at (fault-ragged spec shard m d s e (omega arith) o z)) u
 
-    pub test-ids : e ≤ length d → (e - s) % 24 ≡ 0 → Testing (faultOf spec shard x d) from to m (entryCount s e) (idTest d s ∷ placeTest spec shard m d s ∷ endTest d s (entryCount s e) ∷ [])
+    test-ids : e ≤ length d → (e - s) % 24 ≡ 0 → Testing (faultOf spec shard x d) from to m (entryCount s e) (idTest d s ∷ placeTest spec shard m d s ∷ endTest d s (entryCount s e) ∷ [])
     unfolding entryTests
     test-ids o z = record { reached = at (fault-entries spec shard m d s e (omega arith) o z) }
 
--- ---- the tests over the entries of m
+    module _ (o : e ≤ length d) (z : (e - s) % 24 ≡ 0) {i : ℕ} (t : i ≡ firstTwice (idSteps d s) (entryCount s e)) where
+      -- 9: entry i has the id of an earlier one
+      pub end-twice : {y : ShardFault} → y ≡ faultIn 9 m i → i < entryCount s e → y ≡ firstFault (faultOf spec shard x d) from (to - from)
+      end-twice u h = end-entry 8 u (test-ids o z) (twice-first (idSteps d s) (entryCount s e) t) h
 
-module _ {f : ℕ → Fault} {from to m n : ℕ} where
-  -- all entries pass the first of them, and the others are left
-  pub test-next : {t : EntryTest} {ts : List EntryTest} → Testing f from to m n (t ∷ ts) → n ≡ first (t .fails) n → Testing f from to m n ts
-  test-next {t} {ts} r e = record { reached = record { left = rw (test-passed n t ts e) at (r .reached .left) } }
-
-  -- entry i fails it
-  pub end-entry : (k : ℕ) {i : ℕ} {test : ℕ → Bool} {ts : List EntryTest} {y : ShardFault}
-      → y ≡ faultIn (suc k) m i → Testing f from to m n (entryTest (suc k) test ∷ ts) → i ≡ first test n → i < n → y ≡ firstFault f from (to - from)
-  end-entry k {i} {test} {ts} u r e l =
-      hit k i (record { left = rw (test-failed n (entryTest (suc k) test) ts e l) at (r .reached .left) }) u
-
-  -- all pass the last
-  pub search-next : {k : ℕ} {g h : ℕ → ℕ} {len i sum : ℕ} → Testing f from to m n (entryTest k (outside len g h) ∷ []) → Span g h len n i sum → n ≤ i → Searching f from to (m + 1)
-  unfolding firstOf
-  search-next r w l = next (test-next r (span-end w l) .reached)
+      -- none has
+      pub test-places : entryCount s e ≤ i → Testing (faultOf spec shard x d) from to m (entryCount s e) (placeTest spec shard m d s ∷ endTest d s (entryCount s e) ∷ [])
+      test-places h = test-next (test-ids o z) (twice-none (idSteps d s) (entryCount s e) t h)

@@ -43,7 +43,7 @@ unfolding orElse
 or-none zero b e = (refl, e)
 or-none (suc a) b e = absurd (omega arith)
 
-pick-zero : (b : Bool) (k y : ℕ) → pick b (suc k) y ≡ 0 → (b ≡ false) × (y ≡ 0)
+pub pick-zero : (b : Bool) (k y : ℕ) → pick b (suc k) y ≡ 0 → (b ≡ false) × (y ≡ 0)
 pick-zero true k y e = absurd (omega arith)
 pick-zero false k y e = (refl, e)
 
@@ -53,12 +53,12 @@ pick-number : (b : Bool) (f g : Fault) → pick b (f .number) (g .number) ≡ pi
 pick-number true f g = refl
 pick-number false f g = refl
 
-entries-in : (n k : ℕ) (ts : List EntryTest) → k ≤ last → Numbered k ts → AllIn (entryChecks n ts)
+pub entries-in : (n k : ℕ) (ts : List EntryTest) → k ≤ last → Numbered k ts → AllIn (entryChecks n ts)
 unfolding entryChecks
 entries-in n k [] l h = tt
 entries-in n k (t ∷ ts) l h = ((omega (arith, h .0), omega (arith, h .1)), entries-in n k ts l (h .2))
 
-entries-number : (n : ℕ) (ts : List EntryTest) → firstNumber (entryChecks n ts) ≡ firstOf n ts .number
+pub entries-number : (n : ℕ) (ts : List EntryTest) → firstNumber (entryChecks n ts) ≡ firstOf n ts .number
 unfolding entryChecks firstNumber firstOf
 entries-number n [] = refl
 entries-number n (t ∷ ts) =

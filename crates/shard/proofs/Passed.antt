@@ -23,7 +23,6 @@ from-readable g b l n =
       near = b;
       short = l;
       whole = ⊎-elim (λ q. absurd (n q)) (λ q. omega arith) (g .within);
-      bounded = g .bounded;
       inside = g .inside;
     }
 

@@ -1,12 +1,13 @@
 -- The tests 7 to 11 of a minishard (01, 'Refusal numbers'): each runs over all entries before the next.
 -- A fault has the number of the test and the entry, counted from 0, that fails it first (0 for 7 and 8, which speak of no entry); number 0 is no fault.
-use Prim.Native.Nat.{ℕ, zero, suc, _-_, _%_, _^_}
+use Prim.Native.Nat.{ℕ, zero, suc, _-_, _%_}
 use mathlib.Core.Bool.{Bool, not, _||_, _&&_}
 use mathlib.Core.List.{List, [], _∷_}
-use lib.Dec.{ltb, leb, eqb}
+use lib.Dec.{ltb, eqb}
 use lib.ListN.{length}
 use Rattle.refusal.specs.Choice.{pick}
 use Rattle.endian.specs.Range.{anyBelow, first}
+use Rattle.twice.specs.Twice.{repeats}
 use Rattle.sharding.specs.declared.Sharding.{Sharding}
 use Rattle.sharding.specs.Specification.{minishardCount}
 use Rattle.sharding.specs.Place.{shardOf, minishardOf}
@@ -25,10 +26,9 @@ badEntry d s e = ltb e s || (ltb s e && ltb (length d) e)
 unfoldable pub badLength : ℕ → ℕ → Bool
 badLength s e = not (eqb ((e - s) % 24) 0)
 
--- test 9 of entry i: its id does not exceed the one before, or passes 2^64 - 1
-unfoldable pub badId : (ℕ → ℕ) → ℕ → Bool
-badId steps zero = leb (2 ^ 64) (idAt steps zero)
-badId steps (suc i) = leb (idAt steps (suc i)) (idAt steps i) || leb (2 ^ 64) (idAt steps (suc i))
+-- test 9 of an entry: an earlier one has its id (02, order 2)
+abbrev pub badId : (ℕ → ℕ) → ℕ → Bool
+badId steps = repeats (idAt steps)
 
 -- test 10 of an id: it belongs to another shard or minishard
 unfoldable pub foreign : Sharding → ℕ → ℕ → ℕ → Bool
@@ -37,7 +37,7 @@ foreign spec shard m id = not (eqb (shardOf spec id) shard) || not (eqb (minisha
 unfoldable pub foreignAt : Sharding → ℕ → ℕ → (ℕ → ℕ) → ℕ → Bool
 foreignAt spec shard m steps i = foreign spec shard m (idAt steps i)
 
--- test 11 of entry i: its chunk ends past the file, which has n bytes behind the shard index
+-- test 11 of entry i: its chunk ends, counted exactly, past the file, which has n bytes behind the shard index
 unfoldable pub outside : ℕ → (ℕ → ℕ) → (ℕ → ℕ) → ℕ → Bool
 outside n starts size i = ltb n (endAt starts size i)
 

@@ -1,10 +1,12 @@
 -- The shard index and a minishard index (01, 'From id to shard'; source 002, 'Shard index format', 'Minishard index format').
 -- A shard is two lists here: its shard index, and the data behind it, from whose beginning all starts and ends count.
-use Prim.Native.Nat.{ℕ, suc, _+_, _*_, _-_, _/_}
+use Prim.Native.Nat.{ℕ, suc, _+_, _*_, _-_, _/_, _%_, _^_}
 use mathlib.Core.List.{List}
 use lib.ListN.{take, drop}
 use Rattle.endian.specs.Little.{leAt, rowAt}
 use Rattle.endian.specs.Range.{sumTo}
+-- an id is the sum of the id steps so far, modulo 2^64 (02, order 2)
+unfoldable pub use Rattle.twice.specs.Twice.{idAt}
 
 -- the entry of minishard m in the shard index: where its minishard index begins and ends
 abbrev pub entryStart : List ℕ → ℕ → ℕ
@@ -27,15 +29,11 @@ startSteps d s n = rowAt d (s + 8 * n)
 abbrev pub sizes : List ℕ → ℕ → ℕ → ℕ → ℕ
 sizes d s n = rowAt d (s + 16 * n)
 
--- an id is the sum of the id steps so far
-unfoldable pub idAt : (ℕ → ℕ) → ℕ → ℕ
-idAt steps i = sumTo steps (suc i)
-
--- a chunk starts at all start steps so far plus all earlier sizes
+-- a chunk starts at all start steps so far plus all earlier sizes, modulo 2^64 (02, order 2)
 unfoldable pub startAt : (ℕ → ℕ) → (ℕ → ℕ) → ℕ → ℕ
-startAt starts size i = sumTo starts (suc i) + sumTo size i
+startAt starts size i = (sumTo starts (suc i) + sumTo size i) % 2 ^ 64
 
--- and ends after as many bytes as its size
+-- and ends after as many bytes as its size, exactly: chunks may overlap, but none ends beyond what can be counted
 abbrev pub endAt : (ℕ → ℕ) → (ℕ → ℕ) → ℕ → ℕ
 endAt starts size i = startAt starts size i + size i
 

@@ -7,3 +7,4 @@ pub mod Sound
 pub mod Reading
 pub mod Items
 pub mod Lists
+pub mod Before

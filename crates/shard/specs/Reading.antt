@@ -1,9 +1,9 @@
--- What a sound minishard gives to whoever reads its entries, once it is judged: all of them stand in the data, and no id or place passes 64 bits.
-use Prim.Native.Nat.{ℕ, _+_, _*_, _^_, _≤_, _<_}
+-- What a sound minishard gives to whoever reads its entries, once it is judged: all of them, and all of their chunks, stand in the data.
+use Prim.Native.Nat.{ℕ, _+_, _*_, _≤_, _<_}
 use mathlib.Core.Path.{_≡_}
 use mathlib.Core.List.{List}
 use lib.ListN.{length}
-use Rattle.shard.specs.Index.{entryStart, entryEnd, entryCount, idSteps, startSteps, sizes, idAt, endAt}
+use Rattle.shard.specs.Index.{entryStart, entryEnd, entryCount, startSteps, sizes, endAt}
 use Rattle.shard.specs.File.{mostShardBytes}
 
 -- the n entries at s of the data d, behind a shard index of `base` bytes
@@ -11,7 +11,6 @@ pub record Readable (base : ℕ) (d : List ℕ) (s n : ℕ) : Type 0 where
   pub near : base ≤ mostShardBytes
   pub short : length d ≤ mostShardBytes
   pub whole : s + 24 * n ≤ length d
-  pub bounded : (i : ℕ) → i < n → idAt (idSteps d s) i < 2 ^ 64
   pub inside : (i : ℕ) → i < n → endAt (startSteps d s n) (sizes d s n) i ≤ length d
 
 -- those of minishard m, which may have none wherever its entry points

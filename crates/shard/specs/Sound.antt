@@ -1,5 +1,5 @@
 -- Which shards are sound (01, 'From id to shard'), said of all entries: the check passes exactly these.
-use Prim.Native.Nat.{ℕ, suc, _-_, _%_, _^_, _≤_, _<_}
+use Prim.Native.Nat.{ℕ, _-_, _%_, _≤_, _<_}
 use mathlib.Core.Path.{_≡_}
 use mathlib.Core.Bool.{true}
 use mathlib.Core.Logic.{_⊎_}
@@ -21,8 +21,7 @@ pub record SoundFrom (spec : Sharding) (shard m : ℕ) (d : List ℕ) (s e : ℕ
   -- 8
   pub whole : (e - s) % 24 ≡ 0
   -- 9
-  pub rising : (i : ℕ) → suc i < entryCount s e → idAt (idSteps d s) i < idAt (idSteps d s) (suc i)
-  pub bounded : (i : ℕ) → i < entryCount s e → idAt (idSteps d s) i < 2 ^ 64
+  pub distinct : (i j : ℕ) → i < j → j < entryCount s e → idAt (idSteps d s) i ≡ idAt (idSteps d s) j → ⊥
   -- 10
   pub ours : (i : ℕ) → i < entryCount s e → shardOf spec (idAt (idSteps d s) i) ≡ shard
   pub here : (i : ℕ) → i < entryCount s e → minishardOf spec (idAt (idSteps d s) i) ≡ m

@@ -10,6 +10,7 @@ ghost use Rattle.shard.specs.File.{mostShardBytes, indexLength};
 use endian::inner::read_u64;
 use sharding::Sharding;
 use sharding::inner::place;
+use twice::inner::first_twice;
 
 // The first test that a minishard fails, with the entry that fails it first; number 0 where it is sound.
 pub struct Fault {
@@ -58,7 +59,7 @@ fn fault_at(number: u8, minishard: u64, entry: usize) -> ShardFault
 }
 
 // Of the minishards from `from` up to `to`, end excluded, the first with a fault. A minishard's tests 9, 10 and 11 run over
-// all its entries one after the other: 'ids, 'places and 'ends. The first fault leaves all loops.
+// all its entries one after the other: `first_twice`, then 'places and 'ends, whose sums wrap. The first fault leaves all loops.
 pub fn first_fault(
     spec: Sharding,
     shard: u64,
@@ -92,28 +93,15 @@ pub fn first_fault(
             }
             let p = s as usize;
             let n = ((e - s) / 24) as usize;
-            // Compared before added, so that no sum wraps.
-            let mut id: u64 = 0;
-            let mut i: usize = 0;
-            'ids: while i < n {
-                let step = read_u64(data, p + 8 * i);
-                if 0 < i {
-                    if step == 0 {
-                        found = fault_at(9, m, i);
-                        break 'minishards;
-                    }
-                }
-                if 18446744073709551615 - id < step {
-                    found = fault_at(9, m, i);
-                    break 'minishards;
-                }
-                id += step;
-                i += 1;
+            let again = first_twice(data, p, n);
+            if again < n {
+                found = fault_at(9, m, again);
+                break 'minishards;
             }
             let mut own: u64 = 0;
             let mut j: usize = 0;
             'places: while j < n {
-                own += read_u64(data, p + 8 * j);
+                own = std::num::wrapping_add_u64(own, read_u64(data, p + 8 * j));
                 if is_foreign(spec, shard, m, own) {
                     found = fault_at(10, m, j);
                     break 'minishards;
@@ -125,18 +113,17 @@ pub fn first_fault(
             let mut end: u64 = 0;
             let mut k: usize = 0;
             'ends: while k < n {
-                let step = read_u64(data, q + 8 * k);
-                if len - end < step {
-                    found = fault_at(11, m, k);
-                    break 'minishards;
-                }
-                end += step;
+                let start = std::num::wrapping_add_u64(end, read_u64(data, q + 8 * k));
                 let size = read_u64(data, t + 8 * k);
-                if len - end < size {
+                if len < start {
                     found = fault_at(11, m, k);
                     break 'minishards;
                 }
-                end += size;
+                if len - start < size {
+                    found = fault_at(11, m, k);
+                    break 'minishards;
+                }
+                end = start + size;
                 k += 1;
             }
         }

@@ -6,11 +6,13 @@ use coronagamba::{Shard, Sharding};
 use reference::settle::settled_form;
 use std::hint::black_box;
 
-/// A settled shard of number 0, with the ids that it lists in random order.
+/// A shard of number 0, with the ids that it lists in random order.
 struct Sample {
     sharding: Sharding,
     ids: Vec<u64>,
     file: Vec<u8>,
+    /// Its settled form, where it is not settled itself.
+    form: Option<Vec<u8>>,
 }
 
 /// A shard of this many chunks of `length` bytes each.
@@ -28,10 +30,39 @@ fn sample(hash: u8, minishard_bits: u8, chunks: usize, length: usize) -> Sample 
         sharding: compare::sides::sharding(&sharding),
         file: settled_form(&sharding, &content),
         ids,
+        form: None,
+    }
+}
+
+/// A shard of one minishard that lists its chunks of `length` bytes each in
+/// order of arrival, which is random; they lie in that order too.
+fn arrival(chunks: usize, length: usize) -> Sample {
+    let sample = sample(0, 0, chunks, length);
+    let data = chunks * length;
+    let before = [0].iter().chain(&sample.ids);
+    let steps = sample.ids.iter().zip(before);
+    let rows = steps
+        .map(|(id, before)| id.wrapping_sub(*before))
+        .chain(std::iter::repeat_n(0, chunks))
+        .chain(std::iter::repeat_n(length as u64, chunks));
+    let end = data + 24 * chunks;
+    let mut file = [data as u64, end as u64].map(u64::to_le_bytes).concat();
+    // The chunks have the same bytes, so that those of the settled form do.
+    file.extend(&sample.file[file.len()..][..data]);
+    file.extend(rows.flat_map(u64::to_le_bytes));
+    Sample {
+        form: Some(sample.file),
+        file,
+        ..sample
     }
 }
 
 impl Sample {
+    /// Its settled form.
+    fn settled(&self) -> &[u8] {
+        self.form.as_ref().unwrap_or(&self.file)
+    }
+
     /// The library's view of it.
     fn open(&self) -> Shard<'_> {
         Shard::open(self.sharding, 0, black_box(&self.file))
@@ -101,7 +132,7 @@ fn checks(name: &str, sample: &Sample, bar: Option<f64>) {
 
 /// Settling, timed by KiB of output; the limit copies the file.
 fn settling(name: &str, sample: &Sample, bar: Option<f64>) {
-    let length = sample.file.len();
+    let length = sample.settled().len();
     let (mut ours, mut theirs) = (touched(length), touched(length));
     let measure = Measure {
         name,
@@ -120,9 +151,8 @@ fn settling(name: &str, sample: &Sample, bar: Option<f64>) {
             u64::from(copied[length / 2])
         },
     );
-    // The sample is settled, so its form is itself.
-    assert!(ours == sample.file, "{name}: the library's bytes");
-    assert!(theirs == sample.file, "{name}: the plain bytes");
+    assert!(ours == sample.settled(), "{name}: the library's bytes");
+    assert!(theirs == sample.settled(), "{name}: the plain bytes");
 }
 
 /// Two MiB of chunks, which fit the caches, in many minishards and in one.
@@ -155,9 +185,37 @@ fn large_chunks() {
     settling("settling, 512 MiB of 64 KiB, a KiB", &large, Some(1.25));
 }
 
+/// One minishard in random order, which has to be sorted.
+fn arrivals() {
+    let short = arrival(1 << 16, 64);
+    lookups("lookup, 2^16 in order of arrival", &short, 2, None);
+    checks(
+        "check, 2^16 in order of arrival, a chunk",
+        &short,
+        Some(3.0),
+    );
+    settling(
+        "settling, 2^16 in order of arrival, a KiB",
+        &short,
+        Some(3.0),
+    );
+    let long = arrival(1 << 20, 64);
+    checks(
+        "check, 2^20 in order of arrival, a chunk",
+        &long,
+        Some(20.0),
+    );
+    settling(
+        "settling, 2^20 in order of arrival, a KiB",
+        &long,
+        Some(20.0),
+    );
+}
+
 /// Prints the lines.
 pub fn run() {
     small_shards();
+    arrivals();
     many_chunks();
     large_chunks();
 }

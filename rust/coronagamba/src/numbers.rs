@@ -47,13 +47,13 @@ impl Refusal {
     /// A minishard index length is no multiple of 24.
     pub const INDEX_LENGTH: u8 = 8;
 
-    /// An id does not exceed the one before, or passes 2^64-1.
-    pub const ID_ORDER: u8 = 9;
+    /// An id stands twice in a minishard.
+    pub const ID_TWICE: u8 = 9;
 
     /// A listed id belongs to another shard or minishard.
     pub const ID_ELSEWHERE: u8 = 10;
 
-    /// A chunk's bytes end past the file.
+    /// Index end plus start plus size of a chunk, taken exactly, passes the file.
     pub const CHUNK_PAST_END: u8 = 11;
 
     /// The id is not listed.
@@ -113,10 +113,7 @@ pub(crate) const SENTENCES: &[(u8, &str)] = &[
         8,
         "A minishard index has a length that is no multiple of 24.",
     ),
-    (
-        9,
-        "The ids of a minishard do not rise, or one is too large.",
-    ),
+    (9, "An id stands twice in a minishard."),
     (10, "A listed id belongs to another shard or minishard."),
     (11, "A chunk ends past the file."),
     (12, "The id is not listed."),

@@ -13,7 +13,7 @@ use std::fmt;
 /// let refusal = Refusal { number: 9, minishard: Some(3) };
 /// assert_eq!(
 ///     refusal.to_string(),
-///     "refused 9: The ids of a minishard do not rise, or one is too large. \
+///     "refused 9: An id stands twice in a minishard. \
 ///      The fault is in minishard 3."
 /// );
 /// ```

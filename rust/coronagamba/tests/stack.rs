@@ -6,6 +6,8 @@ use std::thread;
 /// The bytes that coronagamba.h names; the thread's own needs come out of them
 /// too.
 const STACK: usize = 64 * 1024;
+/// Those for a call that reads a shard.
+const SHARD_STACK: usize = 384 * 1024;
 
 const SHARDING: Sharding = Sharding {
     preshift: 0,
@@ -36,7 +38,44 @@ fn info() -> (Vec<u8>, Vec<u8>) {
     (info(nested("0")), info(nested("[0]")))
 }
 
-/// A call of each kind. One that passes the stack ends the program.
+/// A shard of one minishard with this many empty chunks, their ids falling.
+fn falling(chunks: u64) -> Vec<u8> {
+    let steps = (0..chunks).map(|i| if i == 0 { chunks } else { u64::MAX });
+    let mut numbers = vec![0, 24 * chunks];
+    numbers.extend(steps);
+    numbers.resize(2 + 3 * chunks as usize, 0);
+    row(&numbers)
+}
+
+/// The calls that judge a minishard, of one whose ids fall.
+fn judging_calls(chunks: u64) {
+    let sharding = Sharding {
+        hash: Sharding::IDENTITY,
+        minishard_bits: 0,
+        ..SHARDING
+    };
+    let file = falling(chunks);
+    let shard = Shard::open(sharding, 0, &file);
+    assert_eq!(shard.check(), Ok(()));
+    assert_eq!(shard.chunk(1), Ok(&[][..]));
+    assert_eq!(shard.listed_count(0), Ok(chunks));
+    let form = shard.settled().expect("the shard is sound");
+    assert!(form != file && form.len() == file.len());
+}
+
+/// The calls that read a shard, of a small one.
+fn shard_calls() {
+    let id = (0..).find(|id| SHARDING.place(*id).map(|place| place.minishard) == Ok(0));
+    let id = id.expect("an id of the first minishard");
+    let file = [row(&[2, 26, 0, 0]), b"ab".to_vec(), row(&[id, 0, 2])].concat();
+    let shard = Shard::open(SHARDING, 0, &file);
+    assert_eq!(shard.check(), Ok(()));
+    assert_eq!(shard.chunk(id), Ok(&b"ab"[..]));
+    assert_eq!(shard.listing(0).map(|listed| listed.len()), Ok(1));
+    assert!(shard.settled().is_ok_and(|form| form == file));
+}
+
+/// A call of each kind but those. One that passes the stack ends the program.
 fn calls() {
     let volume = Volume::new([100, 200, 300], [64; 3], [-64, 0, 0]);
     let cell = [1, 2, 3].into();
@@ -56,14 +95,6 @@ fn calls() {
         Card::read_info(&deep, 0).map_err(|refusal| refusal.number),
         Err(19)
     );
-    let id = (0..).find(|id| SHARDING.place(*id).map(|place| place.minishard) == Ok(0));
-    let id = id.expect("an id of the first minishard");
-    let file = [row(&[2, 26, 0, 0]), b"ab".to_vec(), row(&[id, 0, 2])].concat();
-    let shard = Shard::open(SHARDING, 0, &file);
-    assert_eq!(shard.check(), Ok(()));
-    assert_eq!(shard.chunk(id), Ok(&b"ab"[..]));
-    assert_eq!(shard.listing(0).map(|listed| listed.len()), Ok(1));
-    assert!(shard.settled().is_ok_and(|form| form == file));
     let mut items = vec![1f32.to_bits(); 6];
     items.extend([1, 0, 0, 0, 0, 1, 0, 0, 0, 9]);
     let bytes: Vec<u8> = items.iter().flat_map(|item| item.to_le_bytes()).collect();
@@ -72,8 +103,20 @@ fn calls() {
     assert!(manifest.node(0, 0).is_ok() && manifest.corners(0, 0).is_ok());
 }
 
+/// Runs this in a thread with as much stack.
+fn within(stack: usize, calls: impl FnOnce() + Send + 'static) {
+    let thread = thread::Builder::new().stack_size(stack).spawn(calls);
+    thread.expect("a thread").join().expect("the calls pass");
+}
+
 #[test]
 fn a_small_stack_is_enough() {
-    let thread = thread::Builder::new().stack_size(STACK).spawn(calls);
-    thread.expect("a thread").join().expect("the calls pass");
+    within(STACK, calls);
+}
+
+#[test]
+fn shards_take_more() {
+    within(SHARD_STACK, shard_calls);
+    within(SHARD_STACK, || judging_calls(1_000));
+    within(SHARD_STACK, || judging_calls(50_000));
 }

@@ -89,7 +89,8 @@ example:
 pub const CHECK: &str = concat!(
     "\
 Tells for each shard whether it is sound: every index entry, id and chunk is
-as the rules ask, so that every listed chunk can be handed out.
+as the rules ask, so that every listed chunk can be handed out. Ids may stand
+in any order, and chunks may overlap.
 
 usage: coronagamba check PATH... [OPTIONS]
 
@@ -121,9 +122,9 @@ example:
 /// `settle`.
 pub const SETTLE: &str = concat!(
     "\
-Writes settled forms: the one layout that what a shard lists has. Two sound
-shards hold the same chunks exactly when their settled forms are the same
-bytes.
+Writes settled forms: the one layout that what a shard lists has, in rising id
+order within each minishard. Two sound shards hold the same chunks exactly when
+their settled forms are the same bytes.
 
 usage: coronagamba settle FILE --out FILE2 [OPTIONS]
        coronagamba settle DIR --out DIR2 [OPTIONS]
@@ -160,7 +161,7 @@ example:
 pub const SAME: &str = concat!(
     "\
 Tells whether two shards or two folders of shards hold the same chunks, in
-whatever layout.
+whatever layout and order.
 
 usage: coronagamba same PATH1 PATH2 [OPTIONS]
 
@@ -555,6 +556,7 @@ DIR must be missing or empty. It then has:
   deposit.card    the sharding and the volume
   copy-a          the shards of a volume, in settled form
   copy-b          the same chunks in another layout
+  copy-c          the same chunks, listed in order of arrival
   damaged         a copy with damaged shards, one with another chunk, and one
                   missing
   murmur.card     the same volume under another hash

@@ -10,7 +10,6 @@ pub trait Whole: Display {}
 impl Whole for u8 {}
 impl Whole for u32 {}
 impl Whole for u64 {}
-impl Whole for u128 {}
 impl Whole for i32 {}
 impl Whole for i64 {}
 

@@ -216,7 +216,7 @@ mod tests {
         let diagnosis = Diagnosis {
             byte: Some(460),
             line: Some((4, 7)),
-            entry: Some((3, 1 << 64)),
+            entry: Some((3, u64::MAX)),
             ..Diagnosis::new("f", "e", "l")
         };
         let refusal = Refusal {
@@ -228,7 +228,7 @@ mod tests {
             refusal_object(&refused).finish(),
             "{\"path\":\"0.shard\",\"result\":\"refused\",\"refusal\":11,\"minishard\":2,\
              \"sentence\":\"A chunk ends past the file.\",\"found\":\"f\",\"expected\":\"e\",\
-             \"look_at\":\"l\",\"byte\":460,\"line\":4,\"column\":7,\"entry\":3,\"id\":18446744073709551616}"
+             \"look_at\":\"l\",\"byte\":460,\"line\":4,\"column\":7,\"entry\":3,\"id\":18446744073709551615}"
         );
     }
 }

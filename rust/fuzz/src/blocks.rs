@@ -34,17 +34,56 @@ pub fn assembly(listing: &str, counted: bool) -> Result<Assembly, Unknown> {
         if section.name.starts_with(".text") && section.size > 0 {
             out.code(&object, section)?;
         } else if is_data(section) {
-            out.data(section)?;
+            out.data(&object, section)?;
         }
     }
     out.counters();
     Ok(out)
 }
 
+/// The places of a function that a table of jumps has: each entry is the place
+/// less the table's own start, and the linker counts from the entry.
+fn jumps(code: &Section, table: &Section) -> Result<Option<Vec<u64>>, Unknown> {
+    if table
+        .references
+        .iter()
+        .any(|entry| entry.symbol != code.name)
+    {
+        return Ok(None);
+    }
+    let places = table.references.iter().enumerate().map(|(number, entry)| {
+        let at = 4 * number as u64;
+        match u64::try_from(entry.addend - at as i64) {
+            Ok(place) if entry.at == at => Ok(place),
+            _ => unknown(&table.name),
+        }
+    });
+    let places = places.collect::<Result<Vec<u64>, Unknown>>()?;
+    match table.size == 4 * places.len() as u64 {
+        true => Ok(Some(places)),
+        false => unknown(&table.name),
+    }
+}
+
+/// The places of a function that tables of jumps have.
+fn by_table(object: &Object, code: &Section) -> Result<Vec<u64>, Unknown> {
+    let mut all = Vec::new();
+    for table in object.sections.iter().filter(|section| is_table(section)) {
+        all.extend(jumps(code, table)?.unwrap_or_default());
+    }
+    Ok(all)
+}
+
 /// Where the blocks of a function begin: at its start, where something jumps
 /// to, and behind a jump that may not be taken.
-fn leaders(section: &Section) -> Result<BTreeSet<u64>, Unknown> {
+fn leaders(object: &Object, section: &Section) -> Result<BTreeSet<u64>, Unknown> {
     let mut leaders = BTreeSet::from([0]);
+    let places = by_table(object, section)?;
+    let tabled = section.instructions.iter().find(|i| i.is_by_table());
+    match tabled {
+        Some(jump) if places.is_empty() => return unknown(&jump.text),
+        _ => leaders.extend(places),
+    }
     let mut behind_jump = false;
     for instruction in &section.instructions {
         leaders.extend(instruction.target()?);
@@ -99,6 +138,11 @@ fn is_data(section: &Section) -> bool {
     section.name.starts_with(".rodata")
 }
 
+/// Whether its constants are a table of jumps.
+fn is_table(section: &Section) -> bool {
+    is_data(section) && section.relocated
+}
+
 /// The label at the start of constants.
 fn start(section: &Section) -> String {
     format!("\".L{}\"", section.name)
@@ -129,7 +173,7 @@ impl Assembly {
         let [(name, 0)] = &section.labels[..] else {
             return unknown(&section.name);
         };
-        let leaders = leaders(section)?;
+        let leaders = leaders(object, section)?;
         self.begin(section, "ax");
         if object.exported.contains(name) {
             self.line(&format!("\t.globl \"{name}\""));
@@ -158,15 +202,30 @@ impl Assembly {
         self.blocks.push((name.to_string(), at));
     }
 
-    /// Constants. A table of addresses would need its references read.
-    fn data(&mut self, section: &Section) -> Result<(), Unknown> {
-        if section.relocated {
-            return unknown(&section.name);
-        }
+    /// Constants, or a table of the places in one function that it jumps to.
+    fn data(&mut self, object: &Object, section: &Section) -> Result<(), Unknown> {
         self.begin(section, "a");
         self.line(&format!("{}:", start(section)));
+        if is_table(section) {
+            return self.table(object, section);
+        }
         for byte in &section.bytes {
             self.line(&format!("\t.byte {byte}"));
+        }
+        Ok(())
+    }
+
+    fn table(&mut self, object: &Object, section: &Section) -> Result<(), Unknown> {
+        let first = section.references.first();
+        let code = first.and_then(|entry| object.sections.iter().find(|s| s.name == entry.symbol));
+        let places = code.map(|code| jumps(code, section)).transpose()?.flatten();
+        let (Some(code), Some(places)) = (code, places) else {
+            return unknown(&section.name);
+        };
+        let leaders = leaders(object, code)?;
+        for place in places {
+            let to = label(&leaders, code, place);
+            self.line(&format!("\t.long {to}-{}", start(section)));
         }
         Ok(())
     }
@@ -306,6 +365,50 @@ coronagamba_blocks_end:
         assert!(plain.lines().eq(counted.into_iter().filter(others)));
     }
 
+    /// A function that jumps by a table of two places, one of them twice.
+    const TABLED: &str = "
+Sections:
+Idx Name              Size      VMA               LMA               File off  Algn  Flags
+  0 .text.t           00000010  0000000000000000  0000000000000000  00000040  2**4  CONTENTS, ALLOC, LOAD, RELOC, READONLY, CODE
+  1 .rodata.t         0000000c  0000000000000000  0000000000000000  00000050  2**2  CONTENTS, ALLOC, LOAD, RELOC, READONLY, DATA
+SYMBOL TABLE:
+0000000000000000 l     F .text.t\t0000000000000010 t
+Contents of section .rodata.t:
+ 0000 00000000 00000000 00000000           ............
+Disassembly of section .text.t:
+
+0000000000000000 <t>:
+   0:\tlea    0x0(%rip),%rsi        # 7 <t+0x7>\t3: R_X86_64_PC32\t.rodata.t-0x4
+   7:\tmovslq (%rsi,%rdx,4),%rdx
+   b:\tjmp    *%rdx
+   d:\tret
+   e:\tnop
+   f:\tret
+
+RELOCATION RECORDS FOR [.text.t]:
+OFFSET           TYPE              VALUE
+0000000000000003 R_X86_64_PC32     .rodata.t-0x0000000000000004
+
+RELOCATION RECORDS FOR [.rodata.t]:
+OFFSET           TYPE              VALUE
+0000000000000000 R_X86_64_PC32     .text.t+0x000000000000000f
+0000000000000004 R_X86_64_PC32     .text.t+0x0000000000000011
+0000000000000008 R_X86_64_PC32     .text.t+0x0000000000000017
+";
+
+    #[test]
+    fn a_table_of_jumps_names_its_blocks() {
+        let made = assembly(TABLED, false).unwrap();
+        let block = |at| ("t".to_string(), at);
+        assert_eq!(made.blocks, [0, 13, 15].map(block));
+        let table: Vec<&str> = made.text.lines().filter(|l| l.contains(".long")).collect();
+        let entry = |number| format!("\t.long \".Lt.{number}\"-\".L.rodata.t\"");
+        assert_eq!(table, [2, 1, 2].map(entry));
+        assert!(made
+            .text
+            .contains("\tlea    \".L.rodata.t\"+0(%rip),%rsi\n"));
+    }
+
     /// What is not understood is refused, and no wrong code is made.
     #[test]
     fn unknown_listings_are_refused() {
@@ -325,6 +428,18 @@ coronagamba_blocks_end:
         for (from, to) in changed {
             assert!(LISTING.contains(from), "{from}");
             assert!(assembly(&LISTING.replace(from, to), true).is_err(), "{to}");
+        }
+        let changed = [
+            ("jmp    *%rdx", "call   *%rdx"),
+            ("jmp    *%rdx", "jmp    *(%rdx)"),
+            ("0000000000000004 R_X86", "0000000000000006 R_X86"),
+            ("0000000c  ", "00000010  "),
+            (".text.t+0x000000000000000f", ".text.u+0x000000000000000f"),
+            (".text.t+0x0000000000000011", ".text.t+0x0000000000000001"),
+        ];
+        for (from, to) in changed {
+            assert!(TABLED.contains(from), "{from}");
+            assert!(assembly(&TABLED.replace(from, to), true).is_err(), "{to}");
         }
     }
 }

@@ -1,5 +1,5 @@
 //! What `objdump -h --syms -s -dr -w --no-show-raw-insn` lists of an object
-//! file.
+//! file, and `objdump -r -w` behind it.
 
 use std::collections::BTreeSet;
 use std::fmt;
@@ -59,16 +59,21 @@ impl Instruction {
         first.is_some_and(|word| word.starts_with("nop")) || self.text == "xchg   %ax,%ax"
     }
 
+    /// A jump to a place that a table of its function has.
+    pub fn is_by_table(&self) -> bool {
+        self.text.starts_with("jmp    *%")
+    }
+
     /// The offset in its own section that a jump or call goes to.
     pub fn target(&self) -> Result<Option<u64>, Unknown> {
         let goes = self.is_jump() || self.mnemonic() == "call";
-        if !goes || self.reference.is_some() {
+        if !goes || self.reference.is_some() || self.is_by_table() {
             return Ok(None);
         }
         let operand = self.text.split_whitespace().nth(1).unwrap_or("");
         match u64::from_str_radix(operand, 16) {
             Ok(offset) => Ok(Some(offset)),
-            // Where a jump through a register goes is not in the listing.
+            // Where a call through a register goes is not in the listing.
             Err(_) => unknown(&self.text),
         }
     }
@@ -87,6 +92,8 @@ pub(crate) struct Section {
     pub labels: Vec<(String, u64)>,
     pub bytes: Vec<u8>,
     pub instructions: Vec<Instruction>,
+    /// The places of constants that the linker fills in.
+    pub references: Vec<Reference>,
 }
 
 /// What the listing says of the object file.
@@ -186,6 +193,15 @@ fn read_reference(line: &str) -> Result<Reference, Unknown> {
     })
 }
 
+/// A line of the references of a section. Those of code stand behind their
+/// instructions too.
+fn read_constant(section: &mut Section, line: &str) -> Result<(), Unknown> {
+    if section.name.starts_with(".rodata") && line.starts_with(|c: char| c.is_ascii_hexdigit()) {
+        section.references.push(read_reference(line)?);
+    }
+    Ok(())
+}
+
 /// A line of a section's disassembly.
 fn read_instruction(section: &mut Section, line: &str) -> Result<(), Unknown> {
     let Some((at, text)) = line.split_once(":\t") else {
@@ -213,6 +229,7 @@ enum Table {
     Symbols,
     Contents(String),
     Disassembly(String),
+    References(String),
 }
 
 /// The name in a heading such as `Contents of section .text:`.
@@ -231,6 +248,8 @@ pub(crate) fn read(listing: &str) -> Result<Object, Unknown> {
             table = Table::Contents(name.to_string());
         } else if let Some(name) = heading(line, "Disassembly of section ") {
             table = Table::Disassembly(name.to_string());
+        } else if let Some(name) = heading(line, "RELOCATION RECORDS FOR [") {
+            table = Table::References(name.trim_end_matches(']').to_string());
         } else {
             read_line(&mut object, &table, line)?;
         }
@@ -242,11 +261,12 @@ fn read_line(object: &mut Object, table: &Table, line: &str) -> Result<(), Unkno
     let name = match table {
         Table::Sections => return read_section(object, line),
         Table::Symbols => return read_symbol(object, line),
-        Table::Contents(name) | Table::Disassembly(name) => name,
+        Table::Contents(name) | Table::Disassembly(name) | Table::References(name) => name,
     };
     match (object.section(name), table) {
         (None, _) => unknown(name),
         (Some(section), Table::Contents(_)) => read_bytes(section, line),
+        (Some(section), Table::References(_)) => read_constant(section, line),
         (Some(section), _) => read_instruction(section, line),
     }
 }

@@ -2,6 +2,7 @@
 
 use compare::Part;
 use coronagamba::{Shard, Sharding};
+use std::collections::HashSet;
 use testkit::Rng;
 
 /// One shard with one minishard.
@@ -12,12 +13,12 @@ const NO_BITS: Sharding = Sharding {
     shard_bits: 0,
 };
 
-/// The whole-shard check of one minishard, beside a judge that lets sums of
-/// starts wrap at 2^64 where scope, 'From id to shard', refuses them with 11.
-/// Its samples are sound: the fuzzer has to make the step that wraps.
+/// The whole-shard check of one minishard, beside a judge that lets the end of
+/// a chunk wrap at 2^64, which change requests, order 2, takes exactly: 11. Its
+/// samples are sound: the fuzzer has to make the start in front of 2^64.
 pub const PLANTED: Part = Part {
     name: "planted",
-    about: "a check whose sums wrap: the fuzzer has to find the difference",
+    about: "a check whose ends wrap: the fuzzer has to find the difference",
     meets: &[0, 6, 7, 8, 9, 11],
     compare,
     sample,
@@ -55,27 +56,27 @@ fn wrapping_check(file: &[u8]) -> u8 {
     let rows: Vec<u64> = (0..index.len() / 8).map(|i| number(index, 8 * i)).collect();
     let (ids, places) = rows.split_at(rows.len() / 3);
     let (steps, sizes) = places.split_at(ids.len());
-    if ids[1..].contains(&0)
-        || ids
-            .iter()
-            .try_fold(0u64, |a, b| a.checked_add(*b))
-            .is_none()
-    {
-        return 9;
+    let mut seen = HashSet::new();
+    let mut id = 0u64;
+    for step in ids {
+        id = id.wrapping_add(*step);
+        if !seen.insert(id) {
+            return 9;
+        }
     }
-    let mut cursor = 0u64;
+    let mut end = 0u64;
     for (step, size) in steps.iter().zip(sizes) {
-        cursor = cursor.wrapping_add(*step).wrapping_add(*size);
-        if cursor > data.len() as u64 {
+        end = end.wrapping_add(*step).wrapping_add(*size);
+        if end > data.len() as u64 {
             return 11;
         }
     }
     0
 }
 
-/// A sound shard of three chunks.
+/// A sound shard of three chunks, none of them empty.
 fn sample(rng: &mut Rng) -> Vec<u8> {
-    let sizes: [u64; 3] = std::array::from_fn(|_| rng.below(9));
+    let sizes: [u64; 3] = std::array::from_fn(|_| rng.within(1, 8));
     let length: u64 = sizes.iter().sum();
     let ids: [u64; 3] = std::array::from_fn(|_| 1 + rng.below(99));
     let chunks = rng.bytes(length as usize);
@@ -95,17 +96,22 @@ mod tests {
         }
     }
 
-    /// The second chunk steps back by one byte.
+    /// The first chunk begins one byte in front of 2^64.
     #[test]
     #[should_panic(expected = "the check of")]
-    fn a_wrapping_step_is_told() {
+    fn an_end_that_wraps_is_told() {
+        let mut file = sample(&mut Rng::new(1));
+        let at = file.len() - 6 * 8;
+        file[at..at + 8].fill(0xff);
+        compare(&file);
+    }
+
+    /// The second chunk steps back by one byte, which is no fault.
+    #[test]
+    fn a_step_back_is_sound() {
         let mut file = sample(&mut Rng::new(1));
         let at = file.len() - 5 * 8;
         file[at..at + 8].fill(0xff);
-        assert!(
-            number(&file, at - 8) + number(&file, at + 16) > 0,
-            "room to step back"
-        );
-        compare(&file);
+        assert_eq!(compare(&file), 0);
     }
 }

@@ -87,8 +87,8 @@ fn a_difference_in_a_file_is_told() {
     let folder = Scratch::new("planted");
     let part = fuzz::part("planted").unwrap();
     let mut bytes = seed(part, 1);
-    // The second of three start steps, in front of the third and of the sizes.
-    let at = bytes.len() - 5 * 8;
+    // The first of three start steps, in front of the others and of the sizes.
+    let at = bytes.len() - 6 * 8;
     bytes[at..at + 8].fill(0xff);
     fs::create_dir_all(&folder.0).unwrap();
     fs::write(folder.0.join("wrapping"), bytes).unwrap();

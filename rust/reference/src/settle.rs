@@ -143,6 +143,21 @@ mod tests {
     }
 
     #[test]
+    fn stored_order_and_overlaps_do_not_matter() {
+        // Ids 10 and 4, the second chunk one byte into the first.
+        let rows: [u64; 6] = [10, 4u64.wrapping_sub(10), 0, u64::MAX, 2, 2];
+        let mut file: Vec<u8> = [3u64, 51, 0, 0]
+            .iter()
+            .flat_map(|n| n.to_le_bytes())
+            .collect();
+        file.extend(b"abc");
+        file.extend(rows.iter().flat_map(|n| n.to_le_bytes()));
+        let mut out = vec![0; 84];
+        assert_eq!(settle(&ONE, 0, &file, &mut out), Ok(84));
+        assert_eq!(out, settled_form(&ONE, &[(4, b"bc"), (10, b"ab")]));
+    }
+
+    #[test]
     fn later_minishards_name_their_place() {
         let form = settled_form(&ONE, &[(2, b"xyz"), (3, b"q"), (5, b"rs")]);
         assert_eq!(numbers(&form[..32]), [3, 27, 30, 78]);

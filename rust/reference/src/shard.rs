@@ -1,9 +1,10 @@
 //! Reading a shard: lookup, the whole-shard check and listings (source
-//! document 002; document 01, "From id to shard").
+//! document 002; document 01, "From id to shard"; document 02, order 2).
 
 use crate::endian::read_u64;
 use crate::sharding::Sharding;
 use crate::{Refusal, MOST_SHARD_BYTES};
+use std::collections::HashSet;
 
 /// A chunk that a minishard index lists, with its place in the file.
 #[derive(Clone, Copy, Debug, PartialEq, Eq, Hash)]
@@ -23,11 +24,24 @@ impl Entry {
     }
 }
 
-/// An entry as the rows give it, its sums exact and judged by no test yet.
+/// An entry as the rows give it, judged by no test yet.
 struct RawEntry {
-    id: u128,
-    start: u128,
-    end: u128,
+    id: u64,
+    /// Counted from the end of the shard index.
+    start: u64,
+    size: u64,
+}
+
+impl RawEntry {
+    /// Where its bytes end, counted from the start of the file and exact.
+    fn end(&self, index_end: u64) -> u128 {
+        u128::from(index_end) + u128::from(self.start) + u128::from(self.size)
+    }
+}
+
+/// A sum modulo 2^64 of exact numbers.
+fn modulo(sum: u128) -> u64 {
+    (sum % (1 << 64)) as u64
 }
 
 /// Tests 1, 5 for the shard number alone, and 6.
@@ -72,28 +86,32 @@ fn minishard_index<'a>(
     Ok(Some(&part[start as usize..]))
 }
 
-/// The entries of a minishard index: three rows of n numbers, read with exact
-/// sums. Starts count from the start of the file.
-fn raw_entries(index: &[u8], index_end: u64) -> Vec<RawEntry> {
+/// The entries of a minishard index: three rows of n numbers. An id is the sum
+/// of the id steps so far, a start the sum of the start steps so far and the
+/// sizes before it, both modulo 2^64.
+fn raw_entries(index: &[u8]) -> Vec<RawEntry> {
     let n = index.len() / 24;
     let row = |number: usize, i: usize| u128::from(read_u64(index, 8 * (number * n + i)));
     let mut entries = Vec::with_capacity(n);
-    let mut id = 0;
-    let mut end = u128::from(index_end);
+    let mut ids = 0;
+    let mut starts = 0;
     for i in 0..n {
-        id += row(0, i);
-        let start = end + row(1, i);
-        end = start + row(2, i);
-        entries.push(RawEntry { id, start, end });
+        ids += row(0, i);
+        starts += row(1, i);
+        entries.push(RawEntry {
+            id: modulo(ids),
+            start: modulo(starts),
+            size: row(2, i) as u64,
+        });
+        starts += row(2, i);
     }
     entries
 }
 
-/// Test 9: ids rise strictly and none passes 2^64-1.
-fn ids_rise(entries: &[RawEntry]) -> Result<(), u8> {
-    let rising = entries.windows(2).all(|pair| pair[0].id < pair[1].id);
-    let fitting = entries.iter().all(|entry| entry.id <= u128::from(u64::MAX));
-    if rising && fitting {
+/// Test 9: no id stands twice.
+fn ids_differ(entries: &[RawEntry]) -> Result<(), u8> {
+    let mut seen = HashSet::new();
+    if entries.iter().all(|entry| seen.insert(entry.id)) {
         Ok(())
     } else {
         Err(9)
@@ -108,7 +126,7 @@ fn ids_belong(
     entries: &[RawEntry],
 ) -> Result<(), u8> {
     let belong = entries.iter().all(|entry| {
-        let place = sharding.place(entry.id as u64);
+        let place = sharding.place(entry.id);
         place.shard == number && place.minishard == minishard
     });
     if belong {
@@ -119,8 +137,9 @@ fn ids_belong(
 }
 
 /// Test 11: no chunk's bytes end past the file.
-fn chunks_fit(file: &[u8], entries: &[RawEntry]) -> Result<(), u8> {
-    if entries.iter().all(|entry| entry.end <= file.len() as u128) {
+fn chunks_fit(file: &[u8], index_end: u64, entries: &[RawEntry]) -> Result<(), u8> {
+    let length = file.len() as u128;
+    if entries.iter().all(|entry| entry.end(index_end) <= length) {
         Ok(())
     } else {
         Err(11)
@@ -138,14 +157,15 @@ fn judged_minishard(
     let Some(index) = minishard_index(sharding, file, minishard)? else {
         return Ok(Vec::new());
     };
-    let raw = raw_entries(index, sharding.index_end());
-    ids_rise(&raw)?;
+    let index_end = sharding.index_end();
+    let raw = raw_entries(index);
+    ids_differ(&raw)?;
     ids_belong(sharding, number, minishard, &raw)?;
-    chunks_fit(file, &raw)?;
+    chunks_fit(file, index_end, &raw)?;
     let entry = |raw: &RawEntry| Entry {
-        id: raw.id as u64,
-        start: raw.start as u64,
-        length: (raw.end - raw.start) as u64,
+        id: raw.id,
+        start: index_end + raw.start,
+        length: raw.size,
     };
     Ok(raw.iter().map(entry).collect())
 }
@@ -365,16 +385,54 @@ mod tests {
         assert_eq!(check(&ONE, 0, &file), fault(8, 1));
     }
 
+    /// The step from one number to another, modulo 2^64.
+    fn step(from: u64, to: u64) -> u64 {
+        to.wrapping_sub(from)
+    }
+
     #[test]
-    fn ids_that_do_not_rise_are_9() {
+    fn an_id_that_stands_twice_is_9() {
         let file = with_rows(&[4, 0, 0, 0, 2, 3], [0, 0]);
         assert_eq!(check(&ONE, 0, &file), fault(9, 0));
-        let file = with_rows(&[4, u64::MAX - 3, 0, 0, 2, 3], [0, 0]);
-        assert_eq!(check(&ONE, 0, &file), fault(9, 0));
-        let file = with_rows(&[4, u64::MAX - 5, 0, 0, 2, 3], [0, 0]);
-        assert_eq!(check(&ONE, 0, &file), Ok(()));
+        // 4, 10, 4: the pair need not be neighbours.
+        let far = [4, 6, step(10, 4), 0, 0, 0, 2, 3, 0];
+        assert_eq!(check(&ONE, 0, &with_rows(&far, [0, 0])), fault(9, 0));
+        assert_eq!(lookup(&ONE, 0, 10, &with_rows(&far, [0, 0])), Err(9));
+        // 0 as the first id and 0 again by a whole turn.
+        let turn = [0, u64::MAX, 1, 0, 0, 0, 2, 3, 0];
+        assert_eq!(check(&ONE, 0, &with_rows(&turn, [0, 0])), fault(9, 0));
         let file = with_rows(&[0, 2, 0, 0, 2, 3], [0, 0]);
         assert_eq!(lookup_part(&ONE, 0, 0, &file), b"ab");
+    }
+
+    #[test]
+    fn ids_may_fall() {
+        let file = with_rows(&[10, step(10, 4), 0, 0, 2, 3], [0, 0]);
+        assert_eq!(check(&ONE, 0, &file), Ok(()));
+        assert_eq!(lookup_part(&ONE, 0, 10, &file), b"ab");
+        assert_eq!(lookup_part(&ONE, 0, 4, &file), b"cde");
+        let listed = list_minishard(&ONE, 0, &file, 0).expect("it is sound");
+        assert_eq!(
+            listed.iter().map(|entry| entry.id).collect::<Vec<_>>(),
+            [10, 4]
+        );
+        // The largest even id, then 0: a step of 2.
+        let file = with_rows(&[u64::MAX - 1, 2, 0, 0, 2, 3], [0, 0]);
+        assert_eq!(check(&ONE, 0, &file), Ok(()));
+        assert_eq!(lookup_part(&ONE, 0, u64::MAX - 1, &file), b"ab");
+        assert_eq!(lookup_part(&ONE, 0, 0, &file), b"cde");
+    }
+
+    #[test]
+    fn starts_may_jump_back_and_chunks_overlap() {
+        // The second chunk begins one byte before the first one ends.
+        let file = with_rows(&[4, 6, 0, step(2, 1), 2, 3], [0, 0]);
+        assert_eq!(lookup_part(&ONE, 0, 4, &file), b"ab");
+        assert_eq!(lookup_part(&ONE, 0, 10, &file), b"bcd");
+        // The second chunk stands before the first.
+        let file = with_rows(&[4, 6, 3, step(5, 0), 2, 3], [0, 0]);
+        assert_eq!(lookup_part(&ONE, 0, 4, &file), b"de");
+        assert_eq!(lookup_part(&ONE, 0, 10, &file), b"abc");
     }
 
     #[test]
@@ -396,10 +454,19 @@ mod tests {
             ([4, 6, 0, 0, 2, 52], false),
             ([4, 6, 0, 51, 2, 0], true),
             ([4, 6, 0, 52, 2, 0], false),
-            ([4, 6, 0, u64::MAX, 2, 3], false),
+            // A step of 2^64-1 goes one byte back, to a start of 1.
+            ([4, 6, 0, u64::MAX, 2, 3], true),
+            ([4, 6, 0, u64::MAX, 2, 52], true),
+            ([4, 6, 0, u64::MAX, 2, 53], false),
+            // Starts and ends are added up exactly: none of these wraps.
             ([4, 6, u64::MAX, 0, 0, 0], false),
+            ([4, 6, u64::MAX, 1, 0, 0], false),
             ([4, 6, 0, 0, 2, u64::MAX], false),
-            ([4, 6, 0, u64::MAX - 1, 2, 0], false),
+            ([4, 6, 5, 0, 2, u64::MAX - 6], false),
+            ([4, 6, 0, u64::MAX - 1, 2, 0], true),
+            ([4, 6, 0, u64::MAX - 2, 2, 0], false),
+            ([4, 6, 0, u64::MAX - 2, 2, 1], false),
+            ([4, 6, 0, u64::MAX - 31 - 2, 2, 0], false),
         ] {
             let expected = if sound { Ok(()) } else { fault(11, 0) };
             assert_eq!(check(&ONE, 0, &with_rows(&rows, [0, 0])), expected);

@@ -196,8 +196,42 @@ pub fn differing(
     Some(other)
 }
 
-/// A minishard while it is laid out: its chunks in id order, the places given
-/// so far and the place of its index, counted from the end of the shard index.
+/// In which order the minishards of a shard list their chunks, and where these
+/// may lie.
+#[derive(Clone, Copy, Debug, PartialEq, Eq, Hash)]
+pub enum Order {
+    /// Rising ids, each chunk behind the one before: no sum passes 2^64.
+    Rising,
+    /// Any order and any places: steps to smaller ids and starts wrap.
+    Arrival,
+}
+
+impl Order {
+    /// Either of them.
+    pub fn draw(rng: &mut Rng) -> Self {
+        *rng.pick(&[Order::Rising, Order::Arrival])
+    }
+
+    /// Brings rising ids into this order: arrival is mostly a shuffle, now and
+    /// then falling, or rising but for one id.
+    fn arrange<T>(self, rng: &mut Rng, chunks: &mut [T]) {
+        if self == Order::Rising || chunks.is_empty() {
+            return;
+        }
+        match rng.below(4) {
+            0 => chunks.reverse(),
+            1 => {
+                let at = rng.index(chunks.len());
+                chunks[at..].rotate_left(1);
+            }
+            _ => rng.shuffle(chunks),
+        }
+    }
+}
+
+/// A minishard while it is laid out: its chunks in stored order, the places
+/// given so far and the place of its index, counted from the end of the shard
+/// index.
 #[derive(Default)]
 struct Layout {
     ids: Vec<u64>,
@@ -228,8 +262,8 @@ impl Layout {
         let mut starts = Vec::new();
         let (mut id, mut end) = (0, 0);
         for i in 0..self.ids.len() {
-            ids.push(self.ids[i] - id);
-            starts.push(self.starts[i] - end);
+            ids.push(self.ids[i].wrapping_sub(id));
+            starts.push(self.starts[i].wrapping_sub(end));
             id = self.ids[i];
             end = self.starts[i] + self.sizes[i];
         }
@@ -270,29 +304,49 @@ fn gap(rng: &mut Rng, most: usize) -> Vec<u8> {
     rng.bytes(length)
 }
 
-/// Where these bytes stand already as the front of an earlier chunk, at the
-/// cursor or behind it.
-fn shared(data: &[u8], chunks: &[(u64, u64)], cursor: u64, bytes: &[u8]) -> Option<u64> {
+/// Where these bytes stand already as the front of an earlier chunk, at `least`
+/// or behind it.
+fn shared(data: &[u8], chunks: &[(u64, u64)], least: u64, bytes: &[u8]) -> Option<u64> {
     chunks
         .iter()
         .find(|(start, size)| {
-            *start >= cursor
+            *start >= least
                 && *size >= bytes.len() as u64
                 && data[*start as usize..].starts_with(bytes)
         })
         .map(|(start, _)| *start)
 }
 
-/// A sound shard that lists this content, in a random layout: with gaps,
-/// minishard indexes before, between or after chunks, minishards mixed, bytes
-/// shared, and odd entries for empty minishards.
-pub fn lay_out(rng: &mut Rng, sharding: &Sharding, content: &Content) -> Vec<u8> {
+/// The minishards of a specification with these ids, in this order.
+fn listing(rng: &mut Rng, sharding: &Sharding, ids: &[u64], order: Order) -> Vec<Layout> {
     let mut minishards: Vec<Layout> = Vec::new();
     minishards.resize_with(sharding.minishard_count() as usize, Layout::default);
-    for (id, bytes) in content {
-        let minishard = &mut minishards[sharding.place(*id).minishard as usize];
-        minishard.ids.push(*id);
-        minishard.sizes.push(bytes.len() as u64);
+    for id in ids {
+        minishards[sharding.place(*id).minishard as usize]
+            .ids
+            .push(*id);
+    }
+    for minishard in &mut minishards {
+        order.arrange(rng, &mut minishard.ids);
+    }
+    minishards
+}
+
+/// A sound shard that lists this content, in a random layout of either order.
+pub fn lay_out(rng: &mut Rng, sharding: &Sharding, content: &Content) -> Vec<u8> {
+    let order = Order::draw(rng);
+    lay_out_in(rng, sharding, content, order)
+}
+
+/// A sound shard that lists this content in this order, in a random layout:
+/// with gaps, minishard indexes before, between or after chunks, minishards
+/// mixed, bytes shared, and odd entries for empty minishards.
+pub fn lay_out_in(rng: &mut Rng, sharding: &Sharding, content: &Content, order: Order) -> Vec<u8> {
+    let ids: Vec<u64> = content.keys().copied().collect();
+    let mut minishards = listing(rng, sharding, &ids, order);
+    for minishard in &mut minishards {
+        let size = |id| content[id].len() as u64;
+        minishard.sizes = minishard.ids.iter().map(size).collect();
     }
     let mut open: Vec<usize> = (0..minishards.len())
         .filter(|number| !minishards[*number].ids.is_empty())
@@ -313,7 +367,11 @@ pub fn lay_out(rng: &mut Rng, sharding: &Sharding, content: &Content) -> Vec<u8>
             data.resize(data.len() + minishard.index_length() as usize, 0);
         } else if next < minishard.ids.len() {
             let bytes = &content[&minishard.ids[next]];
-            let found = shared(&data, &chunks, minishard.cursor(), bytes).filter(|_| sharing);
+            let least = match order {
+                Order::Rising => minishard.cursor(),
+                Order::Arrival => 0,
+            };
+            let found = shared(&data, &chunks, least, bytes).filter(|_| sharing);
             let start = found.unwrap_or(data.len() as u64);
             if found.is_none() {
                 data.extend(bytes);
@@ -330,15 +388,12 @@ pub fn lay_out(rng: &mut Rng, sharding: &Sharding, content: &Content) -> Vec<u8>
 }
 
 /// A sound shard whose chunks lie anywhere: over each other, over minishard
-/// indexes, at the file's end. What it lists is what its bytes say.
+/// indexes, at the file's end. What it lists is what its bytes say. In arrival
+/// order the chunks of one minishard lie over each other too.
 pub fn overlapping(rng: &mut Rng, sharding: &Sharding, number: u64, most: usize) -> Vec<u8> {
-    let mut minishards: Vec<Layout> = Vec::new();
-    minishards.resize_with(sharding.minishard_count() as usize, Layout::default);
-    for id in ids(rng, sharding, number, most) {
-        minishards[sharding.place(id).minishard as usize]
-            .ids
-            .push(id);
-    }
+    let order = Order::draw(rng);
+    let ids = ids(rng, sharding, number, most);
+    let mut minishards = listing(rng, sharding, &ids, order);
     let mut data = gap(rng, 40);
     for minishard in minishards.iter_mut().filter(|m| !m.ids.is_empty()) {
         minishard.index = Some(data.len() as u64);
@@ -349,10 +404,10 @@ pub fn overlapping(rng: &mut Rng, sharding: &Sharding, number: u64, most: usize)
     for minishard in &mut minishards {
         for _ in 0..minishard.ids.len() {
             let cursor = minishard.cursor();
-            let start = if rng.once_in(3) {
-                cursor
-            } else {
-                rng.within(cursor, length)
+            let start = match order {
+                _ if rng.once_in(3) => cursor,
+                Order::Rising => rng.within(cursor, length),
+                Order::Arrival => rng.within(0, length),
             };
             let size = match rng.below(5) {
                 0 => 0,
@@ -417,6 +472,70 @@ fn other(rng: &mut Rng, old: u64, length: u64) -> u64 {
     }
 }
 
+/// Makes a sum of a row reach another value at one entry, and the same values
+/// as before behind it: `from` is the row's first number, `count` how many it
+/// has and `change` what is added to the sum.
+fn shift(file: &mut [u8], from: usize, count: usize, entry: usize, change: u64) {
+    let mut add = |entry: usize, change: u64| {
+        let at = from + 8 * entry;
+        let step = read_u64(file, at).wrapping_add(change);
+        // A place that the file does not have stays as it is.
+        let _ = put_u64(file, at, step);
+    };
+    add(entry, change);
+    if entry + 1 < count {
+        add(entry + 1, change.wrapping_neg());
+    }
+}
+
+/// Gives one entry of a minishard the id of another one, near or far, or does
+/// nothing where it has only one; the other ids stay.
+fn repeat_id(rng: &mut Rng, file: &mut [u8], start: usize, entries: usize) {
+    if entries < 2 {
+        return;
+    }
+    let later = 1 + rng.index(entries - 1);
+    let earlier = if rng.once_in(3) {
+        later - 1
+    } else {
+        rng.index(later)
+    };
+    let step = id_at(file, start, earlier).wrapping_sub(id_at(file, start, later));
+    shift(file, start, entries, later, step);
+}
+
+/// Moves one chunk to around 2^64 or around the file's end, where the chunks
+/// behind it stay; its size mostly brings a wrapped end back into the file.
+fn move_start(rng: &mut Rng, file: &mut [u8], base: usize, start: usize, entries: usize) {
+    let length = (file.len() - base) as u64;
+    let entry = rng.index(entries);
+    let row = |k: usize| start + 8 * k * entries;
+    let sum = |k: usize, count: usize| {
+        (0..count).fold(0u64, |sum, i| {
+            sum.wrapping_add(read_u64(file, row(k) + 8 * i))
+        })
+    };
+    let old = sum(1, entry + 1).wrapping_add(sum(2, entry));
+    let size = read_u64(file, row(2) + 8 * entry);
+    let small = rng.below(4);
+    let new = match rng.below(4) {
+        0 => length.wrapping_sub(size).wrapping_add(small),
+        1 => small.wrapping_sub(size),
+        2 => small.wrapping_sub(size).wrapping_sub(base as u64),
+        _ => u64::MAX - rng.below(40),
+    };
+    shift(file, row(1), entries, entry, new.wrapping_sub(old));
+    if rng.once_in(2) {
+        let grown = rng.below(40);
+        let _ = put_u64(file, row(2) + 8 * entry, size.wrapping_add(grown));
+        if entry + 1 < entries {
+            let at = row(1) + 8 * (entry + 1);
+            let step = read_u64(file, at).wrapping_sub(grown);
+            let _ = put_u64(file, at, step);
+        }
+    }
+}
+
 /// Changes the number at `at`.
 fn change(rng: &mut Rng, file: &mut [u8], at: usize, length: usize) {
     let old = read_u64(file, at);
@@ -426,11 +545,12 @@ fn change(rng: &mut Rng, file: &mut [u8], at: usize, length: usize) {
 }
 
 /// Damages the file in one place: a flipped bit or another number in any of
-/// its parts, a cut end, or bytes added behind it. It may stay sound.
+/// its parts, an id that stands twice, a chunk elsewhere, a cut end, or bytes
+/// added behind it. It may stay sound.
 pub fn damage(rng: &mut Rng, sharding: &Sharding, file: &mut Vec<u8>) {
     let base = sharding.index_end() as usize;
     let length = file.len().saturating_sub(base);
-    match rng.below(10) {
+    match rng.below(12) {
         0 if !file.is_empty() => {
             let at = rng.index(file.len());
             file[at] ^= 1 << rng.below(8);
@@ -450,6 +570,16 @@ pub fn damage(rng: &mut Rng, sharding: &Sharding, file: &mut Vec<u8>) {
         4 => {
             let more = rng.index(30);
             file.extend(rng.bytes(more));
+        }
+        5 | 6 => {
+            let index = index_numbers(rng, sharding, file).filter(|(_, count)| *count >= 3);
+            if let Some((start, count)) = index {
+                if rng.once_in(2) {
+                    repeat_id(rng, file, start, count / 3);
+                } else {
+                    move_start(rng, file, base, start, count / 3);
+                }
+            }
         }
         _ => {
             if let Some((start, count)) = index_numbers(rng, sharding, file) {
@@ -727,43 +857,114 @@ mod tests {
         }
     }
 
-    /// The exact sums of a minishard's rows: ids, and ends of chunks counted
-    /// from the end of the shard index.
-    fn exact_sums(file: &[u8], base: usize, minishard: usize) -> (Vec<u128>, Vec<u128>) {
+    /// The exact sums of a minishard's rows: ids, and starts of chunks counted
+    /// from the end of the shard index, with their sizes.
+    fn exact_sums(file: &[u8], base: usize, minishard: usize) -> (Vec<u128>, Vec<(u128, u64)>) {
         let at = |place: usize| read_u64(file, place) as usize;
         let (start, end) = (at(16 * minishard), at(16 * minishard + 8));
         let n = (end - start) / 24;
         let row = |k: usize, i: usize| u128::from(read_u64(file, base + start + 8 * (k * n + i)));
-        let running = |sum: &mut u128, step: u128| {
-            *sum += step;
-            Some(*sum)
-        };
-        let ids = (0..n).map(|i| row(0, i)).scan(0, running).collect();
-        let ends = (0..n)
-            .map(|i| row(1, i) + row(2, i))
-            .scan(0, running)
-            .collect();
-        (ids, ends)
+        let (mut id, mut cursor) = (0, 0);
+        let (mut ids, mut starts) = (Vec::new(), Vec::new());
+        for i in 0..n {
+            id += row(0, i);
+            ids.push(id);
+            cursor += row(1, i);
+            starts.push((cursor, row(2, i) as u64));
+            cursor += row(2, i);
+        }
+        (ids, starts)
+    }
+
+    /// Wrapped starts and ends around 2^64: sound shards whose sums pass it,
+    /// and shards refused with 11 that a wrapped end would let through.
+    #[test]
+    fn sums_pass_64_bits() {
+        let mut rng = Rng::new(4);
+        let most = u128::from(u64::MAX);
+        let (mut ids_pass, mut starts_pass, mut ends_wrap, mut at_the_edge) = (0, 0, 0, 0);
+        for _ in 0..20_000 {
+            let sample = damaged(&mut rng, 8);
+            let base = sample.sharding.index_end();
+            let sums = |m: u64| exact_sums(&sample.file, base as usize, m as usize);
+            match check(&sample.sharding, sample.number, &sample.file) {
+                Ok(()) => {
+                    let all = (0..sample.sharding.minishard_count()).map(sums);
+                    let (ids, starts): (Vec<_>, Vec<_>) = all.unzip();
+                    ids_pass += usize::from(ids.concat().iter().any(|id| *id > most));
+                    starts_pass += usize::from(starts.concat().iter().any(|(s, _)| *s > most));
+                }
+                Err(refusal) => {
+                    let (11, Some(minishard)) = (refusal.number, refusal.minishard) else {
+                        continue;
+                    };
+                    let (_, starts) = sums(minishard);
+                    for (start, size) in starts {
+                        let start = start as u64;
+                        let end = u128::from(base) + u128::from(start) + u128::from(size);
+                        let wrapped = end as u64 <= sample.file.len() as u64;
+                        ends_wrap += usize::from(end > most && wrapped);
+                        at_the_edge += usize::from(end == most + 1);
+                    }
+                }
+            }
+        }
+        for count in [ids_pass, starts_pass, ends_wrap, at_the_edge] {
+            assert!(
+                count > 20,
+                "{ids_pass} {starts_pass} {ends_wrap} {at_the_edge}"
+            );
+        }
+    }
+
+    /// Ids that stand twice next to each other, and with others between.
+    #[test]
+    fn ids_stand_twice_near_and_far() {
+        let mut rng = Rng::new(10);
+        let (mut near, mut far) = (0, 0);
+        for _ in 0..20_000 {
+            let sample = damaged(&mut rng, 8);
+            let checked = check(&sample.sharding, sample.number, &sample.file);
+            let (9, Some(minishard)) =
+                checked.map_or_else(|r| (r.number, r.minishard), |()| (0, None))
+            else {
+                continue;
+            };
+            let base = sample.sharding.index_end() as usize;
+            let (ids, _) = exact_sums(&sample.file, base, minishard as usize);
+            let ids: Vec<u64> = ids.iter().map(|id| *id as u64).collect();
+            let twice = |later: &usize| ids[..*later].contains(&ids[*later]);
+            let later = (0..ids.len())
+                .find(twice)
+                .expect("9 is an id that stands twice");
+            if ids[later - 1] == ids[later] {
+                near += 1;
+            } else {
+                far += 1;
+            }
+        }
+        assert!(near > 100 && far > 100, "{near} {far}");
     }
 
     #[test]
-    fn damage_makes_sums_pass_64_bits() {
-        let mut rng = Rng::new(4);
-        let (mut ids_pass, mut ends_pass) = (0, 0);
-        for _ in 0..20_000 {
-            let sample = damaged(&mut rng, 8);
-            let Err(refusal) = check(&sample.sharding, sample.number, &sample.file) else {
-                continue;
-            };
-            if let (9 | 11, Some(minishard)) = (refusal.number, refusal.minishard) {
-                let base = sample.sharding.index_end() as usize;
-                let (ids, ends) = exact_sums(&sample.file, base, minishard as usize);
-                let passes = |sums: &[u128]| sums.iter().any(|sum| *sum > u64::MAX.into());
-                ids_pass += usize::from(refusal.number == 9 && passes(&ids));
-                ends_pass += usize::from(refusal.number == 11 && passes(&ends));
+    fn rising_layouts_are_of_the_old_class() {
+        let mut rng = Rng::new(11);
+        for _ in 0..2_000 {
+            let sharding = sharding(&mut rng);
+            let number = number(&mut rng, &sharding);
+            let content = content(&mut rng, &sharding, number, 12);
+            let file = lay_out_in(&mut rng, &sharding, &content, Order::Rising);
+            for minishard in 0..sharding.minishard_count() as usize {
+                let base = sharding.index_end() as usize;
+                if read_u64(&file, 16 * minishard) == read_u64(&file, 16 * minishard + 8) {
+                    continue;
+                }
+                let (ids, starts) = exact_sums(&file, base, minishard);
+                assert!(ids.windows(2).all(|pair| pair[0] < pair[1]));
+                assert!(ids.iter().all(|id| *id <= u64::MAX.into()));
+                assert!(starts.iter().all(|(start, _)| *start <= u64::MAX.into()));
             }
         }
-        assert!(ids_pass > 50 && ends_pass > 50, "{ids_pass} {ends_pass}");
     }
 
     #[test]
@@ -771,6 +972,7 @@ mod tests {
         let mut rng = Rng::new(5);
         let (mut empty_chunks, mut at_the_end, mut odd_entries) = (0, 0, 0);
         let (mut indexes_before, mut indexes_after, mut overlaps) = (0, 0, 0);
+        let (mut falls, mut rises, mut jumps_back, mut overlaps_within) = (0, 0, 0, 0);
         for _ in 0..2_000 {
             let Sample {
                 sharding,
@@ -784,7 +986,19 @@ mod tests {
                 let (start, end) = (read_u64(&file, at), read_u64(&file, at + 8));
                 odd_entries += usize::from(start == end && start > file.len() as u64);
                 let entries = list_minishard(&sharding, number, &file, minishard);
-                for entry in entries.expect("sound") {
+                let entries = entries.expect("sound");
+                let mut pairs = entries.windows(2);
+                falls += usize::from(pairs.any(|pair| pair[0].id > pair[1].id));
+                let mut pairs = entries.windows(2);
+                rises += usize::from(pairs.all(|pair| pair[0].id < pair[1].id));
+                for pair in entries.windows(2) {
+                    let (one, other) = (pair[0], pair[1]);
+                    jumps_back += usize::from(other.start < one.start);
+                    let shared = one.start.max(other.start)
+                        < (one.start + one.length).min(other.start + other.length);
+                    overlaps_within += usize::from(shared);
+                }
+                for entry in entries {
                     empty_chunks += usize::from(entry.length == 0);
                     at_the_end += usize::from(entry.start == file.len() as u64);
                     indexes_before += usize::from(base + end <= entry.start);
@@ -801,6 +1015,10 @@ mod tests {
             indexes_before,
             indexes_after,
             overlaps,
+            falls,
+            rises,
+            jumps_back,
+            overlaps_within,
         ] {
             assert!(count > 100, "{count}");
         }

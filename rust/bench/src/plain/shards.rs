@@ -65,8 +65,50 @@ impl Index<'_> {
         self.ids.len() / 8
     }
 
-    /// Hands each chunk to `take`, in order, and gives the lowest of tests 9,
-    /// 10 and 11 that any of them fails. Sums that wrap fail a test.
+    /// Hands each chunk to `take`, in stored order: its id, and where it begins
+    /// and ends in the file or none where it ends past it. Sums wrap.
+    fn walk(&self, length: usize, mut take: impl FnMut(u64, Option<(u64, u64)>)) {
+        let (mut id, mut cursor) = (0u64, 0u64);
+        let data = length as u64 - self.base;
+        for i in 0..self.count() {
+            id = id.wrapping_add(number(self.ids, i));
+            let start = cursor.wrapping_add(number(self.starts, i));
+            let size = number(self.sizes, i);
+            cursor = start.wrapping_add(size);
+            let inside = start <= data && size <= data - start;
+            let begin = self.base.wrapping_add(start);
+            take(id, inside.then(|| (begin, begin.wrapping_add(size))));
+        }
+    }
+
+    /// Whether the ids rise.
+    fn rises(&self) -> bool {
+        let mut before = None;
+        let mut rises = true;
+        let mut id = 0u64;
+        for i in 0..self.count() {
+            id = id.wrapping_add(number(self.ids, i));
+            rises &= before < Some(id);
+            before = Some(id);
+        }
+        rises
+    }
+
+    /// Test 9 of ids that do not rise: sorted, two neighbours are equal.
+    fn repeats(&self) -> bool {
+        let mut id = 0u64;
+        let mut ids: Vec<u64> = (0..self.count())
+            .map(|i| {
+                id = id.wrapping_add(number(self.ids, i));
+                id
+            })
+            .collect();
+        ids.sort_unstable();
+        ids.windows(2).any(|pair| pair[0] == pair[1])
+    }
+
+    /// Hands each chunk to `take`, in stored order, and gives the lowest of
+    /// tests 9, 10 and 11 that any of them fails.
     fn judge(
         &self,
         sharding: &Sharding,
@@ -74,23 +116,22 @@ impl Index<'_> {
         length: usize,
         mut take: impl FnMut(Chunk),
     ) -> Result<(), u8> {
-        let (mut id, mut end) = (0u64, Some(self.base));
         let mut fault = Ok(());
-        for i in 0..self.count() {
-            let step = number(self.ids, i);
-            id = id.checked_add(step).ok_or(9)?;
-            if i > 0 && step == 0 {
-                return Err(9);
-            }
-            if place(sharding, id)? != home {
+        let mut rises = true;
+        let mut before = None;
+        self.walk(length, |id, span| {
+            rises &= before < Some(id);
+            before = Some(id);
+            if place(sharding, id) != Ok(home) {
                 fault = Err(10);
             }
-            let start = end.and_then(|end| end.checked_add(number(self.starts, i)));
-            end = start.and_then(|start| start.checked_add(number(self.sizes, i)));
-            match (start, end) {
-                (Some(start), Some(end)) if end <= length as u64 => take((id, start, end)),
-                _ => fault = fault.and(Err(11)),
+            match span {
+                Some((start, end)) => take((id, start, end)),
+                None => fault = fault.and(Err(11)),
             }
+        });
+        if !rises && self.repeats() {
+            return Err(9);
         }
         fault
     }
@@ -152,8 +193,13 @@ pub fn settle(sharding: &Sharding, shard: u64, file: &[u8], out: &mut [u8]) -> R
     for minishard in 0..1usize << sharding.minishard_bits {
         let mut entry = [0; 16];
         if let Some(index) = index(sharding, file, minishard as u64)? {
-            let start = write_chunks(&index, file, out, at);
-            let end = write_index(&index, (at - base) as u64, out, start);
+            let place = (at - base) as u64;
+            let (start, end) = if index.rises() {
+                let start = write_chunks(&index, file, out, at);
+                (start, write_index(&index, place, out, start))
+            } else {
+                write_sorted(&index, file, place, out, at)
+            };
             entry[..8].copy_from_slice(&((start - base) as u64).to_le_bytes());
             entry[8..].copy_from_slice(&((end - base) as u64).to_le_bytes());
             at = end;
@@ -163,16 +209,50 @@ pub fn settle(sharding: &Sharding, shard: u64, file: &[u8], out: &mut [u8]) -> R
     Ok(at)
 }
 
-/// Writes a judged minishard's chunks one after another; gives where they end.
+/// Writes a judged minishard's chunks one after another in stored order; gives
+/// where they end.
 fn write_chunks(index: &Index, file: &[u8], out: &mut [u8], mut at: usize) -> usize {
-    let mut end = index.base as usize;
-    for i in 0..index.count() {
-        let start = end + number(index.starts, i) as usize;
-        end = start + number(index.sizes, i) as usize;
-        out[at..at + (end - start)].copy_from_slice(&file[start..end]);
-        at += end - start;
-    }
+    index.walk(file.len(), |_, span| {
+        let (start, end) = span.unwrap_or_default();
+        let chunk = &file[start as usize..end as usize];
+        out[at..at + chunk.len()].copy_from_slice(chunk);
+        at += chunk.len();
+    });
     at
+}
+
+/// Writes a judged minishard whose ids do not rise, sorted by id; gives where
+/// its index begins and ends.
+fn write_sorted(
+    index: &Index,
+    file: &[u8],
+    place: u64,
+    out: &mut [u8],
+    mut at: usize,
+) -> (usize, usize) {
+    let mut chunks: Vec<Chunk> = Vec::with_capacity(index.count());
+    index.walk(file.len(), |id, span| {
+        let (start, end) = span.unwrap_or_default();
+        chunks.push((id, start, end));
+    });
+    chunks.sort_unstable_by_key(|(id, ..)| *id);
+    for (_, start, end) in &chunks {
+        let chunk = &file[*start as usize..*end as usize];
+        out[at..at + chunk.len()].copy_from_slice(chunk);
+        at += chunk.len();
+    }
+    let row = 8 * chunks.len();
+    let (ids, rest) = out[at..at + 3 * row].split_at_mut(row);
+    let (starts, sizes) = rest.split_at_mut(row);
+    starts.fill(0);
+    starts[..8].copy_from_slice(&place.to_le_bytes());
+    let mut before = 0;
+    for (i, (id, start, end)) in chunks.iter().enumerate() {
+        ids[8 * i..8 * i + 8].copy_from_slice(&(id - before).to_le_bytes());
+        sizes[8 * i..8 * i + 8].copy_from_slice(&(end - start).to_le_bytes());
+        before = *id;
+    }
+    (at, at + 3 * row)
 }
 
 /// Writes a minishard's settled index; gives where it ends.

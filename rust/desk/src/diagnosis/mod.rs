@@ -35,7 +35,7 @@ pub struct Diagnosis {
     pub line: Option<(u64, u64)>,
     /// The entry of the minishard index that is at fault, and its id, which may
     /// need more than 64 bits.
-    pub entry: Option<(u64, u128)>,
+    pub entry: Option<(u64, u64)>,
 }
 
 impl Diagnosis {
@@ -57,7 +57,7 @@ impl Diagnosis {
     }
 
     /// The same, about this entry of a minishard index and its id.
-    fn of_entry(self, entry: u64, id: u128) -> Self {
+    fn of_entry(self, entry: u64, id: u64) -> Self {
         Diagnosis {
             entry: Some((entry, id)),
             ..self

@@ -1,5 +1,7 @@
 //! Refusals of a shard: 5 to 13.
 
+use std::collections::HashMap;
+
 use coronagamba::{Refusal, Sharding};
 
 use super::{of_shard_number, of_sharding, u64_at, Diagnosis, Place};
@@ -171,7 +173,7 @@ impl Seen<'_> {
         match number {
             7 => self.bad_entry(minishard),
             8 => self.bad_length(minishard),
-            9 => self.bad_order(minishard),
+            9 => self.repeated_id(minishard),
             10 => self.bad_place(minishard),
             11 => self.bad_end(minishard),
             _ => None,
@@ -250,29 +252,20 @@ impl Seen<'_> {
         Some(Entries::new(rows, place, self.index_length()))
     }
 
-    /// Refusal 9.
-    fn bad_order(&self, minishard: u64) -> Option<Diagnosis> {
-        let mut before = None;
+    /// Refusal 9: the first entry whose id an entry before it has, and that
+    /// one.
+    fn repeated_id(&self, minishard: u64) -> Option<Diagnosis> {
+        let mut seen = HashMap::new();
         for entry in self.entries(minishard)? {
-            let found = match before {
-                _ if entry.id > u128::from(u64::MAX) => {
-                    format!("entry {} has id {}", entry.place, entry.id)
-                }
-                Some(before) if entry.id <= before => format!(
-                    "entry {} has id {}, the entry before it has id {before}",
-                    entry.place, entry.id
-                ),
-                _ => {
-                    before = Some(entry.id);
-                    continue;
-                }
+            let Some(earlier) = seen.insert(entry.id, entry.place) else {
+                continue;
             };
             let told = Diagnosis::new(
-                found,
                 format!(
-                    "each id greater than the one before it, at most {}",
-                    u64::MAX
+                    "entry {} has id {}, which entry {earlier} has too",
+                    entry.place, entry.id
                 ),
+                "each id once in its minishard, in any order",
                 byte(entry.id_step, &format!("id steps of minishard {minishard}")),
             );
             return Some(told.of_entry(entry.place, entry.id));
@@ -283,7 +276,7 @@ impl Seen<'_> {
     /// Refusal 10.
     fn bad_place(&self, minishard: u64) -> Option<Diagnosis> {
         for entry in self.entries(minishard)? {
-            let id = u64::try_from(entry.id).ok()?;
+            let id = entry.id;
             let place = self.sharding.place(id).ok()?;
             if place.shard != self.number || place.minishard != minishard {
                 let told = Diagnosis::new(
@@ -298,7 +291,7 @@ impl Seen<'_> {
                     byte(entry.id_step, &format!("id steps of minishard {minishard}"))
                         .and("; and the settings, if many ids are elsewhere"),
                 );
-                return Some(told.of_entry(entry.place, entry.id));
+                return Some(told.of_entry(entry.place, id));
             }
         }
         None
@@ -346,14 +339,13 @@ impl Seen<'_> {
                 ),
             ));
         }
-        let wanted = u128::from(id);
         let ids = || Some(self.entries(minishard)?.map(|entry| entry.id));
-        let below = ids()?.filter(|id| *id < wanted).last();
-        let above = ids()?.find(|id| *id > wanted);
+        let below = ids()?.filter(|listed| *listed < id).max();
+        let above = ids()?.filter(|listed| *listed > id).min();
         let near = match (below, above) {
             (Some(below), Some(above)) => format!("the nearest ids are {below} and {above}"),
-            (Some(below), None) => format!("the last id is {below}"),
-            (None, Some(above)) => format!("the first id is {above}"),
+            (Some(below), None) => format!("the greatest id is {below}"),
+            (None, Some(above)) => format!("the least id is {above}"),
             (None, None) => return None,
         };
         let place = self.index_length() + start;
@@ -371,7 +363,11 @@ impl Seen<'_> {
     fn settled_length(&self) -> Diagnosis {
         let parts = |minishard| {
             let entries = self.entries(minishard)?;
-            Some(entries.map(|entry| entry.length() + u128::from(ROWS)).sum())
+            Some(
+                entries
+                    .map(|entry| entry.end - entry.start + u128::from(ROWS))
+                    .sum(),
+            )
         };
         let all: Option<Vec<u128>> = (0..self.minishards()).map(parts).collect();
         let total = all.map(|parts| u128::from(self.index_length()) + parts.iter().sum::<u128>());
@@ -386,12 +382,12 @@ impl Seen<'_> {
     }
 }
 
-/// A chunk as a minishard index lists it, in exact numbers.
+/// A chunk as a minishard index lists it.
 struct Entry {
     /// Its number in the minishard.
     place: u64,
-    id: u128,
-    /// Where the chunk starts and ends in the file.
+    id: u64,
+    /// Where the chunk starts and ends in the file, in exact numbers.
     start: u128,
     end: u128,
     /// Where its three numbers stand in the file.
@@ -400,22 +396,18 @@ struct Entry {
     size: u64,
 }
 
-impl Entry {
-    fn length(&self) -> u128 {
-        self.end - self.start
-    }
-}
-
 /// Goes through the three rows of a minishard index (scope, 'From id to
-/// shard').
+/// shard'; change requests, order 2: ids and starts are sums modulo 2^64).
 struct Entries<'a> {
     rows: &'a [u8],
     /// Where the rows begin in the file.
     begin: u64,
+    /// Where the shard index ends, from which starts count.
+    index_length: u64,
     next: u64,
-    id: u128,
-    /// Where the chunk before ends.
-    end: u128,
+    id: u64,
+    /// Where the chunk before ends, from there on.
+    cursor: u64,
 }
 
 impl<'a> Entries<'a> {
@@ -423,9 +415,10 @@ impl<'a> Entries<'a> {
         Entries {
             rows,
             begin,
+            index_length,
             next: 0,
             id: 0,
-            end: u128::from(index_length),
+            cursor: 0,
         }
     }
 }
@@ -441,14 +434,16 @@ impl Iterator for Entries<'_> {
         }
         self.next += 1;
         let [ids, starts, sizes] = [0, 1, 2].map(|number| number * row + 8 * place);
-        self.id += u128::from(u64_at(self.rows, ids)?);
-        let start = self.end + u128::from(u64_at(self.rows, starts)?);
-        self.end = start + u128::from(u64_at(self.rows, sizes)?);
+        self.id = self.id.wrapping_add(u64_at(self.rows, ids)?);
+        let relative = self.cursor.wrapping_add(u64_at(self.rows, starts)?);
+        let size = u64_at(self.rows, sizes)?;
+        self.cursor = relative.wrapping_add(size);
+        let start = u128::from(self.index_length) + u128::from(relative);
         Some(Entry {
             place,
             id: self.id,
             start,
-            end: self.end,
+            end: start + u128::from(size),
             id_step: self.begin + ids,
             start_step: self.begin + starts,
             size: self.begin + sizes,
@@ -571,19 +566,31 @@ mod tests {
     }
 
     #[test]
-    fn order_of_ids() {
+    fn ids_that_stand_twice() {
         let told = told_check(&damaged(&[(45, 0)]), 9, Some(0));
-        assert_eq!(told.found, "entry 1 has id 4, the entry before it has id 4");
+        assert_eq!(told.found, "entry 1 has id 4, which entry 0 has too");
         assert_eq!(
             told.look_at,
             "byte 45 of the file (id steps of minishard 0)"
         );
-        let told = told_check(&damaged(&[(45, u64::MAX - 3)]), 9, Some(0));
-        assert_eq!(told.found, "entry 1 has id 18446744073709551616");
+        assert_eq!(told.expected, "each id once in its minishard, in any order");
+    }
+
+    /// Ids 4, 10, 4 and then 10 again: the later of the first pair is told.
+    #[test]
+    fn ids_that_stand_twice_far_apart() {
+        let back = 4u64.wrapping_sub(10);
+        let mut file = Vec::new();
+        for number in [0, 96, 0, 0, 4, 6, back, 6, 0, 0, 0, 0, 0, 0, 0, 0] {
+            file.extend(u64::to_le_bytes(number));
+        }
+        let told = told_check(&file, 9, Some(0));
+        assert_eq!(told.found, "entry 2 has id 4, which entry 0 has too");
         assert_eq!(
-            told.expected,
-            "each id greater than the one before it, at most 18446744073709551615"
+            told.look_at,
+            "byte 48 of the file (id steps of minishard 0)"
         );
+        assert_eq!(told.entry, Some((2, 4)));
     }
 
     #[test]
@@ -625,6 +632,10 @@ mod tests {
             told.look_at,
             "byte 61 of the file (start steps of minishard 0)"
         );
+        // One byte back from the first chunk's end, and past the file.
+        let told = told_check(&damaged(&[(61, u64::MAX), (77, 53)]), 11, Some(0));
+        assert!(told.found.contains("starts at byte 33 and ends at byte 86"));
+        assert_eq!(told.look_at, "byte 77 of the file (sizes of minishard 0)");
         let told = told_check(&damaged(&[(53, u64::MAX), (69, u64::MAX)]), 11, Some(0));
         assert!(told.found.contains(
             "entry 0, id 4: its chunk starts at byte 18446744073709551647 and ends at byte \
@@ -643,9 +654,19 @@ mod tests {
         };
         let lists = "minishard 0 of shard 0 lists 2 chunks, not this one;";
         assert_eq!(found(6), format!("{lists} the nearest ids are 4 and 10"));
-        assert_eq!(found(2), format!("{lists} the first id is 4"));
-        assert_eq!(found(12), format!("{lists} the last id is 10"));
+        assert_eq!(found(2), format!("{lists} the least id is 4"));
+        assert_eq!(found(12), format!("{lists} the greatest id is 10"));
         assert_eq!(found(7), "minishard 1 of shard 0 lists no chunks");
+        // Ids 10 and 4, in order of arrival.
+        let arrival = damaged(&[(37, 10), (45, 4u64.wrapping_sub(10))]);
+        for (id, near) in [
+            (6, "the nearest ids are 4 and 10"),
+            (2, "the least id is 4"),
+            (12, "the greatest id is 10"),
+        ] {
+            let (number, told) = told_lookup(SHARDING, 0, &arrival, id);
+            assert_eq!((number, told.found), (12, format!("{lists} {near}")));
+        }
         let (_, told) = told_lookup(SHARDING, 0, &file, 6);
         assert_eq!(told.look_at, "byte 37 of the file (index of minishard 0)");
     }

@@ -74,9 +74,10 @@ pub const TABLE: &[Explained] = &[
     },
     Explained {
         number: 9,
-        given: "an id does not exceed the one before, or passes 2^64-1",
-        cause: "Bytes damaged in a minishard index, a writer that listed an id twice or did not \
-         sort the ids, or minishard indexes that are compressed.",
+        given: "an id stands twice in a minishard",
+        cause: "A writer that listed a chunk again in place of replacing it, bytes damaged in a \
+         minishard index, or minishard indexes that are compressed. The order of the ids \
+         does not matter.",
         remedy: "Look for a sound copy with 'check' and copy the shard from there. If the fault \
          is in the source, its writer must repair it: which of two chunks is meant cannot \
          be told from the file.",
@@ -92,8 +93,9 @@ pub const TABLE: &[Explained] = &[
     },
     Explained {
         number: 11,
-        given: "a chunk's bytes end past the file",
-        cause: "A copy that was cut short, or bytes damaged in a minishard index.",
+        given: "index end plus start plus size of a chunk, taken exactly, passes the file",
+        cause: "A copy that was cut short, or bytes damaged in a minishard index. Chunks may \
+         overlap and stand in any order.",
         remedy: "Compare the file's length with the source and copy it again.",
     },
     Explained {

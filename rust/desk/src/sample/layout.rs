@@ -12,14 +12,23 @@ const FILLER: &[u8] = b"-- not listed --";
 /// The chunks of a minishard, in rising id order.
 type Minishard<'a> = Vec<&'a Chunk>;
 
+/// In which order a minishard index lists its chunks.
+#[derive(Clone, Copy, PartialEq, Eq)]
+pub enum Order {
+    /// By rising id.
+    Rising,
+    /// As they came in: steps to smaller ids and starts are stored modulo 2^64.
+    Arrival,
+}
+
 /// A file for each shard that has chunks, by shard number. Minishards stand in
 /// falling number order, each index before its chunks, unlisted bytes between
 /// all of them.
-pub fn scattered(sharding: &Sharding, chunks: &[Chunk]) -> Result<Shards, Refusal> {
+pub fn scattered(sharding: &Sharding, chunks: &[Chunk], order: Order) -> Result<Shards, Refusal> {
     let shards = by_shard(sharding, chunks)?;
     Ok(shards
         .into_iter()
-        .map(|(number, minishards)| (number, file(&minishards)))
+        .map(|(number, minishards)| (number, file(&minishards, order)))
         .collect())
 }
 
@@ -40,14 +49,14 @@ fn by_shard<'a>(
 }
 
 /// The file of a shard.
-fn file(minishards: &[Minishard]) -> Vec<u8> {
+fn file(minishards: &[Minishard], order: Order) -> Vec<u8> {
     let mut entries = vec![[0, 0]; minishards.len()];
     let mut data = Vec::new();
     let filled = minishards.iter().enumerate().filter(|(_, m)| !m.is_empty());
     for (number, chunks) in filled.rev() {
         data.extend(FILLER);
         let start = data.len() as u64;
-        data.extend(index(chunks, start));
+        data.extend(index(chunks, start, order));
         entries[number] = [start, data.len() as u64];
         for chunk in chunks {
             data.extend(FILLER);
@@ -59,16 +68,42 @@ fn file(minishards: &[Minishard]) -> Vec<u8> {
     file
 }
 
-/// The minishard index that starts at `start`, its chunks behind it, each
-/// after some filler.
-fn index(chunks: &[&Chunk], start: u64) -> Vec<u8> {
-    let before = [0].into_iter().chain(chunks.iter().map(|chunk| chunk.id));
-    let id_steps = chunks.iter().zip(before).map(|(chunk, id)| chunk.id - id);
-    let index_end = start + 24 * chunks.len() as u64;
-    let mut start_steps = vec![FILLER.len() as u64; chunks.len()];
-    start_steps[0] += index_end;
-    let sizes = chunks.iter().map(|chunk| chunk.bytes.len() as u64);
-    le_bytes(id_steps.chain(start_steps).chain(sizes))
+/// A chunk as an index lists it: id, start and size.
+type Listed = [u64; 3];
+
+/// The minishard index that starts at `start`, its chunks behind it by rising
+/// id, each after some filler.
+fn index(chunks: &[&Chunk], start: u64, order: Order) -> Vec<u8> {
+    let mut end = start + 24 * chunks.len() as u64;
+    let mut listed = Vec::new();
+    for chunk in chunks {
+        let (start, size) = (end + FILLER.len() as u64, chunk.bytes.len() as u64);
+        listed.push([chunk.id, start, size]);
+        end = start + size;
+    }
+    if order == Order::Arrival {
+        listed.sort_by_key(arrived);
+    }
+    rows(&listed)
+}
+
+/// When a chunk came in: some order that is the same every time.
+fn arrived([id, ..]: &Listed) -> u64 {
+    id.wrapping_mul(0x9e37_79b9_7f4a_7c15)
+}
+
+/// The three rows of an index: steps of ids, steps from a chunk's end to the
+/// next one's start, sizes.
+fn rows(listed: &[Listed]) -> Vec<u8> {
+    let (mut id_steps, mut start_steps, mut sizes) = (Vec::new(), Vec::new(), Vec::new());
+    let (mut id_before, mut end) = (0, 0);
+    for [id, start, size] in listed {
+        id_steps.push(id.wrapping_sub(id_before));
+        start_steps.push(start.wrapping_sub(end));
+        sizes.push(*size);
+        (id_before, end) = (*id, start + size);
+    }
+    le_bytes([id_steps, start_steps, sizes].concat())
 }
 
 /// The numbers as the format stores them.

@@ -1,4 +1,4 @@
-//! The sample deposit: a small volume, sharded two ways, in two copies of
+//! The sample deposit: a small volume, sharded two ways, in three copies of
 //! different layout, a damaged copy and a mesh manifest. Its bytes are the
 //! same every time.
 
@@ -9,6 +9,7 @@ mod mesh;
 mod volume;
 
 use coronagamba::{Card, Refusal, Shard, Sharding};
+use layout::Order;
 use std::collections::BTreeMap;
 
 /// The deposit's sharding: 8 shards of 2 minishards.
@@ -50,11 +51,13 @@ pub enum Files {
 /// All parts, in the order in which they are told.
 pub fn parts() -> Result<Vec<Part>, Refusal> {
     let chunks = volume::chunks()?;
-    let copy_b = layout::scattered(&DEPOSIT, &chunks)?;
+    let copy_b = layout::scattered(&DEPOSIT, &chunks, Order::Rising)?;
+    let copy_c = layout::scattered(&DEPOSIT, &chunks, Order::Arrival)?;
     let copy_a = settled(&DEPOSIT, &copy_b)?;
     let damaged = damaged(copy_b.clone());
-    let murmur = layout::scattered(&MURMUR, &chunks)?;
+    let murmur = layout::scattered(&MURMUR, &chunks, Order::Rising)?;
     let same_chunks = "the same chunks in another layout";
+    let arrival = "the same chunks, listed in order of arrival";
     Ok(vec![
         card(
             "deposit.card",
@@ -63,6 +66,7 @@ pub fn parts() -> Result<Vec<Part>, Refusal> {
         )?,
         folder("copy-a", &DEPOSIT, copy_a, "settled forms")?,
         folder("copy-b", &DEPOSIT, copy_b, same_chunks)?,
+        folder("copy-c", &DEPOSIT, copy_c, arrival)?,
         folder("damaged", &DEPOSIT, damaged, "copy-b from a failing disk")?,
         card("murmur.card", &MURMUR, "the same volume, another hash")?,
         folder("murmur", &MURMUR, murmur, "the same chunks under that hash")?,

@@ -321,11 +321,14 @@ fn faulty() -> Vec<(Vec<u8>, Refusal)> {
         (with_index([5, 52, 0, 0], &sound), fault(8, 0)),
         (second(0, 1), fault(8, 1)),
         (first(&[4, 0, 0, 0, 2, 3]), fault(9, 0)),
-        (first(&[4, u64::MAX - 3, 0, 0, 2, 3]), fault(9, 0)),
+        // 4, 10, 4: by a step that wraps.
+        (first(&[4, 6, u64::MAX - 5, 0, 0, 0, 2, 3, 0]), fault(9, 0)),
         (with_index([5, 53, 5, 53], &sound), fault(10, 1)),
         (first(&[4, 7, 0, 0, 2, 3]), fault(10, 0)),
         (first(&[4, 6, 0, 0, 2, 52]), fault(11, 0)),
-        (first(&[4, 6, 0, u64::MAX, 2, 3]), fault(11, 0)),
+        // Three bytes back from 2: a start of 2^64-1, and nothing wraps behind it.
+        (first(&[4, 6, 0, u64::MAX - 2, 2, 3]), fault(11, 0)),
+        (first(&[4, 6, 0, u64::MAX, 2, 53]), fault(11, 0)),
         // Within a minishard lower numbers go first, and a minishard is
         // finished before the next.
         (first(&[4, 0, 0, 0, 2, 99]), fault(9, 0)),

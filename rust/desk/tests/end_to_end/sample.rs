@@ -2,8 +2,8 @@
 
 use crate::support::Folder;
 use reference::grid::{key_of, Volume};
-use reference::settle::settled_form;
-use reference::shard::{check, list};
+use reference::settle::{settle, settled_form};
+use reference::shard::{check, list, list_minishard};
 use reference::sharding::Sharding;
 use reference::{card, info, manifest, Refusal};
 use std::collections::BTreeMap;
@@ -46,7 +46,7 @@ fn content(sharding: &Sharding, shards: &BTreeMap<u64, Vec<u8>>) -> BTreeMap<u64
 #[test]
 fn it_has_the_same_bytes_every_time() {
     let (one, other) = (Folder::with_sample(), Folder::with_sample());
-    for part in ["copy-a", "copy-b", "damaged", "murmur"] {
+    for part in ["copy-a", "copy-b", "copy-c", "damaged", "murmur"] {
         assert_eq!(shards(&one, part), shards(&other, part));
     }
     for file in [
@@ -103,6 +103,37 @@ fn the_copies_hold_the_same_chunks_under_other_bytes() {
     );
     assert_eq!(chunks[&key([2, 2, 3])], b"");
     assert_eq!(chunks.get(&key([4, 4, 0])), None);
+}
+
+/// Each nonempty minishard of copy-c lists the ids of copy-a in another order,
+/// with starts that jump back, and settles to copy-a's bytes.
+#[test]
+fn the_third_copy_is_in_order_of_arrival() {
+    let folder = Folder::with_sample();
+    let (a, c) = (shards(&folder, "copy-a"), shards(&folder, "copy-c"));
+    assert_eq!(content(&DEPOSIT, &c), content(&DEPOSIT, &a));
+    for (number, file) in &c {
+        for minishard in 0..2 {
+            let entries = list_minishard(&DEPOSIT, *number, file, minishard).expect("sound");
+            assert!(entries.len() > 2);
+            assert!(!entries.is_sorted_by_key(|entry| entry.id));
+            assert!(!entries.is_sorted_by_key(|entry| entry.start));
+        }
+        let mut form = vec![0; a[number].len()];
+        assert_eq!(settle(&DEPOSIT, *number, file, &mut form), Ok(form.len()));
+        assert_eq!(form, a[number]);
+    }
+    let card = "--card demo/deposit.card";
+    for other in ["copy-a", "copy-b"] {
+        let run = folder.run_line(&format!("same demo/{other} demo/copy-c {card}"));
+        run.expect_status(0).expect_line("0.shard: same");
+    }
+    let run = folder.run_line(&format!("settle demo/copy-c --out settled {card}"));
+    run.expect_status(0);
+    for number in a.keys() {
+        let name = format!("{number:x}.shard");
+        assert_eq!(folder.read(format!("settled/{name}")), a[number]);
+    }
 }
 
 #[test]

@@ -7,7 +7,7 @@ use borrow.Author.Needs.{needs}
 use Rattle.endian.specs.Place.{paste}
 use Rattle.shard.specs.Index.{idSteps, startSteps, sizes}
 use Rattle.listing.specs.Listing.{entriesFrom}
-use Rattle.shard.proofs.Tally.{Tally, tally-start, tally-id, tally-start-fits, tally-end-fits, tally-place-fits, tally-turn}
+use Rattle.shard.proofs.Tally.{Tally, tally-start, tally-place-fits, tally-turn}
 use Rattle.listing.proofs.Entries.{listing-first, listing-next, listing-last, listing-length}
 use Rattle.listing.proofs.rows.put_entries.Statement.{statement}
 use Rattle.listing.proofs.rows.put_entries.Tie as tie
@@ -36,24 +36,30 @@ put-entries-spec =
     (λ c. omega arith)
     (λ c. omega arith)
     (λ c κs. omega arith)
-    (λ c. search tally-id)
+    (λ c κs. search needs)
     (λ c. omega arith)
     (λ c. omega arith)
     (λ c κs. omega arith)
-    (λ c. search tally-start-fits)
+    (λ c κs. search needs)
     (λ c. omega arith)
     (λ c. omega arith)
     (λ c κs. omega arith)
     (λ c. search tally-place-fits)
     (λ c κs. omega arith)
-    (λ c. search tally-end-fits)
+    (λ c κs. search needs)
     (λ c. omega arith)
     (λ c. omega arith)
     (λ c.
-    let at = c .before .before .before .before .before .before .before .before .loop .inv in (
-      search tally-turn,
+    let size = c .before .before .before .before .before in
+    let start = size .before .before in
+    let id = start .before .before in
+    let v = id .before .before .loop .inv in
+    let own = start .before .wrapping-add-u64 .ensures in
+    let this = size .before .wrapping-add-u642 .ensures in (
+      tally-turn (v .0) (omega arith) (id .read-u64 .ensures .0) own (start .read-u642 .ensures .0) this (size .read-u643 .ensures .0) (c .wrapping-add-u643 .ensures),
       search listing-length,
-      listing-next _ _ _ _ _ _ (at .2) (at .0) (c .before .before .put-entry .ensures) (omega arith) (search needs) (search needs) (search needs) (at .1) (omega arith),
+      listing-next _ _ _ _ _ _ (v .2) (v .0) (c .before .before .before .put-entry .ensures) (omega arith) (id .read-u64 .ensures .0) own (start .read-u642 .ensures .0) this (size .read-u643 .ensures .0)
+          (v .1) (omega arith),
     ))
     (λ c. search needs)
     (λ c. search listing-last))

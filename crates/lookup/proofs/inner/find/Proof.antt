@@ -3,10 +3,11 @@ use Prim.Native.Nat.{_-_}
 use mathlib.Core.Path.{_≡_}
 use mathlib.Core.Bool.{false}
 use native.Mathlib.Omega.{arith}
+use borrow.Author.Needs.{needs}
 use Rattle.endian.specs.Range.{anyBelow}
 use Rattle.shard.specs.Index.{idSteps, startSteps, sizes}
 use Rattle.lookup.specs.Find.{isId}
-use Rattle.shard.proofs.Tally.{Tally, tally-start, tally-id, tally-start-fits, tally-end-fits, tally-place-fits, tally-turn}
+use Rattle.shard.proofs.Tally.{Tally, tally-start, tally-place-fits, tally-turn}
 use Rattle.lookup.proofs.Seek.{seek-start, seek-hit, seek-turn, seek-end}
 use Rattle.lookup.proofs.inner.find.Statement.{statement}
 use Rattle.lookup.proofs.inner.find.Tie as tie
@@ -32,18 +33,27 @@ find-spec =
     (λ c. omega arith)
     (λ c. omega arith)
     (λ c κs. omega arith)
-    (λ c. search tally-id)
+    (λ c κs. search needs)
     (λ c. omega arith)
     (λ c. omega arith)
     (λ c κs. omega arith)
-    (λ c. search tally-start-fits)
+    (λ c κs. search needs)
     (λ c. omega arith)
     (λ c. omega arith)
     (λ c κs. omega arith)
     (λ c. search tally-place-fits)
     (λ c. search seek-hit)
-    (λ c. search tally-end-fits)
+    (λ c κs. search needs)
     (λ c. omega arith)
     (λ c. omega arith)
-    (λ c. (search tally-turn, search seek-turn))
+    (λ c.
+    let size = c .before .before in
+    let start = size .before .before in
+    let id = start .before .before in
+    let v = id .before .before .loop .inv in
+    let this = size .before .wrapping-add-u642 .ensures in (
+      tally-turn (v .0) (omega arith) (id .read-u64 .ensures .0) (start .before .wrapping-add-u64 .ensures) (start .read-u642 .ensures .0) this (size .read-u643 .ensures .0)
+          (c .wrapping-add-u643 .ensures),
+      seek-turn (v .0) _ (id .read-u64 .ensures .0) (start .before .wrapping-add-u64 .ensures) (v .1) (c .before .if1 .left),
+    ))
     (λ c. search seek-end))

@@ -1,6 +1,8 @@
 use Prim.Native.Nat.{_-_}
+use native.Mathlib.Omega.{arith}
+use borrow.Author.Needs.{needs}
 use Rattle.settle.specs.Writing.{volume}
-use Rattle.settle.proofs.WriteChunks.{Copying, copying}
+use Rattle.settle.proofs.WriteChunks.{Copying, inside, room-out, from-fits, to-fits, copying-next, copying}
 use Rattle.settle.proofs.inner.copy_chunks.Statement.{statement}
 use Rattle.settle.proofs.inner.copy_chunks.Tie as tie
 
@@ -24,15 +26,29 @@ copy-chunks-spec =
     (λ c. search copying)
     (λ c. search copying)
     (λ c κs. search copying)
-    (λ c. search copying)
-    (λ c. search copying)
-    (λ c. search copying)
-    (λ c κs. search copying)
     (λ c κs. search copying)
     (λ c. search copying)
     (λ c. search copying)
+    (λ c κs. search copying)
+    (λ c κs.
+    let size = c .before in
+    let start = size .before .before in
+    (inside (search needs) (start .before .before .loop .inv) (omega arith) _ _ _ (start .read-u64 .ensures .0) (size .before .wrapping-add-u64 .ensures) (size .read-u642 .ensures .0), room-out (search needs) (start .before .before .loop .inv) (omega arith) _ _ _ (start .read-u64 .ensures .0) (size .before .wrapping-add-u64 .ensures) (size .read-u642 .ensures .0) (search needs)))
+    (λ c.
+    let size = c .before .before .before .before in
+    let start = size .before .before in
+    from-fits (search needs) (start .before .before .loop .inv) (omega arith) _ _ _ (start .read-u64 .ensures .0) (size .before .wrapping-add-u64 .ensures) (size .read-u642 .ensures .0) (search needs))
+    (λ c.
+    let size = c .before .before .before .before in
+    let start = size .before .before in
+    to-fits (search needs) (start .before .before .loop .inv) (omega arith) _ _ _ (start .read-u64 .ensures .0) (size .before .wrapping-add-u64 .ensures) (size .read-u642 .ensures .0) (search needs))
     (λ c. search copying)
     (λ c. search copying)
+    (λ c.
+    let copy = c .before .before in
+    let size = copy .before .before in
+    let start = size .before .before in
+    copying-next (search needs) (start .before .before .loop .inv) (omega arith) _ _ _ (start .read-u64 .ensures .0) (size .before .wrapping-add-u64 .ensures) (size .read-u642 .ensures .0) _
+    (search needs) (search needs) (search needs) (copy .copy-bytes .ensures))
     (λ c. search copying)
-    (λ c. search copying)
-    (λ c. search copying))
+    (λ c. (search copying, search copying)))
