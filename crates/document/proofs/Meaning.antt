@@ -29,9 +29,10 @@ use Rattle.info.specs.declared.Settings.the-variants.{Are as SettingsAre, Wrong
 use Rattle.info.specs.Settings.{settingsOf}
 use Rattle.info.specs.Answers.{noSettings, recordOf, infoChecks, infoAnswer}
 use Rattle.document.specs.Document.{document}
-use Rattle.document.specs.Said.{settingsIn}
+use Rattle.document.specs.Said.{settingsIn, saidChecks, saidAnswer}
 use Rattle.document.specs.Meaning.{InfoMeaning}
 use Rattle.info.proofs.Ways.{first-is}
+use Rattle.places.proofs.Own.{elements-own, members-own, value-own}
 use Rattle.document.proofs.Reading.{settings-by-document}
 use Rattle.document.proofs.Held.{SettingsHeld, of-held}
 
@@ -57,17 +58,12 @@ pub accepted : (s : List ℕ) (k : ℕ) (c : Card) → infoAnswer s k ≡ Says c
 unfolding infoAnswer
 accepted s k c e = accepted-by (isJson deepest s) (settingsOf s k) c (of-held s k) (rw (first-is s k) at e)
 
-most-61 : (n : ℕ) → (n ≡ 46) ⊎ (n ≡ 61) → n ≤ 61
-most-61 n (inl e) = omega arith
-most-61 n (inr e) = omega arith
-
 -- "a card written from its answer reads back to the same record"
-card-reads-back : (s : List ℕ) (k : ℕ) (c : Card) (out : List ℕ) → infoAnswer s k ≡ Says c → 61 ≤ length out
+card-reads-back : (s : List ℕ) (k : ℕ) (c : Card) (out : List ℕ) → infoAnswer s k ≡ Says c → length (cardBytes c) ≤ length out
     → (writeAnswer c out ≡ Length (length (cardBytes c))) × (readAnswer (take (length (cardBytes c)) (writeLeft c out)) ≡ Says c)
 card-reads-back s k c out e h =
     let a = accepted s k c e in
-    let m = most-61 (length (cardBytes c)) (one-meaning-one-card .long c) in
-    let w = sym (write-written c out (sym (a .3)) refl (sym (written-fits (cardBytes c) out (omega arith)))) in
+    let w = sym (write-written c out (sym (a .3)) refl (sym (written-fits (cardBytes c) out h))) in
     (w, one-meaning-one-card .written c out (length (cardBytes c)) (a .2) w .1)
 
 -- ---- what is refused
@@ -105,6 +101,43 @@ not-json-19 s k = (λ e j. false-not (no-json e) (json-complete deepest s j), λ
     here n true e = absurd (n (json-sound deepest s e))
     here n false e = first-is s k ∙ rw e
 
+-- ---- by what the document says
+
+by-document : (s : List ℕ) (k : ℕ) → JsonText deepest s → infoAnswer s k ≡ saidAnswer k (document s)
+unfolding infoAnswer infoChecks saidAnswer saidChecks firstNumber
+by-document s k j = rw (json-complete deepest s j, settings-by-document s k)
+
+number-20 : (w : Settings) → pick (noSettings w) 20 (fault (recordOf w)) ≡ 20 → w ≡ NoSettings
+unfolding noSettings recordOf
+number-20 (SettingsAre c) e = absurd (omega (arith, fault-small c))
+number-20 NoSettings e = refl
+
+unsaid-20 : (s : List ℕ) (k : ℕ) → JsonText deepest s → (infoAnswer s k ≡ Refused 20) ↔ (settingsIn k (document s) ≡ NoSettings)
+unsaid-20 s k j = (λ e. sym (settings-by-document s k) ∙ none e, λ e. info-refuses s k .decided 20 .1 (here (settings-by-document s k ∙ e), (omega arith, omega arith)))
+  where
+    unfolded : firstNumber (infoChecks s k) ≡ pick (noSettings (settingsOf s k)) 20 (fault (recordOf (settingsOf s k)))
+    unfolded = first-is s k ∙ rw (json-complete deepest s j)
+
+    none : infoAnswer s k ≡ Refused 20 → settingsOf s k ≡ NoSettings
+    none e = number-20 (settingsOf s k) (sym unfolded ∙ info-refuses s k .decided 20 .0 e .0)
+
+    wrong : settingsOf s k ≡ NoSettings → pick (noSettings (settingsOf s k)) 20 (fault (recordOf (settingsOf s k))) ≡ 20
+    wrong e = rw e (unfold noSettings in refl)
+
+    here : settingsOf s k ≡ NoSettings → firstNumber (infoChecks s k) ≡ 20
+    here e = unfolded ∙ wrong e
+
+said-given : (k : ℕ) (w : Settings) (c : Card) → w ≡ SettingsAre c → fault c ≡ 0 → unless Refused (pick (noSettings w) 20 (fault (recordOf w))) (Says (recordOf w)) ≡ Says c
+unfolding unless noSettings recordOf
+said-given k w c e z = rw (e, z)
+
+given-said : (s : List ℕ) (k : ℕ) (c : Card) → (infoAnswer s k ≡ Says c) ↔ (JsonText deepest s × (settingsIn k (document s) ≡ SettingsAre c) × (firstNumber (recordChecks c) ≡ 0))
+unfolding saidAnswer saidChecks
+given-said s k c = (λ e. let a = accepted s k c e in (json-sound deepest s (a .0), sym (settings-by-document s k) ∙ a .1, a .3), λ h. by-document s k (h .0) ∙ said h)
+  where
+    said : JsonText deepest s × (settingsIn k (document s) ≡ SettingsAre c) × (firstNumber (recordChecks c) ≡ 0) → saidAnswer k (document s) ≡ Says c
+    said h = unfold firstNumber in said-given k (settingsIn k (document s)) c (h .1) (h .2)
+
 -- ---- one document, one answer
 
 alike : (a b : List ℕ) (k : ℕ) → JsonText deepest a → JsonText deepest b → document a ≡ document b → infoAnswer a k ≡ infoAnswer b k
@@ -119,7 +152,12 @@ meaning =
       notJson = not-json-19;
       notUtf8 = λ s k n. not-json-19 s k .1 (λ j. n (json-utf8 deepest s j));
       refused = info-refuses;
-      given = λ s k c e. sym (settings-by-document s k) ∙ accepted s k c e .1;
+      answer = by-document;
+      unsaid = unsaid-20;
+      given = given-said;
       alike = alike;
+      elements = elements-own;
+      members = members-own;
+      values = value-own;
       card = card-reads-back;
     }

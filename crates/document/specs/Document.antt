@@ -17,7 +17,7 @@ pub record Entry (D : Type 0) : Type 0 where
   pub name : List ℕ
   pub value : D
 
--- a value, where D is what a value inside it is: true, false or null; a number, by its minus and its digits; a string's text; elements; members
+-- a value, where D is what a value inside it is: true, false or null; a number, by its minus and its digits, or as none that settings can use: with a fraction, an exponent, or past 32 bits; a string's text; elements; members
 pub data DocumentOf (D : Type 0) : Type 0 where
   word : DocumentOf D
   number : Bool → Number → DocumentOf D

@@ -1,11 +1,16 @@
 -- The settings that a document says: what a reader believes of an info file (order 'read the settings from the info file'; sources 000 and 002).
 use Prim.Native.Nat.{ℕ}
 use mathlib.Core.Bool.{Bool, true, false, _&&_}
-use mathlib.Core.List.{List}
+use mathlib.Core.List.{List, _∷_}
 use lib.Dec.{eqb}
 use Rattle.refusal.specs.Choice.{pick}
+use Rattle.refusal.specs.Checks.{Check, check, answered}
 use Rattle.strings.specs.Names.{eqList}
+use Rattle.json.specs.Grammar.{deepest}
 use Rattle.card.specs.Reading.{zeros}
+use Rattle.card.specs.Answers.{recordChecks}
+use Rattle.card.specs.declared.CardAnswer.{CardAnswer}
+use Rattle.card.specs.declared.CardAnswer.the-variants.{Says, Refused}
 use Rattle.wholes.specs.Numbers.{whenIs, aboveOf, belowOf}
 use Rattle.wholes.specs.declared.Number.{Number}
 use Rattle.wholes.specs.declared.Number.the-variants.{Is, Wrong}
@@ -20,8 +25,9 @@ use Rattle.info.specs.declared.ShardingIn.the-variants.{Wrong as NoSharding}
 use Rattle.info.specs.declared.Settings.{Settings}
 use Rattle.info.specs.declared.Settings.the-variants.{Are as SettingsAre, Wrong as NoSettings}
 use Rattle.info.specs.Words.{scalesName, sizeName, chunksName, offsetName, shardingName, typeName, preshiftName, hashName, minishardName, shardName, indexName, dataName, typeText, rawText, identityText, murmurText}
+use Rattle.info.specs.Answers.{noSettings, recordOf}
 use Rattle.info.specs.Settings.{whenExtents, whenOffset, whenVolume, whenSharding, extentsOf, offsetOf, numbersOf}
-use Rattle.document.specs.Document.{DocumentOf, Times, times, memberOf, elementsOf, saysText, whenOnce, whenTriple, whenNth}
+use Rattle.document.specs.Document.{DocumentOf, Document, Times, times, memberOf, elementsOf, saysText, whenOnce, whenTriple, whenNth}
 use Rattle.document.specs.Document.DocumentOf.{word, number, string, array, object}
 use Rattle.document.specs.Document.Times.{never, once, twice}
 
@@ -100,3 +106,12 @@ settingsOn scale =
 -- of scale k, from 0, of the outermost value's scales
 unfoldable pub settingsIn : {D : Type 0} → ℕ → DocumentOf (DocumentOf (DocumentOf (DocumentOf (DocumentOf (DocumentOf D))))) → Settings
 settingsIn k doc = whenOnce (memberOf scalesName doc) NoSettings (λ v. whenNth k (elementsOf v) NoSettings settingsOn)
+
+-- ---- what a text whose document this is gets for scale k: "20 no scale k, a needed member missing, a used one doubled or of the wrong kind,
+-- another @type or a refused encoding", then 1, 2 and 3 as for a card, else the record
+
+unfoldable pub saidChecks : ℕ → Document deepest → List Check
+saidChecks k d = check 20 (noSettings (settingsIn k d)) ∷ recordChecks (recordOf (settingsIn k d))
+
+unfoldable pub saidAnswer : ℕ → Document deepest → CardAnswer
+saidAnswer k d = answered Refused (saidChecks k d) (Says (recordOf (settingsIn k d)))

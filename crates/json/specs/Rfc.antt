@@ -58,3 +58,7 @@ itemPlaces (Items.next {i = i} v w b x r) = i ∷ itemPlaces r
 unfoldable pub places : {s : List ℕ} {Item : ℕ → ℕ → Type 0} {close i e : ℕ} → Listed s Item close i e → List ℕ
 places (Listed.empty w b) = []
 places (Listed.some w r) = itemPlaces r
+
+-- where a member's value begins
+unfoldable pub valuePlace : {s : List ℕ} {Inner : ℕ → ℕ → Type 0} {i e : ℕ} → Member s Inner i e → ℕ
+valuePlace (Member.member {m = m} t w b x v) = m

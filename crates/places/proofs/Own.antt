@@ -12,7 +12,7 @@ use Rattle.text.specs.declared.Found.the-variants.{At, Nothing}
 use Rattle.text.proofs.Laws.{then-at}
 use Rattle.strings.proofs.Characters.{string-complete}
 use Rattle.json.specs.Grammar.{deepest}
-use Rattle.json.specs.Rfc.{Items, Listed, Member, Value, itemPlaces, places}
+use Rattle.json.specs.Rfc.{Items, Listed, Member, Value, itemPlaces, places, valuePlace}
 use Rattle.json.proofs.Agree.{opens, opens-ws, opens-not, no-ws, ws-max, Closes, square, curly, value-opens, member-opens, mark-complete, mark-other, comma-solid, colon-solid, value-complete, member-found}
 use Rattle.json.proofs.Deeper.{value-deeper, member-map}
 use Rattle.places.specs.Places.{nextElement, nextMember, orStart, valueOf, firstIn, itemsBy, itemsFrom, elements, members}
@@ -62,10 +62,6 @@ unfolding members
 members-own d s p e h q r =
     listed-own s (Member s (Value s d)) 0x7B 0x7D curly (nextMember s) (member-onward s) (member-opens s (Value s d))
     (λ i j v. unfold nextMember in then-at _ _ j (member-found deepest s i j (member-map s (Value s d) (Value s deepest) (value-deeper d deepest s h) i j v))) p e (omega arith) q r
-
--- where a member's value begins
-unfoldable pub valuePlace : {s : List ℕ} {Inner : ℕ → ℕ → Type 0} {i e : ℕ} → Member s Inner i e → ℕ
-valuePlace (Member.member {m = m} t w b x v) = m
 
 pub value-own : (d : ℕ) (s : List ℕ) (i e : ℕ) (r : Member s (Value s d) i e) → valueOf s i ≡ valuePlace r
 unfolding valueOf orStart valuePlace

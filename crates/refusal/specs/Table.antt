@@ -1,4 +1,4 @@
--- The numbers of the refusal table (01, 'Refusal numbers').
+-- The numbers of the refusal table (01, 'Refusal numbers', and the orders of 02).
 use Prim.Native.Nat.{ℕ, _≤_}
 
 -- the last number of the table

@@ -33,7 +33,7 @@ sizes d s n = rowAt d (s + 16 * n)
 unfoldable pub startAt : (ℕ → ℕ) → (ℕ → ℕ) → ℕ → ℕ
 startAt starts size i = (sumTo starts (suc i) + sumTo size i) % 2 ^ 64
 
--- and ends after as many bytes as its size, exactly: chunks may overlap, but none ends beyond what can be counted
+-- and ends after as many bytes as its size, counted exactly: this sum does not wrap
 abbrev pub endAt : (ℕ → ℕ) → (ℕ → ℕ) → ℕ → ℕ
 endAt starts size i = startAt starts size i + size i
 
