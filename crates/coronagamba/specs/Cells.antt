@@ -8,8 +8,8 @@ use Rattle.grid.specs.declared.KeyAnswer.{KeyAnswer}
 use Rattle.grid.specs.declared.KeyAnswer.the-variants.{Key, Refused as KeyRefused}
 use Rattle.grid.specs.declared.CellAnswer.{CellAnswer}
 use Rattle.grid.specs.declared.CellAnswer.the-variants.{At, Refused as CellRefused}
-use Rattle.grid.specs.declared.BoundsAnswer.{BoundsAnswer}
-use Rattle.grid.specs.declared.BoundsAnswer.the-variants.{Within, Refused as BoundsRefused}
+use Rattle.bounds.specs.declared.BoundsAnswer.{BoundsAnswer}
+use Rattle.bounds.specs.declared.BoundsAnswer.the-variants.{Within, Refused as BoundsRefused}
 
 abbrev pub gridWord : GridAnswer → ℕ
 gridWord (Grid grid) = 0

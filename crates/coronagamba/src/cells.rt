@@ -1,16 +1,17 @@
 // Volumes, cells and keys.
 ghost use mathlib.Core.Path.{_≡_};
 ghost use mathlib.Core.List.{[], _∷_};
-ghost use Rattle.grid.specs.Answers.{gridAnswer, keyAnswer, cellAnswer, boundsAnswer};
-ghost use Rattle.grid.specs.Batch.{cellsOf, keysAnswer, keysLeft};
+ghost use Rattle.grid.specs.Answers.{gridAnswer, keyAnswer, cellAnswer};
+ghost use Rattle.bounds.specs.Answers.{boundsAnswer};
+ghost use Rattle.batch.specs.Batch.{cellsOf, keysAnswer, keysLeft};
 ghost use Rattle.coronagamba.specs.Word.{writtenWord, lengthAfter};
 ghost use Rattle.coronagamba.specs.Cells.{gridWord, gridAfter, keyWord, keyAfter, cellWord, cellAfter, boundsWord, beginAfter, endAfter};
-use grid::BoundsAnswer;
+use bounds::BoundsAnswer;
+use bounds::Point;
 use grid::Cell;
 use grid::CellAnswer;
 use grid::GridAnswer;
 use grid::KeyAnswer;
-use grid::Point;
 use grid::Volume;
 use refusal::Written;
 
@@ -62,7 +63,7 @@ pub extern "C" fn coronagamba_keys_of(
     ensures keys { λ _. ⌜ now (keys .exit) ≡ keysLeft volume (cellsOf (now (cells .entry))) (now (keys .entry)) ⌝ }
     ensures length { λ _. ⌜ now (length .exit) ≡ lengthAfter (keysAnswer volume (cellsOf (now (cells .entry))) (now (keys .entry))) (now (length .entry)) ⌝ }
 {
-    match grid::batch::keys_of(volume, cells, keys) {
+    match batch::keys_of(volume, cells, keys) {
         Written::Length(n) => {
             *length = n as u64;
             0
@@ -107,7 +108,7 @@ pub extern "C" fn coronagamba_bounds_of(
     ensures begin { λ _. ⌜ now (begin .exit) ≡ beginAfter (boundsAnswer volume cell) (now (begin .entry)) ⌝ }
     ensures end { λ _. ⌜ now (end .exit) ≡ endAfter (boundsAnswer volume cell) (now (end .entry)) ⌝ }
 {
-    match grid::bounds_of(volume, cell) {
+    match bounds::bounds_of(volume, cell) {
         BoundsAnswer::Within(bounds) => {
             *begin = three(bounds.begin);
             *end = three(bounds.end);

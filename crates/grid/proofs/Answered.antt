@@ -9,11 +9,9 @@ use Rattle.grid.specs.declared.Cell.{Cell}
 use Rattle.grid.specs.declared.GridAnswer.the-variants.{Grid, Refused as GridRefused}
 use Rattle.grid.specs.declared.KeyAnswer.the-variants.{Key, Refused as KeyRefused}
 use Rattle.grid.specs.declared.CellAnswer.the-variants.{At, Refused as CellRefused}
-use Rattle.grid.specs.declared.BoundsAnswer.the-variants.{Within, Refused as BoundsRefused}
 use Rattle.grid.specs.Grid.{gridOf, zeroExtent}
 use Rattle.grid.specs.Key.{tooManyBits, keyOf, cellOf, isKey}
-use Rattle.grid.specs.Bounds.{boundsOf}
-use Rattle.grid.specs.Answers.{noCell, gridChecks, gridAnswer, keyChecks, keyAnswer, cellChecks, cellAnswer, boundsChecks, boundsAnswer}
+use Rattle.grid.specs.Answers.{noCell, gridChecks, gridAnswer, keyChecks, keyAnswer, cellChecks, cellAnswer}
 
 module _ (v : Volume) where
   pub grid-by-picks : gridAnswer v ≡ pick (zeroExtent v) (GridRefused 2) (Grid (gridOf v))
@@ -31,7 +29,3 @@ module _ (v : Volume) where
       (pick (not (isKey (gridOf v) key)) (CellRefused 4) (At (cellOf (gridOf v) key))))
   unfolding cellAnswer cellChecks
   cell-by-picks key = by-picks CellRefused (cellChecks v key) _ refl
-
-  pub bounds-by-picks : (c : Cell) → boundsAnswer v c ≡ pick (noCell v c) (BoundsRefused 2) (Within (boundsOf v c))
-  unfolding boundsAnswer boundsChecks
-  bounds-by-picks c = by-picks BoundsRefused (boundsChecks v c) _ refl

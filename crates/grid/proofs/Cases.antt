@@ -1,4 +1,4 @@
--- Worked cases of grids, keys and bounds that 01 does not mark P, as one table: source 000's example, and refusals by their order.
+-- Worked cases of grids and keys that 01 does not mark P, as one table: source 000's example, and refusals by their order.
 use Prim.Native.Nat.{ℕ, _^_}
 use mathlib.Core.Path.{_≡_, refl}
 use mathlib.Core.List.{List, [], _∷_, map}
@@ -13,11 +13,9 @@ use Rattle.grid.specs.declared.KeyAnswer.{KeyAnswer}
 use Rattle.grid.specs.declared.KeyAnswer.the-variants.{Refused as KeyRefused}
 use Rattle.grid.specs.declared.CellAnswer.{CellAnswer}
 use Rattle.grid.specs.declared.CellAnswer.the-variants.{Refused as CellRefused}
-use Rattle.grid.specs.declared.BoundsAnswer.{BoundsAnswer}
-use Rattle.grid.specs.declared.BoundsAnswer.the-variants.{Refused as BoundsRefused}
 use Rattle.grid.specs.Grid.{gridSize, gridOf, hasZero, zeroExtent, inGrid}
 use Rattle.grid.specs.Key.{used, step, steps, keyBits, tooManyBits}
-use Rattle.grid.specs.Answers.{noCell, gridChecks, gridAnswer, keyChecks, keyAnswer, cellChecks, cellAnswer, boundsChecks, boundsAnswer}
+use Rattle.grid.specs.Answers.{noCell, gridChecks, gridAnswer, keyChecks, keyAnswer, cellChecks, cellAnswer}
 
 abbrev pub extents : ℕ → ℕ → ℕ → Extents
 extents x y z = record { x = x; y = y; z = z }
@@ -43,7 +41,6 @@ pub data Case : Type 0 where
   bits : Volume → ℕ → Case
   key : Volume → Cell → KeyAnswer → Case
   at : Volume → ℕ → CellAnswer → Case
-  bounds : Volume → Cell → BoundsAnswer → Case
 
 -- the case with the answer that the definitions give
 abbrev pub defined : Case → Case
@@ -51,7 +48,6 @@ defined (grid v a) = grid v (gridAnswer v)
 defined (bits v n) = bits v (keyBits (gridOf v))
 defined (key v c a) = key v c (keyAnswer v c)
 defined (at v k a) = at v k (cellAnswer v k)
-defined (bounds v c a) = bounds v c (boundsAnswer v c)
 
 abbrev pub table : List Case
 table =
@@ -65,9 +61,8 @@ table =
     ∷ at (plain 0 3 1) 0 (CellRefused 2)
     ∷ key (plain (2 ^ 22) (2 ^ 22) (2 ^ 21)) (cell (2 ^ 22) 0 0) (KeyRefused 2)
     ∷ grid shifted (Grid (extents 2 1 1))
-    ∷ bounds shifted (cell 2 0 0) (BoundsRefused 2)
     ∷ []
 
 pub cases-hold : map defined table ≡ table
-unfolding firstNumber unless gridSize gridOf hasZero zeroExtent inGrid used step steps keyBits tooManyBits noCell gridChecks gridAnswer keyChecks keyAnswer cellChecks cellAnswer boundsChecks boundsAnswer
+unfolding firstNumber unless gridSize gridOf hasZero zeroExtent inGrid used step steps keyBits tooManyBits noCell gridChecks gridAnswer keyChecks keyAnswer cellChecks cellAnswer
 cases-hold = refl

@@ -1,11 +1,10 @@
--- What holds of grids, keys and bounds, at the answers: the laws that 01 and the demands ask for.
+-- What holds of grids and keys, at the answers: the laws that 01 and the demands ask for.
 use Prim.Native.Nat.{ℕ, zero, suc, _+_, _*_, _/_, _^_, _≤_, _<_}
 use mathlib.Core.Path.{_≡_, refl, sym, ap, _∙_}
 use mathlib.Core.Bool.{Bool, true, false, not}
 use native.Mathlib.Omega.{arith}
-use native.Mathlib.Nat.{lt-of-le-of-lt, mul-div-cancel}
+use native.Mathlib.Nat.{lt-of-le-of-lt}
 use lib.Dec.{ltb, eqb}
-use lib.IntN.{ℤ, pos, negℤ, _+ℤ_, +ℤ-assoc, +ℤ-invl, +ℤ-idl}
 use borrow.Author.Tests.{not-false, ltb-true, ltb-false, lt-ltb, le-ltb, ne-eqb}
 use Rattle.refusal.specs.Choice.{pick}
 use Rattle.refusal.proofs.Tests.{both, neither}
@@ -16,7 +15,6 @@ use Rattle.grid.specs.declared.KeyAnswer.the-variants.{Key, Refused as K
 use Rattle.grid.specs.declared.CellAnswer.the-variants.{At, Refused as CellRefused}
 use Rattle.grid.specs.Grid.{gridOf, zeroExtent, inGrid, InU32}
 use Rattle.grid.specs.Key.{bitOf, used, count, step, steps, keyBits, tooManyBits, keyOf, into, stepBack, stepsBack, cellOf, isKey}
-use Rattle.grid.specs.Bounds.{beginOf, endOf}
 use Rattle.grid.specs.Answers.{noCell, keyAnswer, cellAnswer}
 use Rattle.grid.proofs.Answered.{key-by-picks, cell-by-picks}
 use Rattle.grid.proofs.Covers.{grid-size-small}
@@ -157,24 +155,3 @@ pub only-key-0 : (v : Volume) → zeroExtent v ≡ false → gridOf v ≡ record
 unfolding tooManyBits isKey inGrid bitOf used count step steps keyBits into stepBack stepsBack cellOf
 only-key-0 v e h zero = rw (cell-by-picks v 0, e, h)
 only-key-0 v e h (suc k) = rw (cell-by-picks v (suc k), e, h, one-cell, le-ltb (suc k) 1 (omega arith), ne-eqb (suc k) 0 (λ z. omega arith))
-
--- ---- bounds
--- a whole cell ends where the next one begins, and the last one ends with the volume
-pub cells-adjoin : (o : ℤ) (size chunk g : ℕ) → (g + 1) * chunk ≤ size → endOf o size chunk g ≡ beginOf o chunk (g + 1)
-unfolding endOf beginOf
-cells-adjoin o size chunk g h = ap (λ (n : ℕ). o +ℤ pos n) (omega arith)
-
-pub last-cell-ends : (o : ℤ) (size chunk g : ℕ) → size ≤ (g + 1) * chunk → endOf o size chunk g ≡ o +ℤ pos size
-unfolding endOf
-last-cell-ends o size chunk g h = ap (λ (n : ℕ). o +ℤ pos n) (omega arith)
-
--- different cells of an axis begin at different places
-cancelled : (o a : ℤ) → negℤ o +ℤ (o +ℤ a) ≡ a
-cancelled o a = sym (+ℤ-assoc (negℤ o) o a) ∙ ap (λ (z : ℤ). z +ℤ a) (+ℤ-invl o) ∙ +ℤ-idl a
-
-pub same-begin-same-cell : (o : ℤ) (chunk a b : ℕ) → 0 < chunk → beginOf o chunk a ≡ beginOf o chunk b → a ≡ b
-unfolding beginOf
-same-begin-same-cell o chunk a b p e =
-    let q : pos (a * chunk) ≡ pos (b * chunk) = sym (cancelled o _) ∙ ap (λ (z : ℤ). negℤ o +ℤ z) e ∙ cancelled o _ in
-    let r : a * chunk ≡ b * chunk = cc in
-    sym (mul-div-cancel a p) ∙ ap (λ (n : ℕ). n / chunk) r ∙ mul-div-cancel b p

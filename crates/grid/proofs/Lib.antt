@@ -4,9 +4,6 @@ pub mod From
 pub mod Lengths
 pub mod Turns
 pub mod Ways
-pub mod Signed
 pub mod Laws
 pub mod Halves
-pub mod Threes
-pub mod Each
 pub mod Cases

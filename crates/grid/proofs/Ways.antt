@@ -4,7 +4,6 @@ use mathlib.Core.Path.{_≡_, sym, ap, _∙_}
 use mathlib.Core.Bool.{Bool, true, false, not}
 use native.Mathlib.Omega.{arith}
 use lib.Dec.{ltb, leb, eqb}
-use borrow.Author.Needs.{needs}
 use borrow.Author.Tests.{not-true, not-false, ltb-true, ltb-false, eqb-false, leb-true, leb-false, lt-ltb, le-ltb, lt-leb, eq-eqb, ne-eqb}
 use lib.Pow.{shl-exact}
 use mir.Syntax.{w64}
@@ -13,17 +12,13 @@ use Rattle.refusal.proofs.Tests.{both, neither}
 use Rattle.grid.specs.declared.Extents.{Extents}
 use Rattle.grid.specs.declared.Cell.{Cell}
 use Rattle.grid.specs.declared.Volume.{Volume}
-use Rattle.grid.specs.declared.Point.{Point}
 use Rattle.grid.specs.declared.GridAnswer.the-variants.{Grid, Refused as GridRefused}
 use Rattle.grid.specs.declared.KeyAnswer.the-variants.{Key, Refused as KeyRefused}
 use Rattle.grid.specs.declared.CellAnswer.the-variants.{At, Refused as CellRefused}
-use Rattle.grid.specs.declared.BoundsAnswer.the-variants.{Within, Refused as BoundsRefused}
 use Rattle.grid.specs.Grid.{gridSize, gridOf, hasZero, zeroExtent, inGrid}
 use Rattle.grid.specs.Key.{used, keyBits, tooManyBits, keyOf, cellOf, isKey}
-use Rattle.grid.specs.Bounds.{beginPoint, endPoint, boundsOf, BeginsInside}
-use Rattle.grid.specs.Answers.{noCell, gridAnswer, keyAnswer, cellAnswer, boundsAnswer}
-use Rattle.grid.proofs.Answered.{grid-by-picks, key-by-picks, cell-by-picks, bounds-by-picks}
-use Rattle.grid.proofs.Covers.{cell-begins-inside}
+use Rattle.grid.specs.Answers.{noCell, gridAnswer, keyAnswer, cellAnswer}
+use Rattle.grid.proofs.Answered.{grid-by-picks, key-by-picks, cell-by-picks}
 
 positive : (n : ℕ) → eqb n 0 ≡ false → 0 < n
 positive n e = let f = eqb-false n 0 e in omega arith
@@ -98,18 +93,6 @@ module _ (g : Extents) (c : Cell) where
       let q = both _ _ (p .1) in
       (ltb-true _ _ (p .0), ltb-true _ _ (q .0), ltb-true _ _ (q .1))
 
--- a cell of the grid begins inside the volume
-begins-within : (v : Volume) (c : Cell) → zeroExtent v ≡ false → inGrid (gridOf v) c ≡ true → BeginsInside v c
-unfolding gridOf
-begins-within v c e o =
-    let s = chunk-some v e in
-    let h = inside-all _ c o in
-    record {
-      x = cell-begins-inside _ _ (s .0) _ (h .0);
-      y = cell-begins-inside _ _ (s .1) _ (h .1);
-      z = cell-begins-inside _ _ (s .2) _ (h .2);
-    }
-
 -- ---- the entry points: z is whether an extent is 0, g the grid, o whether the cell is inside, t whether there are too many key bits
 module _ (v : Volume) {z : Bool} (ez : z ≡ zeroExtent v) where
   pub tested : z ≡ false → zeroExtent v ≡ false
@@ -122,35 +105,29 @@ module _ (v : Volume) {z : Bool} (ez : z ≡ zeroExtent v) where
   grid-yes h eg = rw (grid-by-picks v, tested h, eg)
 
   module _ (c : Cell) where
-    none-2 : z ≡ true → noCell v c ≡ true
+    pub none-2 : z ≡ true → noCell v c ≡ true
     unfolding noCell
     none-2 h = rw (sym ez ∙ h)
 
     pub key-2 : z ≡ true → KeyRefused 2 ≡ keyAnswer v c
     key-2 h = rw (key-by-picks v c, none-2 h)
 
-    pub bounds-2 : z ≡ true → BoundsRefused 2 ≡ boundsAnswer v c
-    bounds-2 h = rw (bounds-by-picks v c, none-2 h)
-
     module _ (nz : z ≡ false) {g : Extents} (eg : g ≡ gridOf v) {o : Bool} (eo : o ≡ inGrid g c) where
       in-is : {t : Bool} → o ≡ t → inGrid (gridOf v) c ≡ t
       in-is h = rw eg at (sym eo ∙ h)
 
-      outside-2 : not o ≡ true → noCell v c ≡ true
+      pub outside-2 : not o ≡ true → noCell v c ≡ true
       unfolding noCell
       outside-2 h = rw (tested nz, in-is (not-true o h))
 
       pub key-2-cell : not o ≡ true → KeyRefused 2 ≡ keyAnswer v c
       key-2-cell h = rw (key-by-picks v c, outside-2 h)
 
-      pub bounds-2-cell : not o ≡ true → BoundsRefused 2 ≡ boundsAnswer v c
-      bounds-2-cell h = rw (bounds-by-picks v c, outside-2 h)
-
       module _ (no : not o ≡ false) where
-        inside-is : inGrid (gridOf v) c ≡ true
+        pub inside-is : inGrid (gridOf v) c ≡ true
         inside-is = in-is (not-false o no)
 
-        a-cell : noCell v c ≡ false
+        pub a-cell : noCell v c ≡ false
         unfolding noCell
         a-cell = rw (tested nz, inside-is)
 
@@ -159,14 +136,6 @@ module _ (v : Volume) {z : Bool} (ez : z ≡ zeroExtent v) where
 
         pub key-yes : {t : Bool} {k : ℕ} → t ≡ tooManyBits g → t ≡ false → k ≡ keyOf g c → Key k ≡ keyAnswer v c
         key-yes et h ek = rw (key-by-picks v c, a-cell, ← eg, ← et, h, ek)
-
-        pub within-is : BeginsInside v c
-        within-is = begins-within v c (tested nz) inside-is
-
-        pub bounds-yes : {p q : Point} → p ≡ beginPoint v c → q ≡ endPoint v c
-            → Within (record { begin = p; end = q }) ≡ boundsAnswer v c
-        unfolding boundsOf
-        bounds-yes ep eq = rw (bounds-by-picks v c, a-cell, ep, eq)
 
   module _ (key : ℕ) where
     pub cell-2 : z ≡ true → CellRefused 2 ≡ cellAnswer v key
@@ -214,25 +183,3 @@ past-at key bits h n = ap (λ (x : ℕ). leb x key) (one-shl bits 64 (omega arit
 pub below-size : (g i : ℕ) → i < 32 → ltb (1 * 2 ^ i % 2 ^ 32) g ≡ used g i
 unfolding used
 below-size g i h = ap (λ (x : ℕ). ltb x g) (one-shl i 32 h)
-
-pub ruleset ways = (
-  tested,
-  grid-2,
-  grid-yes,
-  key-2,
-  key-2-cell,
-  key-3,
-  key-yes,
-  cell-2,
-  cell-3,
-  cell-4-key,
-  cell-4-cell,
-  cell-yes,
-  bounds-2,
-  bounds-2-cell,
-  bounds-yes,
-  within-is,
-  few,
-  few-counted,
-  needs,
-)

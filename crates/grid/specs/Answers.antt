@@ -11,11 +11,8 @@ use Rattle.grid.specs.declared.KeyAnswer.{KeyAnswer}
 use Rattle.grid.specs.declared.KeyAnswer.the-variants.{Key, Refused as KeyRefused}
 use Rattle.grid.specs.declared.CellAnswer.{CellAnswer}
 use Rattle.grid.specs.declared.CellAnswer.the-variants.{At, Refused as CellRefused}
-use Rattle.grid.specs.declared.BoundsAnswer.{BoundsAnswer}
-use Rattle.grid.specs.declared.BoundsAnswer.the-variants.{Within, Refused as BoundsRefused}
 use Rattle.grid.specs.Grid.{gridOf, zeroExtent, inGrid}
 use Rattle.grid.specs.Key.{tooManyBits, keyOf, cellOf, isKey}
-use Rattle.grid.specs.Bounds.{boundsOf}
 
 -- refusal 2: "a volume or chunk extent is 0, or a cell coordinate is not below its grid size"
 unfoldable pub noCell : Volume → Cell → Bool
@@ -44,11 +41,3 @@ cellChecks v key = check 2 (zeroExtent v) ∷ check 3 (tooManyBits (gridOf v)) �
 
 unfoldable pub cellAnswer : Volume → ℕ → CellAnswer
 cellAnswer v key = answered CellRefused (cellChecks v key) (At (cellOf (gridOf v) key))
-
--- ---- where a cell begins and ends
-
-unfoldable pub boundsChecks : Volume → Cell → List Check
-boundsChecks v c = check 2 (noCell v c) ∷ []
-
-unfoldable pub boundsAnswer : Volume → Cell → BoundsAnswer
-boundsAnswer v c = answered BoundsRefused (boundsChecks v c) (Within (boundsOf v c))

@@ -1,15 +1,12 @@
-// Volumes cut into chunks: the grid of cells, where each cell lies, and the key of each cell.
+// Volumes cut into chunks: the grid of cells, and the key of each cell.
 mod axis;
-pub mod batch;
 pub mod inner;
 pub mod keys;
 pub mod sizes;
-pub mod spans;
 
 pub use keys::cell_of;
 pub use keys::key_of;
 pub use sizes::grid_of;
-pub use spans::bounds_of;
 
 // How far something reaches along each axis, in voxels or in cells.
 #[repr(C)]
@@ -43,19 +40,6 @@ pub struct Volume {
     pub offset: Offset,
 }
 
-// A place in voxels.
-pub struct Point {
-    pub x: i64,
-    pub y: i64,
-    pub z: i64,
-}
-
-// From begin up to end, end excluded on each axis.
-pub struct Bounds {
-    pub begin: Point,
-    pub end: Point,
-}
-
 pub enum GridAnswer {
     Grid(Extents),
     Refused(u8),
@@ -68,10 +52,5 @@ pub enum KeyAnswer {
 
 pub enum CellAnswer {
     At(Cell),
-    Refused(u8),
-}
-
-pub enum BoundsAnswer {
-    Within(Bounds),
     Refused(u8),
 }

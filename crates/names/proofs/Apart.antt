@@ -12,11 +12,11 @@ use Rattle.refusal.specs.Choice.{pick}
 use Rattle.refusal.proofs.Tests.{both, neither}
 use Rattle.grid.specs.Answers.{noCell}
 use Rattle.grid.specs.Grid.{zeroExtent}
-use Rattle.grid.specs.Bounds.{beginPoint, boundsOf}
-use Rattle.grid.specs.declared.Bounds.{Bounds}
+use Rattle.bounds.specs.Bounds.{beginPoint, boundsOf}
+use Rattle.bounds.specs.declared.Bounds.{Bounds}
 use Rattle.grid.specs.declared.Cell.{Cell}
 use Rattle.grid.specs.declared.Volume.{Volume}
-use Rattle.grid.proofs.Laws.{same-begin-same-cell}
+use Rattle.bounds.proofs.Laws.{same-begin-same-cell}
 use Rattle.grid.proofs.Ways.{chunk-some}
 use Rattle.names.specs.Digits.{digitByte, digits, digitCount, decimal}
 use Rattle.names.specs.Signs.{negative, signed, signedText, spanOf, spanText, twoText, spansText}

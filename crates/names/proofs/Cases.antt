@@ -3,7 +3,7 @@ use Prim.Native.Nat.{ℕ}
 use mathlib.Core.Path.{_≡_, refl}
 use mathlib.Core.List.{List, [], _∷_, map}
 use lib.IntN.{pos, negsuc}
-use Rattle.grid.specs.Bounds.{beginOf, endOf, beginPoint, endPoint, boundsOf}
+use Rattle.bounds.specs.Bounds.{beginOf, endOf, beginPoint, endPoint, boundsOf}
 use Rattle.grid.specs.declared.Volume.{Volume}
 use Rattle.sharding.specs.declared.Sharding.{Sharding}
 use Rattle.names.specs.Digits.{digitByte, digits, countTo, digitCount, decimal}

@@ -13,14 +13,15 @@ use Rattle.refusal.specs.Buffer.{room, written, leftBy}
 use Rattle.refusal.specs.declared.Written.{Written}
 use Rattle.refusal.specs.declared.Written.the-variants.{Refused}
 use Rattle.refusal.proofs.Picks.{by-picks}
-use Rattle.grid.specs.Answers.{noCell, boundsAnswer}
-use Rattle.grid.specs.Bounds.{boundsOf}
-use Rattle.grid.specs.declared.Bounds.{Bounds}
+use Rattle.grid.specs.Answers.{noCell}
+use Rattle.bounds.specs.Answers.{boundsAnswer}
+use Rattle.bounds.specs.Bounds.{boundsOf}
+use Rattle.bounds.specs.declared.Bounds.{Bounds}
 use Rattle.grid.specs.declared.Cell.{Cell}
 use Rattle.grid.specs.declared.Volume.{Volume}
-use Rattle.grid.specs.declared.BoundsAnswer.{BoundsAnswer}
-use Rattle.grid.specs.declared.BoundsAnswer.the-variants.{Within, Refused as BoundsRefused}
-use Rattle.grid.proofs.Answered.{bounds-by-picks}
+use Rattle.bounds.specs.declared.BoundsAnswer.{BoundsAnswer}
+use Rattle.bounds.specs.declared.BoundsAnswer.the-variants.{Within, Refused as BoundsRefused}
+use Rattle.bounds.proofs.Answered.{bounds-by-picks}
 use Rattle.names.specs.Signs.{spanOf, spansText}
 use Rattle.names.specs.Chunks.{boundsName, chunkName, chunkNameChecks, chunkNameAnswer, chunkNameLeft}
 use Rattle.names.specs.declared.inner.Span.{Span}

@@ -7,8 +7,8 @@ use Rattle.refusal.specs.Buffer.{room, over}
 use Rattle.refusal.specs.declared.Written.{Written}
 use Rattle.refusal.specs.declared.Written.the-variants.{Length, Refused}
 use Rattle.grid.specs.Answers.{noCell}
-use Rattle.grid.specs.Bounds.{boundsOf}
-use Rattle.grid.specs.declared.Bounds.{Bounds}
+use Rattle.bounds.specs.Bounds.{boundsOf}
+use Rattle.bounds.specs.declared.Bounds.{Bounds}
 use Rattle.grid.specs.declared.Cell.{Cell}
 use Rattle.grid.specs.declared.Volume.{Volume}
 use Rattle.names.specs.Signs.{spanOf, spansText}

@@ -11,8 +11,8 @@ ghost use Rattle.names.specs.Signs.{negative, signed, signedText, spanOf
 ghost use Rattle.refusal.specs.Buffer.{written, leftBy};
 ghost use Rattle.names.specs.Chunks.{boundsName};
 ghost use Rattle.names.specs.Shards.{shardDigits, suffix, shardName};
+use bounds::Bounds;
 use endian::inner;
-use grid::Bounds;
 use refusal::Written;
 use sharding::Sharding;
 

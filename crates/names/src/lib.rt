@@ -4,7 +4,7 @@ pub mod inner;
 ghost use mathlib.Core.Path.{_≡_};
 ghost use Rattle.names.specs.Chunks.{chunkNameAnswer, chunkNameLeft};
 ghost use Rattle.names.specs.Shards.{shardNameAnswer, shardNameLeft};
-use grid::BoundsAnswer;
+use bounds::BoundsAnswer;
 use grid::Cell;
 use grid::Volume;
 use refusal::Written;
@@ -15,7 +15,7 @@ pub fn chunk_name(volume: Volume, cell: Cell, out: &mut [u8]) -> Written
     ensures answer { λ r. ⌜ r ≡ chunkNameAnswer volume cell (now (out .entry)) ⌝ }
     ensures out { λ _. ⌜ now (out .exit) ≡ chunkNameLeft volume cell (now (out .entry)) ⌝ }
 {
-    match grid::bounds_of(volume, cell) {
+    match bounds::bounds_of(volume, cell) {
         BoundsAnswer::Within(bounds) => inner::bounds_name(bounds, out),
         BoundsAnswer::Refused(number) => Written::Refused(number),
     }

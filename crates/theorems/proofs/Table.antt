@@ -10,8 +10,9 @@ use Rattle.endian.specs.Little.{le, leAt, row}
 use Rattle.endian.specs.Range.{sumTo, every, anyBelow, first}
 use Rattle.grid.specs.Grid.{gridSize, gridOf, hasZero, zeroExtent, inGrid}
 use Rattle.grid.specs.Key.{bitOf, used, count, step, steps, keyOf, keyBits, tooManyBits, into, stepBack, stepsBack, cellOf, isKey}
-use Rattle.grid.specs.Bounds.{beginOf, endOf, beginPoint, endPoint, boundsOf}
-use Rattle.grid.specs.Answers.{noCell, gridChecks, gridAnswer, keyChecks, keyAnswer, cellChecks, cellAnswer, boundsChecks, boundsAnswer}
+use Rattle.bounds.specs.Bounds.{beginOf, endOf, beginPoint, endPoint, boundsOf}
+use Rattle.grid.specs.Answers.{noCell, gridChecks, gridAnswer, keyChecks, keyAnswer, cellChecks, cellAnswer}
+use Rattle.bounds.specs.Answers.{boundsChecks, boundsAnswer}
 use Rattle.grid.specs.declared.CellAnswer.the-variants.{At, Refused as NoCell}
 use Rattle.grid.proofs.Laws.{only-key-0}
 use Rattle.sharding.specs.Specification.{allowed}

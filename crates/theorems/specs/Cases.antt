@@ -10,7 +10,7 @@ use Rattle.refusal.specs.declared.Written.{Written}
 use Rattle.refusal.specs.declared.Written.the-variants.{Length}
 use Rattle.grid.specs.declared.Extents.{Extents}
 use Rattle.grid.specs.declared.Cell.{Cell}
-use Rattle.grid.specs.declared.Point.{Point}
+use Rattle.bounds.specs.declared.Point.{Point}
 use Rattle.grid.specs.declared.Volume.{Volume}
 use Rattle.grid.specs.declared.GridAnswer.{GridAnswer}
 use Rattle.grid.specs.declared.GridAnswer.the-variants.{Grid}
@@ -18,11 +18,12 @@ use Rattle.grid.specs.declared.KeyAnswer.{KeyAnswer}
 use Rattle.grid.specs.declared.KeyAnswer.the-variants.{Key, Refused as NoKey}
 use Rattle.grid.specs.declared.CellAnswer.{CellAnswer}
 use Rattle.grid.specs.declared.CellAnswer.the-variants.{At, Refused as NoCell}
-use Rattle.grid.specs.declared.BoundsAnswer.{BoundsAnswer}
-use Rattle.grid.specs.declared.BoundsAnswer.the-variants.{Within}
+use Rattle.bounds.specs.declared.BoundsAnswer.{BoundsAnswer}
+use Rattle.bounds.specs.declared.BoundsAnswer.the-variants.{Within}
 use Rattle.grid.specs.Grid.{gridOf}
 use Rattle.grid.specs.Key.{keyBits}
-use Rattle.grid.specs.Answers.{gridAnswer, keyAnswer, cellAnswer, boundsAnswer}
+use Rattle.grid.specs.Answers.{gridAnswer, keyAnswer, cellAnswer}
+use Rattle.bounds.specs.Answers.{boundsAnswer}
 use Rattle.sharding.specs.declared.Sharding.{Sharding}
 use Rattle.sharding.specs.declared.PlaceAnswer.{PlaceAnswer}
 use Rattle.sharding.specs.declared.PlaceAnswer.the-variants.{At as Placed}

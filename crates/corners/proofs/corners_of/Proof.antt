@@ -6,12 +6,5 @@ use Rattle.corners.proofs.corners_of.Tie as tie
 pub corners-of-spec : {M : Type 1} → statement M
 corners-of-spec =
     tie.close
-    (tie.spec
-    (λ c κs. search boxes)
-    (λ c. search boxes)
-    (λ c κs. search boxes)
-    (λ c. search boxes)
-    (λ c κs. search boxes)
-    (λ c κs. search boxes)
-    (λ c κs. search boxes)
-    (λ c. search boxes))
+    (tie.spec (λ c κs. search boxes) (λ c. search boxes) (λ c κs. search boxes) (λ c. search boxes) (λ c κs. search boxes) (λ c κs. search boxes)
+    (λ c κs. search boxes) (λ c. search boxes))

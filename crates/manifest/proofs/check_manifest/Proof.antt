@@ -6,7 +6,4 @@ use Rattle.manifest.proofs.check_manifest.Tie as tie
 pub check-manifest-spec : {M : Type 1} → statement M
 check-manifest-spec =
     tie.close
-    (tie.spec
-    (λ c κs. search asked)
-    (λ c. search asked)
-    (λ c. search asked))
+    (tie.spec (λ c κs. search asked) (λ c. search asked) (λ c. search asked))

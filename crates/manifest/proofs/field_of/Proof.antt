@@ -6,9 +6,4 @@ use Rattle.manifest.proofs.field_of.Tie as tie
 pub field-of-spec : {M : Type 1} → statement M
 field-of-spec =
     tie.close
-    (tie.spec
-    (λ c κs. search asked)
-    (λ c. search asked)
-    (λ c. search asked)
-    (λ c κs. search asked)
-    (λ c. search asked))
+    (tie.spec (λ c κs. search asked) (λ c. search asked) (λ c. search asked) (λ c κs. search asked) (λ c. search asked))

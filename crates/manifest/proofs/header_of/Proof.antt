@@ -6,8 +6,4 @@ use Rattle.manifest.proofs.header_of.Tie as tie
 pub header-of-spec : {M : Type 1} → statement M
 header-of-spec =
     tie.close
-    (tie.spec
-    (λ c κs. search asked)
-    (λ c. search asked)
-    (λ c κs. search asked)
-    (λ c. search asked))
+    (tie.spec (λ c κs. search asked) (λ c. search asked) (λ c κs. search asked) (λ c. search asked))

@@ -6,10 +6,4 @@ use Rattle.nodes.proofs.node_of.Tie as tie
 pub node-of-spec : {M : Type 1} → statement M
 node-of-spec =
     tie.close
-    (tie.spec
-    (λ c κs. search asked)
-    (λ c. search asked)
-    (λ c κs. search asked)
-    (λ c. search asked)
-    (λ c κs. search asked)
-    (λ c. search asked))
+    (tie.spec (λ c κs. search asked) (λ c. search asked) (λ c κs. search asked) (λ c. search asked) (λ c κs. search asked) (λ c. search asked))

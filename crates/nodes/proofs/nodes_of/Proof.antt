@@ -9,16 +9,6 @@ use Rattle.nodes.proofs.nodes_of.Tie as tie
 pub nodes-of-spec : {M : Type 1} → statement M
 nodes-of-spec =
     tie.close
-    (tie.spec
-    (λ c κs. search needs)
-    (λ c. (search listing, search listing))
-    (λ c κs. search (told-sound, sound))
-    (λ c. search needs)
-    (λ c. (search listing, search listing))
-    (λ c κs. search (told-sound, sound))
-    (λ c. search needs)
-    (λ c. (search listing, search listing))
-    (λ c κs. (search (told-sound, sound), search needs))
-    (λ c. search needs)
-    (λ c. search needs)
-    (λ c. (search listing, search listing)))
+    (tie.spec (λ c κs. search needs) (λ c. (search listing, search listing)) (λ c κs. search (told-sound, sound)) (λ c. search needs)
+    (λ c. (search listing, search listing)) (λ c κs. search (told-sound, sound)) (λ c. search needs) (λ c. (search listing, search listing))
+    (λ c κs. (search (told-sound, sound), search needs)) (λ c. search needs) (λ c. search needs) (λ c. (search listing, search listing)))

@@ -5,7 +5,4 @@ use Rattle.text.proofs.byte.Tie as tie
 pub byte-spec : {M : Type 1} → statement M
 byte-spec =
     tie.close
-    (tie.spec
-    (λ c. search marking)
-    (λ c. search marking)
-    (λ c. search marking))
+    (tie.spec (λ c. search marking) (λ c. search marking) (λ c. search marking))

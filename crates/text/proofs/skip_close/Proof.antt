@@ -5,9 +5,4 @@ use Rattle.text.proofs.skip_close.Tie as tie
 pub skip-close-spec : {M : Type 1} → statement M
 skip-close-spec =
     tie.close
-    (tie.spec
-    (λ c κs. search marking)
-    (λ c κs. search marking)
-    (λ c. search marking)
-    (λ c. search marking)
-    (λ c. search marking))
+    (tie.spec (λ c κs. search marking) (λ c κs. search marking) (λ c. search marking) (λ c. search marking) (λ c. search marking))

@@ -5,10 +5,5 @@ use Rattle.text.proofs.skip_number.Tie as tie
 pub skip-number-spec : {M : Type 1} → statement M
 skip-number-spec =
     tie.close
-    (tie.spec
-    (λ c κs. search counting)
-    (λ c. search counting)
-    (λ c κs. search counting)
-    (λ c. search counting)
-    (λ c κs. search counting)
+    (tie.spec (λ c κs. search counting) (λ c. search counting) (λ c κs. search counting) (λ c. search counting) (λ c κs. search counting)
     (λ c. search counting))

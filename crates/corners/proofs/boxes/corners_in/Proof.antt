@@ -6,13 +6,5 @@ use Rattle.corners.proofs.boxes.corners_in.Tie as tie
 pub corners-in-spec : {M : Type 1} → statement M
 corners-in-spec =
     tie.close
-    (tie.spec
-    (λ c κs. search boxes)
-    (λ c. search boxes)
-    (λ c κs. search boxes)
-    (λ c κs. search boxes)
-    (λ c. search boxes)
-    (λ c κs. search boxes)
-    (λ c κs. search boxes)
-    (λ c. search boxes)
-    (λ c. search boxes))
+    (tie.spec (λ c κs. search boxes) (λ c. search boxes) (λ c κs. search boxes) (λ c κs. search boxes) (λ c. search boxes) (λ c κs. search boxes)
+    (λ c κs. search boxes) (λ c. search boxes) (λ c. search boxes))

@@ -11,8 +11,4 @@ returns c = cc
 pub far-corner-spec : {M : Type 1} → statement M
 far-corner-spec =
     tie.close
-    (tie.spec
-    (λ c κs. search needs)
-    (λ c κs. search needs)
-    (λ c κs. search needs)
-    returns)
+    (tie.spec (λ c κs. search needs) (λ c κs. search needs) (λ c κs. search needs) returns)

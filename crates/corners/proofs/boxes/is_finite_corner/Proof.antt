@@ -6,10 +6,4 @@ use Rattle.corners.proofs.boxes.is_finite_corner.Tie as tie
 pub is-finite-corner-spec : {M : Type 1} → statement M
 is-finite-corner-spec =
     tie.close
-    (tie.spec
-    (λ c κs. search boxes)
-    (λ c. search boxes)
-    (λ c κs. search boxes)
-    (λ c. search boxes)
-    (λ c κs. search boxes)
-    (λ c. search boxes))
+    (tie.spec (λ c κs. search boxes) (λ c. search boxes) (λ c κs. search boxes) (λ c. search boxes) (λ c κs. search boxes) (λ c. search boxes))

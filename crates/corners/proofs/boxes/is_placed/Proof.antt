@@ -7,7 +7,4 @@ use Rattle.corners.proofs.boxes.is_placed.Tie as tie
 pub is-placed-spec : {M : Type 1} → statement M
 is-placed-spec =
     tie.close
-    (tie.spec
-    (λ c. far-x _ (omega arith))
-    (λ c. search boxes)
-    (λ c. search boxes))
+    (tie.spec (λ c. far-x _ (omega arith)) (λ c. search boxes) (λ c. search boxes))

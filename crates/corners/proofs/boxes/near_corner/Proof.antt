@@ -11,8 +11,4 @@ returns c = cc
 pub near-corner-spec : {M : Type 1} → statement M
 near-corner-spec =
     tie.close
-    (tie.spec
-    (λ c κs. search boxes)
-    (λ c κs. search boxes)
-    (λ c κs. search boxes)
-    returns)
+    (tie.spec (λ c κs. search boxes) (λ c κs. search boxes) (λ c κs. search boxes) returns)

@@ -11,6 +11,4 @@ returns c = rw (c .power .ensures)
 pub far-spec : {M : Type 1} → statement M
 far-spec =
     tie.close
-    (tie.spec
-    (λ c κs. search needs)
-    returns)
+    (tie.spec (λ c κs. search needs) returns)

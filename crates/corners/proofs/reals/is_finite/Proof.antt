@@ -15,8 +15,5 @@ below c = tt
 pub is-finite-spec : {M : Type 1} → statement M
 is-finite-spec =
     tie.close
-    (tie.spec
-    above
-    below
-    (λ c. below-inf (c .before .args .x) (c .before .good .0 .1) (c .if1 .taken))
+    (tie.spec above below (λ c. below-inf (c .before .args .x) (c .before .good .0 .1) (c .if1 .taken))
     (λ c. not-below-inf (c .before .args .x) (c .before .good .0 .1) (c .if1 .left)))

@@ -18,7 +18,4 @@ returns c = rw (c .power .ensures)
 pub near-spec : {M : Type 1} → statement M
 near-spec =
     tie.close
-    (tie.spec
-    position-held
-    (λ c κs. search needs)
-    returns)
+    (tie.spec position-held (λ c κs. search needs) returns)

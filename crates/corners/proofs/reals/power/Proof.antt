@@ -7,8 +7,4 @@ use Rattle.corners.proofs.reals.power.Tie as tie
 pub power-spec : {M : Type 1} → statement M
 power-spec =
     tie.close
-    (tie.spec
-    (λ c. search needs)
-    (λ c. search needs)
-    (λ c. power-no-nan (c .args .level) (c .pre))
-    (λ c. power-bits (c .args .level) (c .pre)))
+    (tie.spec (λ c. search needs) (λ c. search needs) (λ c. power-no-nan (c .args .level) (c .pre)) (λ c. power-bits (c .args .level) (c .pre)))

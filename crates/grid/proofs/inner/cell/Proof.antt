@@ -27,21 +27,6 @@ loop-again c =
 pub cell-spec : {M : Type 1} → statement M
 cell-spec =
     tie.close
-    (tie.spec
-    Inv-loop
-    μ-loop
-    (λ c κs. search needs)
-    (λ c. search reading)
-    (λ c κs. search needs)
-    (λ c. search reading)
-    (λ c κs. search needs)
-    (λ c κs. search needs)
-    (λ c. search reading)
-    (λ c κs. search needs)
-    (λ c κs. search needs)
-    (λ c. search reading)
-    (λ c κs. search needs)
-    (λ c. search needs)
-    (λ c. search needs)
-    loop-again
-    (λ c. search reading))
+    (tie.spec Inv-loop μ-loop (λ c κs. search needs) (λ c. search reading) (λ c κs. search needs) (λ c. search reading) (λ c κs. search needs)
+    (λ c κs. search needs) (λ c. search reading) (λ c κs. search needs) (λ c κs. search needs) (λ c. search reading) (λ c κs. search needs)
+    (λ c. search needs) (λ c. search needs) loop-again (λ c. search reading))

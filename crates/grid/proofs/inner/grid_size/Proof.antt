@@ -8,9 +8,5 @@ use Rattle.grid.proofs.inner.grid_size.Tie as tie
 pub grid-size-spec : {M : Type 1} → statement M
 grid-size-spec =
     tie.close
-    (tie.spec
-    (λ c. search needs)
-    (λ c. search needs)
-    (λ c. cut-fits _ _ (search needs) (search needs) (omega arith))
-    (λ c. grid-size-cut _ _ (search needs) (omega arith))
-    (λ c. grid-size-whole _ _ (search needs) (omega arith)))
+    (tie.spec (λ c. search needs) (λ c. search needs) (λ c. cut-fits _ _ (search needs) (search needs) (omega arith))
+    (λ c. grid-size-cut _ _ (search needs) (omega arith)) (λ c. grid-size-whole _ _ (search needs) (omega arith)))

@@ -15,15 +15,5 @@ ruleset packing = (packed-none, packed-more, packed-all, needs)
 pub key-spec : {M : Type 1} → statement M
 key-spec =
     tie.close
-    (tie.spec
-    Inv-loop
-    μ-loop
-    (λ c κs. search needs)
-    (λ c. search packing)
-    (λ c. search packing)
-    (λ c κs. search packing)
-    (λ c κs. search packing)
-    (λ c κs. search packing)
-    (λ c. search packing)
-    (λ c. search packing)
-    (λ c. search packing))
+    (tie.spec Inv-loop μ-loop (λ c κs. search needs) (λ c. search packing) (λ c. search packing) (λ c κs. search packing) (λ c κs. search packing)
+    (λ c κs. search packing) (λ c. search packing) (λ c. search packing) (λ c. search packing))

@@ -11,11 +11,5 @@ returns c = cc
 pub header-spec : {M : Type 1} → statement M
 header-spec =
     tie.close
-    (tie.spec
-    (λ c κs. search sound)
-    (λ c κs. search sound)
-    (λ c κs. search sound)
-    (λ c κs. search sound)
-    (λ c κs. search sound)
-    (λ c κs. search sound)
-    returns)
+    (tie.spec (λ c κs. search sound) (λ c κs. search sound) (λ c κs. search sound) (λ c κs. search sound) (λ c κs. search sound)
+    (λ c κs. search sound) returns)

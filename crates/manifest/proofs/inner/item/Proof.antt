@@ -11,7 +11,4 @@ returns c = search needs
 pub item-spec : {M : Type 1} → statement M
 item-spec =
     tie.close
-    (tie.spec
-    (λ c. search needs)
-    (λ c κs. search needs)
-    returns)
+    (tie.spec (λ c. search needs) (λ c κs. search needs) returns)

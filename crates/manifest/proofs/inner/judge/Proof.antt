@@ -7,13 +7,5 @@ use Rattle.manifest.proofs.inner.judge.Tie as tie
 pub judge-spec : {M : Type 1} → statement M
 judge-spec =
     tie.close
-    (tie.spec
-    (λ c κs. search ways)
-    (λ c. search ways)
-    (λ c κs. search sound)
-    (λ c. search sound)
-    (λ c κs. search sound)
-    (λ c. search ways)
-    (λ c κs. search sound)
-    (λ c. search ways)
-    (λ c. search ways))
+    (tie.spec (λ c κs. search ways) (λ c. search ways) (λ c κs. search sound) (λ c. search sound) (λ c κs. search sound) (λ c. search ways)
+    (λ c κs. search sound) (λ c. search ways) (λ c. search ways))

@@ -21,18 +21,6 @@ abbrev μ-loop : tie.MeasureT-loop
 pub nodes-rise-spec : {M : Type 1} → statement M
 nodes-rise-spec =
     tie.close
-    (tie.spec
-    Inv-loop
-    μ-loop
-    (λ c. search loops)
-    (λ c. search loops)
-    (λ c. search (level-first, loops))
-    (λ c κs. search loops)
-    (λ c κs. search (level-fits, loops))
-    (λ c. search (nodes-fail, loops))
-    (λ c. search loops)
-    (λ c. search loops)
-    (λ c. search loops)
-    (λ c. search loops)
-    (λ c. search (rise-at, level-next, level-fits, loops))
-    (λ c. search (nodes-done, loops)))
+    (tie.spec Inv-loop μ-loop (λ c. search loops) (λ c. search loops) (λ c. search (level-first, loops)) (λ c κs. search loops)
+    (λ c κs. search (level-fits, loops)) (λ c. search (nodes-fail, loops)) (λ c. search loops) (λ c. search loops) (λ c. search loops)
+    (λ c. search loops) (λ c. search (rise-at, level-next, level-fits, loops)) (λ c. search (nodes-done, loops)))

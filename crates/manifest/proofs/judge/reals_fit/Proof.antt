@@ -6,15 +6,5 @@ use Rattle.manifest.proofs.judge.reals_fit.Tie as tie
 pub reals-fit-spec : {M : Type 1} → statement M
 reals-fit-spec =
     tie.close
-    (tie.spec
-    (λ c κs. search ways)
-    (λ c. search ways)
-    (λ c κs. search ways)
-    (λ c κs. search ways)
-    (λ c. search ways)
-    (λ c κs. search ways)
-    (λ c κs. search ways)
-    (λ c. search ways)
-    (λ c κs. search ways)
-    (λ c κs. search ways)
-    (λ c. search ways))
+    (tie.spec (λ c κs. search ways) (λ c. search ways) (λ c κs. search ways) (λ c κs. search ways) (λ c. search ways) (λ c κs. search ways)
+    (λ c κs. search ways) (λ c. search ways) (λ c κs. search ways) (λ c κs. search ways) (λ c. search ways))

@@ -7,18 +7,6 @@ use Rattle.manifest.proofs.judge.right_length.Tie as tie
 pub right-length-spec : {M : Type 1} → statement M
 right-length-spec =
     tie.close
-    (tie.spec
-    (λ c. length-above _ (omega arith))
-    (λ c. search ways)
-    (λ c κs. search ways)
-    (λ c. search ways)
-    (λ c. levels-above _ (c .before .item .ensures .0) (omega arith))
-    (λ c. search ways)
-    (λ c. search ways)
-    (λ c. search ways)
-    (λ c. search ways)
-    (λ c. search ways)
-    (λ c κs. search ways)
-    (λ c. search ways)
-    (λ c. search ways)
-    (λ c. search ways))
+    (tie.spec (λ c. length-above _ (omega arith)) (λ c. search ways) (λ c κs. search ways) (λ c. search ways)
+    (λ c. levels-above _ (c .before .item .ensures .0) (omega arith)) (λ c. search ways) (λ c. search ways) (λ c. search ways) (λ c. search ways)
+    (λ c. search ways) (λ c κs. search ways) (λ c. search ways) (λ c. search ways) (λ c. search ways))

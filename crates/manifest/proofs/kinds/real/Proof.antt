@@ -17,7 +17,4 @@ returns c = cc
 pub real-spec : {M : Type 1} → statement M
 real-spec =
     tie.close
-    (tie.spec
-    (λ c κs. search needs)
-    finite-pattern
-    returns)
+    (tie.spec (λ c κs. search needs) finite-pattern returns)

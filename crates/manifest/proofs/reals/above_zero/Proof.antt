@@ -15,6 +15,4 @@ returns-2 c = rw (le-ltb _ _ (c .if1 .left))
 pub above-zero-spec : {M : Type 1} → statement M
 above-zero-spec =
     tie.close
-    (tie.spec
-    returns
-    returns-2)
+    (tie.spec returns returns-2)

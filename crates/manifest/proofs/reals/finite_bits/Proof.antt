@@ -11,5 +11,4 @@ returns c = search needs
 pub finite-bits-spec : {M : Type 1} → statement M
 finite-bits-spec =
     tie.close
-    (tie.spec
-    returns)
+    (tie.spec returns)

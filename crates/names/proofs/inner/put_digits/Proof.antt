@@ -17,17 +17,5 @@ abbrev μ-loop : tie.MeasureT-loop
 pub put-digits-spec : {M : Type 1} → statement M
 put-digits-spec =
     tie.close
-    (tie.spec
-    Inv-loop
-    μ-loop
-    (λ c. search puts)
-    (λ c. search puts)
-    (λ c. search puts)
-    (λ c. search puts)
-    (λ c κs. search puts)
-    (λ c. search puts)
-    (λ c. search puts)
-    (λ c. search puts)
-    (λ c. search puts)
-    (λ c. search puts)
-    (λ c. search puts))
+    (tie.spec Inv-loop μ-loop (λ c. search puts) (λ c. search puts) (λ c. search puts) (λ c. search puts) (λ c κs. search puts) (λ c. search puts)
+    (λ c. search puts) (λ c. search puts) (λ c. search puts) (λ c. search puts) (λ c. search puts))

@@ -7,9 +7,4 @@ use Rattle.nodes.proofs.inner.has_node.Tie as tie
 pub has-node-spec : {M : Type 1} → statement M
 has-node-spec =
     tie.close
-    (tie.spec
-    (λ c κs. search sound)
-    (λ c. search sound)
-    (λ c. search asked)
-    (λ c κs. search sound)
-    (λ c. search asked))
+    (tie.spec (λ c κs. search sound) (λ c. search sound) (λ c. search asked) (λ c κs. search sound) (λ c. search asked))

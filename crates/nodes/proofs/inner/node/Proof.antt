@@ -7,17 +7,6 @@ use Rattle.nodes.proofs.inner.node.Tie as tie
 pub node-spec : {M : Type 1} → statement M
 node-spec =
     tie.close
-    (tie.spec
-    (λ c κs. search sound)
-    (λ c. search sound)
-    (λ c κs. search sound)
-    (λ c. search sound)
-    (λ c. search sound)
-    (λ c κs. search sound)
-    (λ c. search sound)
-    (λ c. search sound)
-    (λ c κs. search sound)
-    (λ c κs. search sound)
-    (λ c. search sound)
-    (λ c κs. search sound)
+    (tie.spec (λ c κs. search sound) (λ c. search sound) (λ c κs. search sound) (λ c. search sound) (λ c. search sound) (λ c κs. search sound)
+    (λ c. search sound) (λ c. search sound) (λ c κs. search sound) (λ c κs. search sound) (λ c. search sound) (λ c κs. search sound)
     (λ c. search asked))

@@ -8,13 +8,5 @@ use Rattle.nodes.proofs.level.put_level.Tie as tie
 pub put-level-spec : {M : Type 1} → statement M
 put-level-spec =
     tie.close
-    (tie.spec
-    (λ c. search needs)
-    (λ c. search needs)
-    (λ c κs. search needs)
-    (λ c. search needs)
-    (λ c. search needs)
-    (λ c κs. search needs)
-    (λ c κs. search (read-fits, needs))
-    (λ c. search needs)
-    (λ c. search (level-numbers, needs)))
+    (tie.spec (λ c. search needs) (λ c. search needs) (λ c κs. search needs) (λ c. search needs) (λ c. search needs) (λ c κs. search needs)
+    (λ c κs. search (read-fits, needs)) (λ c. search needs) (λ c. search (level-numbers, needs)))

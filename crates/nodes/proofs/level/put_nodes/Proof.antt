@@ -25,17 +25,5 @@ abbrev μ-loop : tie.MeasureT-loop
 pub put-nodes-spec : {M : Type 1} → statement M
 put-nodes-spec =
     tie.close
-    (tie.spec
-    Inv-loop
-    μ-loop
-    (λ c. search (listed, needs))
-    (λ c κs. search needs)
-    (λ c. search needs)
-    (λ c κs. search needs)
-    (λ c. search needs)
-    (λ c. search needs)
-    (λ c. search needs)
-    (λ c. search needs)
-    (λ c. search (listed, needs))
-    (λ c. search needs)
-    (λ c. search (listed, needs)))
+    (tie.spec Inv-loop μ-loop (λ c. search (listed, needs)) (λ c κs. search needs) (λ c. search needs) (λ c κs. search needs) (λ c. search needs)
+    (λ c. search needs) (λ c. search needs) (λ c. search needs) (λ c. search (listed, needs)) (λ c. search needs) (λ c. search (listed, needs)))

@@ -21,18 +21,6 @@ abbrev μ-loop : tie.MeasureT-loop
 pub bytes-before-spec : {M : Type 1} → statement M
 bytes-before-spec =
     tie.close
-    (tie.spec
-    Inv-loop
-    μ-loop
-    (λ c. search loops)
-    (λ c. search loops)
-    (λ c. search (level-first, loops))
-    (λ c κs. search loops)
-    (λ c κs. search (level-within, loops))
-    (λ c. search loops)
-    (λ c. search loops)
-    (λ c. search loops)
-    (λ c. search loops)
-    (λ c. search loops)
-    (λ c. search (level-bytes, level-next, level-within, loops))
-    (λ c. search loops))
+    (tie.spec Inv-loop μ-loop (λ c. search loops) (λ c. search loops) (λ c. search (level-first, loops)) (λ c κs. search loops)
+    (λ c κs. search (level-within, loops)) (λ c. search loops) (λ c. search loops) (λ c. search loops) (λ c. search loops) (λ c. search loops)
+    (λ c. search (level-bytes, level-next, level-within, loops)) (λ c. search loops))

@@ -20,17 +20,5 @@ loop-again c = search loops
 pub sizes-spec : {M : Type 1} → statement M
 sizes-spec =
     tie.close
-    (tie.spec
-    Inv-loop
-    μ-loop
-    (λ c. search loops)
-    (λ c. search loops)
-    (λ c. search loops)
-    (λ c. search loops)
-    (λ c κs. search loops)
-    (λ c. search loops)
-    (λ c. search loops)
-    (λ c. search loops)
-    (λ c. search loops)
-    loop-again
-    (λ c. search loops))
+    (tie.spec Inv-loop μ-loop (λ c. search loops) (λ c. search loops) (λ c. search loops) (λ c. search loops) (λ c κs. search loops)
+    (λ c. search loops) (λ c. search loops) (λ c. search loops) (λ c. search loops) loop-again (λ c. search loops))

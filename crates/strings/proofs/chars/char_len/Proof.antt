@@ -5,11 +5,5 @@ use Rattle.strings.proofs.chars.char_len.Tie as tie
 pub char-len-spec : {M : Type 1} → statement M
 char-len-spec =
     tie.close
-    (tie.spec
-    (λ c κs. search measuring)
-    (λ c. search measuring)
-    (λ c. search measuring)
-    (λ c κs. search measuring)
-    (λ c. search measuring)
-    (λ c κs. search measuring)
-    (λ c. search measuring))
+    (tie.spec (λ c κs. search measuring) (λ c. search measuring) (λ c. search measuring) (λ c κs. search measuring) (λ c. search measuring)
+    (λ c κs. search measuring) (λ c. search measuring))

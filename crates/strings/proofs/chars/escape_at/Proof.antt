@@ -5,16 +5,6 @@ use Rattle.strings.proofs.chars.escape_at.Tie as tie
 pub escape-at-spec : {M : Type 1} → statement M
 escape-at-spec =
     tie.close
-    (tie.spec
-    (λ c. search measuring)
-    (λ c κs. search measuring)
-    (λ c. search measuring)
-    (λ c κs. search measuring)
-    (λ c. search measuring)
-    (λ c κs. search measuring)
-    (λ c. search measuring)
-    (λ c κs. search measuring)
-    (λ c. search measuring)
-    (λ c κs. search measuring)
-    (λ c κs. search measuring)
-    (λ c. search measuring))
+    (tie.spec (λ c. search measuring) (λ c κs. search measuring) (λ c. search measuring) (λ c κs. search measuring) (λ c. search measuring)
+    (λ c κs. search measuring) (λ c. search measuring) (λ c κs. search measuring) (λ c. search measuring) (λ c κs. search measuring)
+    (λ c κs. search measuring) (λ c. search measuring))

@@ -5,12 +5,5 @@ use Rattle.strings.proofs.chars.escape_len.Tie as tie
 pub escape-len-spec : {M : Type 1} → statement M
 escape-len-spec =
     tie.close
-    (tie.spec
-    (λ c κs. search measuring)
-    (λ c. search measuring)
-    (λ c κs. search measuring)
-    (λ c κs. search measuring)
-    (λ c κs. search measuring)
-    (λ c κs. search measuring)
-    (λ c. search measuring)
-    (λ c. search measuring))
+    (tie.spec (λ c κs. search measuring) (λ c. search measuring) (λ c κs. search measuring) (λ c κs. search measuring) (λ c κs. search measuring)
+    (λ c κs. search measuring) (λ c. search measuring) (λ c. search measuring))

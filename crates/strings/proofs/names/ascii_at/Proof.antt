@@ -5,18 +5,6 @@ use Rattle.strings.proofs.names.ascii_at.Tie as tie
 pub ascii-at-spec : {M : Type 1} → statement M
 ascii-at-spec =
     tie.close
-    (tie.spec
-    (λ c κs. search naming)
-    (λ c κs. search naming)
-    (λ c κs. search naming)
-    (λ c. search naming)
-    (λ c. search naming)
-    (λ c κs. search naming)
-    (λ c. search naming)
-    (λ c κs. search naming)
-    (λ c κs. search naming)
-    (λ c. search naming)
-    (λ c κs. search naming)
-    (λ c κs. search naming)
-    (λ c κs. search naming)
-    (λ c. search naming))
+    (tie.spec (λ c κs. search naming) (λ c κs. search naming) (λ c κs. search naming) (λ c. search naming) (λ c. search naming)
+    (λ c κs. search naming) (λ c. search naming) (λ c κs. search naming) (λ c κs. search naming) (λ c. search naming) (λ c κs. search naming)
+    (λ c κs. search naming) (λ c κs. search naming) (λ c. search naming))

@@ -5,7 +5,4 @@ use Rattle.strings.proofs.names.ascii_of.Tie as tie
 pub ascii-of-spec : {M : Type 1} → statement M
 ascii-of-spec =
     tie.close
-    (tie.spec
-    (λ c. search naming)
-    (λ c. search naming)
-    (λ c. search naming))
+    (tie.spec (λ c. search naming) (λ c. search naming) (λ c. search naming))

@@ -5,11 +5,5 @@ use Rattle.strings.proofs.names.hex_value.Tie as tie
 pub hex-value-spec : {M : Type 1} → statement M
 hex-value-spec =
     tie.close
-    (tie.spec
-    (λ c κs. search naming)
-    (λ c. search naming)
-    (λ c. search naming)
-    (λ c. search naming)
-    (λ c. search naming)
-    (λ c. search naming)
+    (tie.spec (λ c κs. search naming) (λ c. search naming) (λ c. search naming) (λ c. search naming) (λ c. search naming) (λ c. search naming)
     (λ c. search naming))

@@ -5,14 +5,5 @@ use Rattle.text.proofs.numbers.skip_unsigned.Tie as tie
 pub skip-unsigned-spec : {M : Type 1} → statement M
 skip-unsigned-spec =
     tie.close
-    (tie.spec
-    (λ c κs. search counting)
-    (λ c. search counting)
-    (λ c. search counting)
-    (λ c. search counting)
-    (λ c κs. search counting)
-    (λ c. search counting)
-    (λ c. search counting)
-    (λ c. search counting)
-    (λ c κs. search counting)
-    (λ c. search counting))
+    (tie.spec (λ c κs. search counting) (λ c. search counting) (λ c. search counting) (λ c. search counting) (λ c κs. search counting)
+    (λ c. search counting) (λ c. search counting) (λ c. search counting) (λ c κs. search counting) (λ c. search counting))

@@ -5,9 +5,4 @@ use Rattle.text.proofs.numbers.some_digits.Tie as tie
 pub some-digits-spec : {M : Type 1} → statement M
 some-digits-spec =
     tie.close
-    (tie.spec
-    (λ c κs. search counting)
-    (λ c κs. search counting)
-    (λ c κs. search counting)
-    (λ c. search counting)
-    (λ c. search counting))
+    (tie.spec (λ c κs. search counting) (λ c κs. search counting) (λ c κs. search counting) (λ c. search counting) (λ c. search counting))

@@ -1,0 +1,4 @@
+pub mod Answered
+pub mod Ways
+pub mod Signed
+pub mod Laws
