@@ -1,10 +1,9 @@
 -- The loop's invariant: the total is the sum of the counts so far, each below 2^32.
 use Prim.Native.Nat.{_-_, _*_, _≤_}
 use mathlib.Core.Path.{_≡_}
-use borrow.Author.Needs.{needs}
 use Rattle.endian.specs.Range.{sumTo}
 use Rattle.manifest.specs.Layout.{countOf}
-use Rattle.endian.proofs.Ranges.{sum-more, sum-none, sum-done}
+use Rattle.manifest.proofs.Loops.{loops}
 use Rattle.manifest.proofs.inner.nodes_before.Statement.{statement}
 use Rattle.manifest.proofs.inner.nodes_before.Tie as tie
 
@@ -17,5 +16,5 @@ abbrev μ-loop : tie.MeasureT-loop
 pub nodes-before-spec : {M : Type 1} → statement M
 nodes-before-spec =
     tie.close
-    (tie.spec Inv-loop μ-loop (λ c. search (sum-none, needs)) (λ c κs. search needs) (λ c. search needs) (λ c. search needs) (λ c. search needs)
-    (λ c. search (sum-more, needs)) (λ c. search (sum-done, needs)))
+    (tie.spec Inv-loop μ-loop (λ c. search loops) (λ c κs. search loops) (λ c. search loops) (λ c. search loops) (λ c. search loops)
+    (λ c. search loops) (λ c. search loops))

@@ -2,10 +2,9 @@
 use Prim.Native.Nat.{_-_, _+_, _*_, _≤_}
 use mathlib.Core.Path.{_≡_}
 use mathlib.Core.Bool.{true}
-use borrow.Author.Needs.{needs}
 use Rattle.endian.specs.Range.{every}
 use Rattle.manifest.specs.Verdict.{realFits}
-use Rattle.endian.proofs.Ranges.{every-more, every-none, every-fails, every-done}
+use Rattle.manifest.proofs.Loops.{loops}
 use Rattle.manifest.proofs.judge.each_real_fits.Statement.{statement}
 use Rattle.manifest.proofs.judge.each_real_fits.Tie as tie
 
@@ -18,5 +17,5 @@ abbrev μ-loop : tie.MeasureT-loop
 pub each-real-fits-spec : {M : Type 1} → statement M
 each-real-fits-spec =
     tie.close
-    (tie.spec Inv-loop μ-loop (λ c. search (every-none, needs)) (λ c. search needs) (λ c. search needs) (λ c κs. search needs)
-    (λ c. search every-fails) (λ c. search needs) (λ c. search needs) (λ c. search (every-more, needs)) (λ c. search every-done))
+    (tie.spec Inv-loop μ-loop (λ c. search loops) (λ c. search loops) (λ c. search loops) (λ c κs. search loops) (λ c. search loops)
+    (λ c. search loops) (λ c. search loops) (λ c. search loops) (λ c. search loops))

@@ -2,11 +2,10 @@
 use Prim.Native.Nat.{_-_, _≤_}
 use mathlib.Core.Path.{_≡_}
 use mathlib.Core.Bool.{true}
-use borrow.Author.Needs.{needs}
 use Rattle.endian.specs.Range.{every}
 use Rattle.manifest.specs.Verdict.{inOrder}
-use Rattle.manifest.proofs.Ways.{level-done, level-fails}
-use Rattle.endian.proofs.Ranges.{every-more, every-none}
+use Rattle.manifest.proofs.Loops.{loops}
+use Rattle.manifest.proofs.Ways.{ways}
 use Rattle.manifest.proofs.judge.level_rises.Statement.{statement}
 use Rattle.manifest.proofs.judge.level_rises.Tie as tie
 
@@ -19,5 +18,5 @@ abbrev μ-loop : tie.MeasureT-loop
 pub level-rises-spec : {M : Type 1} → statement M
 level-rises-spec =
     tie.close
-    (tie.spec Inv-loop μ-loop (λ c. search (every-none, needs)) (λ c. search needs) (λ c κs. search needs) (λ c. search level-fails)
-    (λ c. search needs) (λ c. search needs) (λ c. search (every-more, needs)) (λ c. search level-done))
+    (tie.spec Inv-loop μ-loop (λ c. search loops) (λ c. search loops) (λ c κs. search loops) (λ c. search ways) (λ c. search loops)
+    (λ c. search loops) (λ c. search loops) (λ c. search ways))
