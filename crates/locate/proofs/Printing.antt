@@ -21,9 +21,9 @@ use Rattle.grid.specs.declared.Extents.{Extents}
 use Rattle.grid.specs.declared.KeyAnswer.the-variants.{Key, Refused as KeyRefused}
 use Rattle.grid.proofs.Answered.{key-by-picks}
 use Rattle.grid.proofs.Laws.{few-bits}
-use Rattle.names.specs.Digits.{decimal}
+use Rattle.digits.specs.Digits.{decimal}
 use Rattle.names.specs.Shards.{shardName}
-use Rattle.names.proofs.Numerals.{decimal-twenty}
+use Rattle.digits.proofs.Numerals.{decimal-twenty}
 use Rattle.names.proofs.Sharded.{name-most}
 use Rattle.names.proofs.Texts.{first-room, between-fits, between-room, all-put}
 use Rattle.sharding.specs.Place.{placeOf}

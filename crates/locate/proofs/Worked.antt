@@ -6,7 +6,7 @@ use Rattle.endian.specs.Little.{le, leAt}
 use Rattle.grid.specs.Grid.{gridSize, gridOf, hasZero, zeroExtent, inGrid}
 use Rattle.grid.specs.Key.{bitOf, used, step, steps, keyOf, keyBits, tooManyBits}
 use Rattle.grid.specs.Answers.{noCell, keyChecks, keyAnswer}
-use Rattle.names.specs.Digits.{digitByte, digits, countTo, digitCount, decimal}
+use Rattle.digits.specs.Digits.{digitByte, digits, countTo, digitCount, decimal}
 use Rattle.names.specs.Shards.{shardDigits, shardName}
 use Rattle.sharding.specs.Specification.{allowed}
 use Rattle.sharding.specs.Place.{hashedId, minishardOf, shardOf}

@@ -9,7 +9,7 @@ use Rattle.grid.specs.declared.Cell.{Cell}
 use Rattle.grid.specs.declared.Extents.{Extents}
 use Rattle.grid.specs.declared.KeyAnswer.{KeyAnswer}
 use Rattle.grid.specs.declared.KeyAnswer.the-variants.{Key, Refused as KeyRefused}
-use Rattle.names.specs.Digits.{decimal}
+use Rattle.digits.specs.Digits.{decimal}
 use Rattle.names.specs.Shards.{shardName}
 use Rattle.sharding.specs.Place.{placeOf}
 use Rattle.sharding.specs.declared.Place.{Place}

@@ -19,7 +19,7 @@ fn put_ending(out: &mut [u8], at: usize, v: u64) -> usize
     ensures { λ r. ⌜ r ≡ at + length (ending v) ⌝ }
     ensures { λ _. ⌜ now (out .exit) ≡ paste at (ending v) (now (out .entry)) ⌝ }
 {
-    let m = names::inner::put_decimal(out, at, v);
+    let m = digits::inner::put_decimal(out, at, v);
     inner::put_byte(out, m, b'\n');
     m + 1
 }
@@ -49,7 +49,7 @@ fn put_keyed(out: &mut [u8], at: usize, spec: Sharding, key: u64, place: Place) 
     ensures { λ r. ⌜ r ≡ at + length (keyed spec key place) ⌝ }
     ensures { λ _. ⌜ now (out .exit) ≡ paste at (keyed spec key place) (now (out .entry)) ⌝ }
 {
-    let m = names::inner::put_decimal(out, at, key);
+    let m = digits::inner::put_decimal(out, at, key);
     inner::put_byte(out, m, b' ');
     put_filed(out, m + 1, spec, place)
 }

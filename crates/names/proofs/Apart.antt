@@ -18,10 +18,11 @@ use Rattle.grid.specs.declared.Cell.{Cell}
 use Rattle.grid.specs.declared.Volume.{Volume}
 use Rattle.bounds.proofs.Laws.{same-begin-same-cell}
 use Rattle.grid.proofs.Ways.{chunk-some}
-use Rattle.names.specs.Digits.{digitByte, digits, digitCount, decimal}
-use Rattle.names.specs.Signs.{negative, signed, signedText, spanOf, spanText, twoText, spansText}
+use Rattle.digits.specs.Digits.{digitByte, digits, digitCount, decimal}
+use Rattle.digits.specs.Signs.{negative, signed, signedText}
+use Rattle.names.specs.Spans.{spanOf, spanText, twoText, spansText}
 use Rattle.names.specs.Chunks.{boundsName, chunkName}
-use Rattle.names.proofs.Numerals.{digit-low, count-some, decimal-length, same-decimal}
+use Rattle.digits.proofs.Numerals.{digit-low, count-some, decimal-length, same-decimal}
 
 -- ---- bytes that are decimal digits
 

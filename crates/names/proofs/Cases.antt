@@ -6,8 +6,9 @@ use lib.IntN.{pos, negsuc}
 use Rattle.bounds.specs.Bounds.{beginOf, endOf, beginPoint, endPoint, boundsOf}
 use Rattle.grid.specs.declared.Volume.{Volume}
 use Rattle.sharding.specs.declared.Sharding.{Sharding}
-use Rattle.names.specs.Digits.{digitByte, digits, countTo, digitCount, decimal}
-use Rattle.names.specs.Signs.{negative, signed, signedText, spanOf, spanText, twoText, spansText}
+use Rattle.digits.specs.Digits.{digitByte, digits, countTo, digitCount, decimal}
+use Rattle.digits.specs.Signs.{negative, signed, signedText}
+use Rattle.names.specs.Spans.{spanOf, spanText, twoText, spansText}
 use Rattle.names.specs.Chunks.{boundsName, chunkName}
 use Rattle.names.specs.Shards.{shardDigits, shardName}
 

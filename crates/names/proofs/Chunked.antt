@@ -22,10 +22,10 @@ use Rattle.grid.specs.declared.Volume.{Volume}
 use Rattle.bounds.specs.declared.BoundsAnswer.{BoundsAnswer}
 use Rattle.bounds.specs.declared.BoundsAnswer.the-variants.{Within, Refused as BoundsRefused}
 use Rattle.bounds.proofs.Answered.{bounds-by-picks}
-use Rattle.names.specs.Signs.{spanOf, spansText}
+use Rattle.names.specs.Spans.{spanOf, spansText}
 use Rattle.names.specs.Chunks.{boundsName, chunkName, chunkNameChecks, chunkNameAnswer, chunkNameLeft}
 use Rattle.names.specs.declared.inner.Span.{Span}
-use Rattle.names.proofs.Texts.{back}
+use Rattle.digits.proofs.Signing.{back}
 
 -- ---- the bounds' spans, each of two i64s read back from their bits
 

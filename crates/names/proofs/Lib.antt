@@ -1,5 +1,3 @@
-pub mod Numerals
-pub mod Absolute
 pub mod Texts
 pub mod Chunked
 pub mod Apart

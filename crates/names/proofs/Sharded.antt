@@ -22,9 +22,9 @@ use Rattle.endian.proofs.Buffer.{too-long, kept-whole, at-front}
 use Rattle.sharding.specs.Specification.{shardBits, allowed, noSuchShard, shardCount}
 use Rattle.sharding.specs.declared.Sharding.{Sharding}
 use Rattle.sharding.proofs.Allowed.{allowed-within}
-use Rattle.names.specs.Digits.{digits, digitCount}
+use Rattle.digits.specs.Digits.{digits, digitCount}
 use Rattle.names.specs.Shards.{shardDigits, suffix, shardName, shardNameChecks, shardNameAnswer, shardNameLeft}
-use Rattle.names.proofs.Numerals.{length-digits, same-digits, padded, count-holds, count-least}
+use Rattle.digits.proofs.Numerals.{length-digits, same-digits, padded, count-holds, count-least}
 use Rattle.names.proofs.Texts.{front-room, front-end}
 
 -- ---- how long

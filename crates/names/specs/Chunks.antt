@@ -11,7 +11,7 @@ use Rattle.bounds.specs.Bounds.{boundsOf}
 use Rattle.bounds.specs.declared.Bounds.{Bounds}
 use Rattle.grid.specs.declared.Cell.{Cell}
 use Rattle.grid.specs.declared.Volume.{Volume}
-use Rattle.names.specs.Signs.{spanOf, spansText}
+use Rattle.names.specs.Spans.{spanOf, spansText}
 
 -- "xBegin-xEnd_yBegin-yEnd_zBegin-zEnd"
 unfoldable pub boundsName : Bounds → List ℕ

@@ -1,4 +1,3 @@
-pub mod Digits
-pub mod Signs
+pub mod Spans
 pub mod Chunks
 pub mod Shards

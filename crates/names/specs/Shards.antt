@@ -9,7 +9,7 @@ use Rattle.refusal.specs.declared.Written.{Written}
 use Rattle.refusal.specs.declared.Written.the-variants.{Length, Refused}
 use Rattle.sharding.specs.Specification.{shardBits, allowed, noSuchShard}
 use Rattle.sharding.specs.declared.Sharding.{Sharding}
-use Rattle.names.specs.Digits.{digits}
+use Rattle.digits.specs.Digits.{digits}
 
 -- "ceil(shard_bits/4) digits and never empty"
 unfoldable pub shardDigits : Sharding → ℕ

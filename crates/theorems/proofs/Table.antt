@@ -17,7 +17,7 @@ use Rattle.grid.specs.declared.CellAnswer.the-variants.{At, Refused as NoCell}
 use Rattle.grid.proofs.Laws.{only-key-0}
 use Rattle.sharding.specs.Specification.{allowed}
 use Rattle.sharding.specs.Place.{hashedId, shardOf, minishardOf, placeChecks, placeAnswer}
-use Rattle.names.specs.Digits.{digitByte, digits}
+use Rattle.digits.specs.Digits.{digitByte, digits}
 use Rattle.names.specs.Shards.{shardDigits, shardName, shardNameChecks, shardNameAnswer, shardNameLeft}
 use Rattle.twice.specs.Twice.{repeats}
 use Rattle.shard.specs.Index.{idAt, startAt}

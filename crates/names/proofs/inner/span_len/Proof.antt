@@ -1,4 +1,4 @@
-use Rattle.names.specs.Signs.{spanText}
+use Rattle.names.specs.Spans.{spanText}
 use Rattle.names.proofs.Texts.{joining}
 use Rattle.names.proofs.inner.span_len.Statement.{statement}
 use Rattle.names.proofs.inner.span_len.Tie as tie

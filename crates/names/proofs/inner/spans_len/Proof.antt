@@ -1,4 +1,4 @@
-use Rattle.names.specs.Signs.{spansText}
+use Rattle.names.specs.Spans.{spansText}
 use Rattle.names.proofs.Texts.{joining}
 use Rattle.names.proofs.inner.spans_len.Statement.{statement}
 use Rattle.names.proofs.inner.spans_len.Tie as tie

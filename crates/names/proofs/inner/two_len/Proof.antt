@@ -1,4 +1,4 @@
-use Rattle.names.specs.Signs.{twoText}
+use Rattle.names.specs.Spans.{twoText}
 use Rattle.names.proofs.Texts.{joining}
 use Rattle.names.proofs.inner.two_len.Statement.{statement}
 use Rattle.names.proofs.inner.two_len.Tie as tie

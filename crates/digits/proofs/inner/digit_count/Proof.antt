@@ -1,9 +1,9 @@
 use Prim.Native.Nat.{_+_}
 use mathlib.Core.Path.{_≡_}
-use Rattle.names.specs.Digits.{digitCount}
-use Rattle.names.proofs.Numerals.{counts}
-use Rattle.names.proofs.inner.digit_count.Statement.{statement}
-use Rattle.names.proofs.inner.digit_count.Tie as tie
+use Rattle.digits.specs.Digits.{digitCount}
+use Rattle.digits.proofs.Numerals.{counts}
+use Rattle.digits.proofs.inner.digit_count.Statement.{statement}
+use Rattle.digits.proofs.inner.digit_count.Tie as tie
 
 abbrev Inv-loop : tie.InvT-loop
 Inv-loop v base n₀ w₀ n w = n + digitCount base w ≡ digitCount base v + 1

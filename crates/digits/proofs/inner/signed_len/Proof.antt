@@ -1,6 +1,6 @@
-use Rattle.names.proofs.Texts.{signing}
-use Rattle.names.proofs.inner.signed_len.Statement.{statement}
-use Rattle.names.proofs.inner.signed_len.Tie as tie
+use Rattle.digits.proofs.Signing.{signing}
+use Rattle.digits.proofs.inner.signed_len.Statement.{statement}
+use Rattle.digits.proofs.inner.signed_len.Tie as tie
 
 pub signed-len-spec : {M : Type 1} → statement M
 signed-len-spec = tie.close (tie.spec (λ c κs. search signing) (λ c. search signing) (λ c. search signing) (λ c. search signing))

@@ -12,7 +12,7 @@ use mir.Syntax.{w64}
 use mir.Val.{Fits, SFits, toZ, ofZ}
 use mir.Facts.{toZ-ofZ}
 use Rattle.endian.proofs.Signs.{less-fits, less-is, less-pos, less-fit, kept-pos, kept-fit}
-use Rattle.names.specs.Signs.{negative}
+use Rattle.digits.specs.Signs.{negative}
 
 -- -1 - z is the number below z's magnitude
 next : (z : ℤ) → ltZ z (pos 0) ≡ true → mag z + 1 ≡ natAbs z

@@ -2,10 +2,10 @@ use Prim.Native.Nat.{_-_, _≤_}
 use mathlib.Core.Path.{_≡_}
 use lib.ListN.{length}
 use Rattle.endian.specs.Place.{paste}
-use Rattle.names.specs.Digits.{digits}
-use Rattle.names.proofs.Numerals.{puts}
-use Rattle.names.proofs.inner.put_digits.Statement.{statement}
-use Rattle.names.proofs.inner.put_digits.Tie as tie
+use Rattle.digits.specs.Digits.{digits}
+use Rattle.digits.proofs.Numerals.{puts}
+use Rattle.digits.proofs.inner.put_digits.Statement.{statement}
+use Rattle.digits.proofs.inner.put_digits.Tie as tie
 
 abbrev Inv-loop : tie.InvT-loop
 Inv-loop out₀ at base count v i₀ w₀ out i w =

@@ -13,7 +13,7 @@ use mir.Syntax.{w64}
 use mir.Val.{Fits}
 use Rattle.endian.specs.Place.{paste}
 use Rattle.endian.proofs.Paste.{paste-nil, paste-next, paste-apart, store}
-use Rattle.names.specs.Digits.{digitByte, digits, countTo, digitCount, decimal, digitValue, valueFrom, value}
+use Rattle.digits.specs.Digits.{digitByte, digits, countTo, digitCount, decimal, digitValue, valueFrom, value}
 
 -- ---- one digit
 

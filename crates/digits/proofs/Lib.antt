@@ -1,0 +1,3 @@
+pub mod Numerals
+pub mod Absolute
+pub mod Signing
