@@ -8,8 +8,8 @@ use lib.Ieee.{Float, nan, inf, fin, binary32, fits, isNan, nanBits, ofBits, ofFi
 use lib.Ieee.Bits.{ofBits-toBits, nanBits-is}
 use lib.Count.{trailingZeros}
 use borrow.Author.Tests.{lt-leb, le-leb, ne-eqb}
-use Rattle.manifest.specs.Bits.{finiteBits}
-use Rattle.manifest.proofs.Patterns.{finiteValue, finite-ofBits}
+use Rattle.layout.specs.Bits.{finiteBits}
+use Rattle.layout.proofs.Patterns.{finiteValue, finite-ofBits}
 use Rattle.corners.specs.Boxes.{finite, powerOf}
 
 -- a value that an f32 holds is finite exactly when its bits say so

@@ -7,7 +7,7 @@ use lib.IntN.{pos}
 use lib.Dec.{ltb}
 use lib.Ieee.{Float, fin, binary32, add, mul, ofInt, toBits}
 use Rattle.refusal.specs.Checks.{Check, check, answered}
-use Rattle.manifest.specs.Bits.{finiteBits}
+use Rattle.layout.specs.Bits.{finiteBits}
 use Rattle.manifest.specs.Fields.{headerAt}
 use Rattle.nodes.specs.Nodes.{nodeAt, nodeChecks}
 use Rattle.manifest.specs.declared.Header.{Header}

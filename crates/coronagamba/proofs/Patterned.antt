@@ -9,8 +9,8 @@ use lib.ListN.{getD}
 use lib.Ieee.{binary32, isNan, toBits}
 use borrow.Author.Tests.{lt-ltb}
 use Rattle.refusal.specs.Choice.{pick}
-use Rattle.manifest.specs.Layout.{itemAt, levelsOf, isReal, fieldCount}
-use Rattle.manifest.specs.Bits.{realAt}
+use Rattle.layout.specs.Layout.{itemAt, levelsOf, isReal, fieldCount}
+use Rattle.layout.specs.Bits.{realAt}
 use Rattle.manifest.specs.Verdict.{verdict}
 use Rattle.manifest.specs.Fields.{headerAt, headerAnswer, fieldAt, fieldAnswer}
 use Rattle.manifest.specs.declared.Header.{Header}

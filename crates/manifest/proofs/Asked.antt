@@ -10,8 +10,8 @@ use lib.Ieee.{Float}
 use borrow.Author.Needs.{needs}
 use borrow.Author.Tests.{lt-ltb, le-ltb}
 use Rattle.refusal.specs.Checks.{check, answered}
-use Rattle.manifest.specs.Layout.{itemAt, levelsOf, isReal, fieldCount}
-use Rattle.manifest.specs.Bits.{realAt}
+use Rattle.layout.specs.Layout.{itemAt, levelsOf, isReal, fieldCount}
+use Rattle.layout.specs.Bits.{realAt}
 use Rattle.manifest.specs.Verdict.{verdict, manifestAnswer}
 use Rattle.manifest.specs.Fields.{headerAt, headerAnswer, fieldAt, fieldChecks, fieldAnswer}
 use Rattle.manifest.specs.declared.ManifestAnswer.the-variants as M

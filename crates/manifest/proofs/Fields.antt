@@ -11,8 +11,8 @@ use borrow.Author.Tests.{lt-ltb}
 use Rattle.refusal.specs.Choice.{pick}
 use Rattle.endian.specs.Little.{le}
 use Rattle.endian.proofs.Little.{leAt-bound, le-leAt}
-use Rattle.manifest.specs.Layout.{itemAt, levelsOf, isReal, fieldCount}
-use Rattle.manifest.specs.Bits.{realAt}
+use Rattle.layout.specs.Layout.{itemAt, levelsOf, isReal, fieldCount}
+use Rattle.layout.specs.Bits.{realAt}
 use Rattle.manifest.specs.Verdict.{manifestChecks, verdict}
 use Rattle.manifest.specs.Fields.{headerAt, headerAnswer, fieldAt, fieldChecks, fieldAnswer}
 use Rattle.manifest.specs.declared.Header.{Header}
@@ -20,7 +20,7 @@ use Rattle.manifest.specs.declared.HeaderAnswer.{HeaderAnswer}
 use Rattle.manifest.specs.declared.HeaderAnswer.the-variants as H
 use Rattle.manifest.specs.declared.Field.{Field}
 use Rattle.manifest.specs.declared.Field.the-variants as F
-use Rattle.manifest.proofs.Patterns.{bits-back, real-number}
+use Rattle.layout.proofs.Patterns.{bits-back, real-number}
 use Rattle.manifest.proofs.Judged.{unrefused, none-sound}
 use Rattle.manifest.proofs.Sounds.{sound-if, sound-ends}
 use Rattle.manifest.proofs.Asked.{field-given}

@@ -14,8 +14,8 @@ use Rattle.refusal.specs.Choice.{pick}
 use Rattle.refusal.specs.Checks.{firstNumber}
 use Rattle.endian.specs.Range.{every}
 use Rattle.endian.proofs.Ranges.{every-at, every-all, sum-none, sum-step, sum-grows}
-use Rattle.manifest.specs.Layout.{itemAt, levelsOf, isReal, countOf, nodesBefore, levelItem, fieldCount}
-use Rattle.manifest.specs.Bits.{finiteBits, aboveZero}
+use Rattle.layout.specs.Layout.{itemAt, levelsOf, isReal, countOf, nodesBefore, levelItem, fieldCount}
+use Rattle.layout.specs.Bits.{finiteBits, aboveZero}
 use Rattle.manifest.specs.Verdict.{rightLength, realFits, realsFit, inOrder, levelRises, riseAt, nodesRise, manifestChecks, verdict}
 use Rattle.manifest.specs.Soundness.{Sound}
 

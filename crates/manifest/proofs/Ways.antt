@@ -12,8 +12,8 @@ use Rattle.endian.specs.Range.{every}
 use Rattle.endian.proofs.Ranges.{every-fails, every-done}
 use Rattle.refusal.specs.Checks.{firstNumber}
 use Rattle.refusal.proofs.Tests.{told-no, told-yes}
-use Rattle.manifest.specs.Layout.{itemAt, levelsOf, isReal, countOf, nodesBefore, levelItem}
-use Rattle.manifest.specs.Bits.{finiteBits, aboveZero}
+use Rattle.layout.specs.Layout.{itemAt, levelsOf, isReal, countOf, nodesBefore, levelItem}
+use Rattle.layout.specs.Bits.{finiteBits, aboveZero}
 use Rattle.manifest.specs.Verdict.{rightLength, realFits, realsFit, inOrder, levelRises, riseAt, nodesRise, manifestChecks, verdict}
 
 -- ---- 15

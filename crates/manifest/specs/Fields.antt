@@ -5,8 +5,8 @@ use mathlib.Core.List.{List, [], _∷_, _++_}
 use lib.Dec.{ltb}
 use Rattle.refusal.specs.Choice.{pick}
 use Rattle.refusal.specs.Checks.{Check, check, answered}
-use Rattle.manifest.specs.Layout.{itemAt, levelsOf, isReal, fieldCount}
-use Rattle.manifest.specs.Bits.{realAt}
+use Rattle.layout.specs.Layout.{itemAt, levelsOf, isReal, fieldCount}
+use Rattle.layout.specs.Bits.{realAt}
 use Rattle.manifest.specs.Verdict.{manifestChecks}
 use Rattle.manifest.specs.declared.Header.{Header}
 use Rattle.manifest.specs.declared.HeaderAnswer.{HeaderAnswer}

@@ -4,8 +4,8 @@ use mathlib.Core.Path.{_≡_}
 use mathlib.Core.Bool.{true}
 use mathlib.Core.List.{List}
 use lib.ListN.{length}
-use Rattle.manifest.specs.Layout.{itemAt, levelsOf, isReal, countOf, nodesBefore, levelItem}
-use Rattle.manifest.specs.Bits.{finiteBits, aboveZero}
+use Rattle.layout.specs.Layout.{itemAt, levelsOf, isReal, countOf, nodesBefore, levelItem}
+use Rattle.layout.specs.Bits.{finiteBits, aboveZero}
 use Rattle.manifest.specs.Verdict.{mostBytes, mostLevels, inOrder}
 
 pub record Sound (s : List ℕ) : Type 0 where

@@ -6,8 +6,8 @@ use lib.ListN.{length}
 use lib.Dec.{leb, eqb}
 use Rattle.refusal.specs.Checks.{Check, check, firstNumber, answered}
 use Rattle.endian.specs.Range.{every}
-use Rattle.manifest.specs.Layout.{itemAt, levelsOf, isReal, countOf, nodesBefore, levelItem, xAt, yAt, zAt}
-use Rattle.manifest.specs.Bits.{finiteBits, aboveZero}
+use Rattle.layout.specs.Layout.{itemAt, levelsOf, isReal, countOf, nodesBefore, levelItem, xAt, yAt, zAt}
+use Rattle.layout.specs.Bits.{finiteBits, aboveZero}
 use Rattle.zorder.specs.Order.{zBefore}
 use Rattle.manifest.specs.declared.ManifestAnswer.{ManifestAnswer}
 use Rattle.manifest.specs.declared.ManifestAnswer.the-variants.{Sound, Refused}

@@ -1,13 +1,14 @@
 // The tests 15, 16 and 17.
-use crate::inner::count;
-use crate::inner::item;
-use crate::inner::nodes_before;
-use crate::reals;
+use layout::inner::above_zero;
+use layout::inner::count;
+use layout::inner::finite_bits;
+use layout::inner::item;
+use layout::inner::nodes_before;
 ghost use mathlib.Core.Path.{_≡_};
 ghost use Prim.Native.Nat.{_+_, _*_, _≤_, _<_};
 ghost use lib.ListN.{length};
 ghost use Rattle.endian.specs.Range.{every};
-ghost use Rattle.manifest.specs.Layout.{levelsOf, isReal, fieldCount};
+ghost use Rattle.layout.specs.Layout.{levelsOf, isReal, fieldCount};
 ghost use Rattle.manifest.specs.Verdict.{rightLength, realFits, realsFit, inOrder, levelRises, nodesRise};
 
 // Refusal 15 does not hold.
@@ -49,7 +50,7 @@ fn real_fits(s: &[u8], levels: usize, i: usize) -> bool
     ensures { λ r. ⌜ r ≡ realFits (now (s .entry)) i ⌝ }
 {
     if is_real(levels, i) {
-        return reals::finite_bits(item(s, i));
+        return finite_bits(item(s, i));
     }
     true
 }
@@ -76,13 +77,13 @@ pub fn reals_fit(s: &[u8], levels: usize) -> bool
     if !each_real_fits(s, levels) {
         return false;
     }
-    if !reals::above_zero(item(s, 0)) {
+    if !above_zero(item(s, 0)) {
         return false;
     }
-    if !reals::above_zero(item(s, 1)) {
+    if !above_zero(item(s, 1)) {
         return false;
     }
-    reals::above_zero(item(s, 2))
+    above_zero(item(s, 2))
 }
 
 // Of a level with n nodes whose items begin at first: whether node i stands before the next.

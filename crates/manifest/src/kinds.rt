@@ -1,14 +1,14 @@
 // A field by its kind.
 use crate::Field;
-use crate::inner::item;
 use crate::judge::is_real;
-use crate::reals;
+use layout::inner::item;
+use layout::inner::real_of;
 ghost use mathlib.Core.Path.{_≡_};
 ghost use Prim.Native.Nat.{_+_, _*_, _≤_, _<_};
 ghost use lib.Dec.{T};
 ghost use lib.ListN.{length};
-ghost use Rattle.manifest.specs.Layout.{itemAt, fieldCount};
-ghost use Rattle.manifest.specs.Bits.{finiteBits, realAt};
+ghost use Rattle.layout.specs.Layout.{itemAt, fieldCount};
+ghost use Rattle.layout.specs.Bits.{finiteBits, realAt};
 ghost use Rattle.manifest.specs.Verdict.{verdict};
 ghost use Rattle.manifest.specs.Fields.{fieldAt};
 
@@ -16,7 +16,7 @@ pub fn real(s: &[u8], i: usize) -> f32
     requires { ⌜ (4 * i + 4 ≤ length (now s)) × T (finiteBits (itemAt (now s) i)) ⌝ }
     ensures { λ r. ⌜ r ≡ realAt (now (s .entry)) i ⌝ }
 {
-    reals::real_of(item(s, i))
+    real_of(item(s, i))
 }
 
 // The item of that number, by its kind.

@@ -2,7 +2,6 @@
 pub mod inner;
 mod judge;
 mod kinds;
-mod reals;
 
 ghost use mathlib.Core.Path.{_≡_};
 ghost use Rattle.manifest.specs.Verdict.{manifestAnswer};

@@ -14,7 +14,7 @@ use Rattle.refusal.proofs.Tests.{told-no, told-yes}
 use Rattle.endian.specs.Place.{paste}
 use Rattle.endian.specs.Range.{sumTo}
 use Rattle.endian.proofs.Paste.{paste-front}
-use Rattle.manifest.specs.Layout.{levelsOf, countOf, nodesBefore, sizeAt}
+use Rattle.layout.specs.Layout.{levelsOf, countOf, nodesBefore, sizeAt}
 use Rattle.manifest.specs.Verdict.{verdict}
 use Rattle.manifest.proofs.Judged.{fails, passes, passed, refused-first, given-first, told-sound}
 use Rattle.manifest.proofs.Sounds.{sound-if}

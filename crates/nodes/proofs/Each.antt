@@ -10,7 +10,7 @@ use Rattle.refusal.specs.Checks.{firstNumber, unless}
 use Rattle.refusal.specs.declared.Written.the-variants as W
 use Rattle.endian.specs.Place.{Holds}
 use Rattle.endian.proofs.Holds.{holds-all, holds-move}
-use Rattle.manifest.specs.Layout.{countOf}
+use Rattle.layout.specs.Layout.{countOf}
 use Rattle.manifest.specs.Verdict.{verdict}
 use Rattle.manifest.proofs.Judged.{unrefused, none-sound, none-head}
 use Rattle.nodes.specs.Nodes.{hasLevel, hasNode, nodeAt, nodeAnswer, numbersOf, numbersFrom, nodesOf, nodesChecks, nodesAnswer, nodesLeft}

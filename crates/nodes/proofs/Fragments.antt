@@ -5,7 +5,7 @@ use mathlib.Core.List.{List}
 use native.Mathlib.Omega.{arith}
 use Rattle.refusal.specs.Checks.{firstNumber, unless}
 use Rattle.endian.proofs.Ranges.{sum-none, sum-step}
-use Rattle.manifest.specs.Layout.{countOf, levelItem, sizeAt}
+use Rattle.layout.specs.Layout.{countOf, levelItem, sizeAt}
 use Rattle.nodes.specs.Nodes.{levelBytes, fragmentSize, fragmentStart, nodeIn, nodeAt, nodeChecks, nodeAnswer}
 use Rattle.nodes.specs.declared.Node.{Node}
 use Rattle.nodes.specs.declared.NodeAnswer.the-variants as N

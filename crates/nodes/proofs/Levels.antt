@@ -8,7 +8,7 @@ use lib.Dec.{T, ltb, ltb→lt}
 use lib.Ieee.Fits.{and-l, and-r}
 use lib.ListN.{length}
 use Rattle.endian.specs.Range.{sumTo}
-use Rattle.manifest.specs.Layout.{levelsOf, countOf, nodesBefore, levelItem, sizeAt}
+use Rattle.layout.specs.Layout.{levelsOf, countOf, nodesBefore, levelItem, sizeAt}
 use Rattle.manifest.specs.Verdict.{verdict}
 use Rattle.manifest.proofs.Sounds.{sound-ends, read-fits, sound as sound-manifest}
 use Rattle.nodes.specs.Nodes.{hasNode, levelBytes}

@@ -9,7 +9,7 @@ use Rattle.endian.specs.Place.{paste}
 use Rattle.endian.specs.Range.{sumTo}
 use Rattle.endian.proofs.Paste.{paste-nil, paste-cons, paste-on, store, length-paste}
 use Rattle.endian.proofs.Ranges.{sum-none, sum-step}
-use Rattle.manifest.specs.Layout.{levelsOf, countOf, nodesBefore, sizeAt}
+use Rattle.layout.specs.Layout.{levelsOf, countOf, nodesBefore, sizeAt}
 use Rattle.nodes.specs.Nodes.{levelBytes, fragmentStart, nodeIn, nodeFrom, nodeAt, numbersOf, numbersFrom, nodesOf}
 use Rattle.nodes.specs.declared.Node.{Node}
 

@@ -9,7 +9,7 @@ use Rattle.refusal.specs.Buffer.{room, over}
 use Rattle.refusal.specs.declared.Written.{Written}
 use Rattle.refusal.specs.declared.Written.the-variants as W
 use Rattle.endian.specs.Range.{sumTo}
-use Rattle.manifest.specs.Layout.{levelsOf, countOf, levelItem, xAt, yAt, zAt, sizeAt}
+use Rattle.layout.specs.Layout.{levelsOf, countOf, levelItem, xAt, yAt, zAt, sizeAt}
 use Rattle.manifest.specs.Verdict.{manifestChecks}
 use Rattle.nodes.specs.declared.Node.{Node}
 use Rattle.nodes.specs.declared.NodeAnswer.{NodeAnswer}

@@ -2,9 +2,9 @@
 use crate::Node;
 use crate::sums::bytes_before;
 use crate::sums::sizes;
-use manifest::inner::count;
-use manifest::inner::item;
-use manifest::inner::nodes_before;
+use layout::inner::count;
+use layout::inner::item;
+use layout::inner::nodes_before;
 ghost use mathlib.Core.Path.{_≡_};
 ghost use mathlib.Core.Bool.{true};
 ghost use Prim.Native.Nat.{_+_, _*_, _≤_, _<_};

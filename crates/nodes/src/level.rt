@@ -2,12 +2,12 @@
 use crate::Node;
 use crate::inner::node_in;
 use crate::sums::bytes_before;
-use manifest::inner::nodes_before;
+use layout::inner::nodes_before;
 ghost use mathlib.Core.Path.{_≡_};
 ghost use Prim.Native.Nat.{_+_, _*_, _≤_, _<_};
 ghost use lib.ListN.{length};
 ghost use Rattle.endian.specs.Place.{paste};
-ghost use Rattle.manifest.specs.Layout.{levelsOf, countOf, fieldCount};
+ghost use Rattle.layout.specs.Layout.{levelsOf, countOf, fieldCount};
 ghost use Rattle.nodes.specs.Nodes.{nodeFrom, numbersOf, numbersFrom, nodesOf};
 
 // The five numbers of a node.

@@ -45,11 +45,11 @@ pub fn nodes_of(bytes: &[u8], level: u32, out: &mut [u64]) -> Written
         return Written::Refused(verdict);
     }
     let l = level as usize;
-    let levels = manifest::inner::item(bytes, 6) as usize;
+    let levels = layout::inner::item(bytes, 6) as usize;
     if l >= levels {
         return Written::Refused(18);
     }
-    let n = manifest::inner::count(bytes, levels, l);
+    let n = layout::inner::count(bytes, levels, l);
     if out.len() < 5 * n {
         return Written::Refused(13);
     }

@@ -1,11 +1,11 @@
 // Sums of fragment sizes.
-use manifest::inner::count;
-use manifest::inner::item;
+use layout::inner::count;
+use layout::inner::item;
 ghost use mathlib.Core.Path.{_≡_};
 ghost use Prim.Native.Nat.{_+_, _*_, _≤_};
 ghost use lib.ListN.{length};
 ghost use Rattle.endian.specs.Range.{sumTo};
-ghost use Rattle.manifest.specs.Layout.{levelsOf, fieldCount, sizeAt};
+ghost use Rattle.layout.specs.Layout.{levelsOf, fieldCount, sizeAt};
 ghost use Rattle.nodes.specs.Nodes.{levelBytes};
 
 // The sizes of the first `to` fragments of a level, together.

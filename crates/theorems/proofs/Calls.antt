@@ -28,8 +28,8 @@ use Rattle.card.specs.Answers.{recordChecks, readChecks, readAnswer, writeCheck
 use Rattle.manifest.specs.declared.ManifestAnswer.the-variants as M
 use Rattle.manifest.specs.declared.HeaderAnswer.the-variants as H
 use Rattle.manifest.specs.declared.Field.the-variants as F
-use Rattle.manifest.specs.Layout.{levelsOf, isReal, itemAt}
-use Rattle.manifest.specs.Bits.{realAt}
+use Rattle.layout.specs.Layout.{levelsOf, isReal, itemAt}
+use Rattle.layout.specs.Bits.{realAt}
 use Rattle.manifest.specs.Verdict.{manifestChecks, manifestAnswer}
 use Rattle.manifest.specs.Fields.{headerAnswer, fieldAt, fieldChecks, fieldAnswer}
 use Rattle.nodes.specs.declared.NodeAnswer.the-variants as O

@@ -31,8 +31,8 @@ use Rattle.form.specs.Form.{chunksOf, chunksLength, idRow, startRow, sizeRow, i
 use Rattle.form.specs.Content.{itemsFrom, itemsAt, byId, contentFrom, contentOf, formOf, formLength}
 use Rattle.settle.specs.Answers.{tooLong, settleCheck, settleChecks, settleAnswer, settleLeft}
 use Rattle.zorder.specs.Order.{zDigit, zFrom}
-use Rattle.manifest.specs.Layout.{itemAt as wordAt, isReal, countOf, sizeAt}
-use Rattle.manifest.specs.Bits.{finiteBits, aboveZero, realAt}
+use Rattle.layout.specs.Layout.{itemAt as wordAt, isReal, countOf, sizeAt}
+use Rattle.layout.specs.Bits.{finiteBits, aboveZero, realAt}
 use Rattle.manifest.specs.Verdict.{rightLength, realFits, realsFit, inOrder, levelRises, riseAt, nodesRise, manifestChecks}
 use Rattle.manifest.specs.Fields.{headerAt}
 use Rattle.nodes.specs.Nodes.{hasNode, levelBytes, fragmentStart, nodeIn, nodeAt, nodeChecks}

@@ -48,7 +48,7 @@ use Rattle.document.specs.Meaning.{InfoMeaning}
 use Rattle.manifest.specs.declared.ManifestAnswer.the-variants as M
 use Rattle.manifest.specs.declared.HeaderAnswer.the-variants as H
 use Rattle.manifest.specs.declared.Field.the-variants as F
-use Rattle.manifest.specs.Layout.{countOf}
+use Rattle.layout.specs.Layout.{countOf}
 use Rattle.manifest.specs.Verdict.{manifestChecks, manifestAnswer}
 use Rattle.manifest.specs.Fields.{headerAnswer, fieldChecks, fieldAnswer}
 use Rattle.nodes.specs.declared.NodeAnswer.the-variants as O

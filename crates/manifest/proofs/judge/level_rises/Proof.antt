@@ -4,7 +4,7 @@ use mathlib.Core.Path.{_≡_}
 use mathlib.Core.Bool.{true}
 use Rattle.endian.specs.Range.{every}
 use Rattle.manifest.specs.Verdict.{inOrder}
-use Rattle.manifest.proofs.Loops.{loops}
+use Rattle.layout.proofs.Loops.{loops}
 use Rattle.manifest.proofs.Ways.{ways}
 use Rattle.manifest.proofs.judge.level_rises.Statement.{statement}
 use Rattle.manifest.proofs.judge.level_rises.Tie as tie

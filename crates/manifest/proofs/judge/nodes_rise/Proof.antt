@@ -4,10 +4,10 @@ use mathlib.Core.Path.{_≡_}
 use mathlib.Core.Bool.{true}
 use lib.ListN.{length}
 use Rattle.endian.specs.Range.{every}
-use Rattle.manifest.specs.Layout.{levelItem}
+use Rattle.layout.specs.Layout.{levelItem}
 use Rattle.manifest.specs.Verdict.{riseAt}
 use Rattle.manifest.proofs.Sounds.{level-first, level-next, level-fits}
-use Rattle.manifest.proofs.Loops.{loops}
+use Rattle.layout.proofs.Loops.{loops}
 use Rattle.manifest.proofs.Ways.{rise-at, nodes-fail, nodes-done}
 use Rattle.manifest.proofs.judge.nodes_rise.Statement.{statement}
 use Rattle.manifest.proofs.judge.nodes_rise.Tie as tie

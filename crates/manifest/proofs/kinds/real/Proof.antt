@@ -3,7 +3,7 @@ use borrow.Author.Needs.{needs}
 use mathlib.Core.Path.{sym, subst}
 use Prim.Native.Nat.{ℕ}
 use lib.Dec.{T}
-use Rattle.manifest.specs.Bits.{finiteBits, realAt}
+use Rattle.layout.specs.Bits.{finiteBits, realAt}
 use Rattle.manifest.proofs.kinds.real.Statement.{statement}
 use Rattle.manifest.proofs.kinds.real.Tie as tie
 

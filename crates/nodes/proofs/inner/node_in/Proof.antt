@@ -1,6 +1,6 @@
 -- Each number stands in its row.
 use borrow.Author.Needs.{needs}
-use Rattle.manifest.specs.Layout.{sizeAt}
+use Rattle.layout.specs.Layout.{sizeAt}
 use Rattle.nodes.specs.Nodes.{nodeIn}
 use Rattle.nodes.proofs.inner.node_in.Statement.{statement}
 use Rattle.nodes.proofs.inner.node_in.Tie as tie

@@ -5,7 +5,7 @@ use lib.ListN.{length}
 use borrow.Author.Needs.{needs}
 use Rattle.endian.specs.Place.{paste}
 use Rattle.endian.specs.Range.{sumTo}
-use Rattle.manifest.specs.Layout.{sizeAt}
+use Rattle.layout.specs.Layout.{sizeAt}
 use Rattle.nodes.specs.Nodes.{nodeFrom, numbersFrom}
 use Rattle.nodes.proofs.Listed.{listed}
 use Rattle.nodes.proofs.level.put_nodes.Statement.{statement}

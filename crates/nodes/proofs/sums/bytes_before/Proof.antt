@@ -3,11 +3,11 @@ use Prim.Native.Nat.{_-_, _*_, _≤_}
 use mathlib.Core.Path.{_≡_}
 use lib.ListN.{length}
 use Rattle.endian.specs.Range.{sumTo}
-use Rattle.manifest.specs.Layout.{levelItem}
+use Rattle.layout.specs.Layout.{levelItem}
 use Rattle.nodes.specs.Nodes.{levelBytes}
 use Rattle.manifest.proofs.Sounds.{level-first, level-next, level-within}
 use Rattle.nodes.proofs.Levels.{level-bytes}
-use Rattle.manifest.proofs.Loops.{loops}
+use Rattle.layout.proofs.Loops.{loops}
 use Rattle.nodes.proofs.sums.bytes_before.Statement.{statement}
 use Rattle.nodes.proofs.sums.bytes_before.Tie as tie
 

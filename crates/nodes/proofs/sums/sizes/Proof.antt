@@ -2,8 +2,8 @@
 use Prim.Native.Nat.{_-_, _*_, _≤_}
 use mathlib.Core.Path.{_≡_}
 use Rattle.endian.specs.Range.{sumTo}
-use Rattle.manifest.specs.Layout.{sizeAt}
-use Rattle.manifest.proofs.Loops.{loops}
+use Rattle.layout.specs.Layout.{sizeAt}
+use Rattle.layout.proofs.Loops.{loops}
 use Rattle.nodes.proofs.sums.sizes.Statement.{statement}
 use Rattle.nodes.proofs.sums.sizes.Tie as tie
 

@@ -1,8 +1,8 @@
 -- The counts follow the scales and the vertex offsets.
 use borrow.Author.Needs.{needs}
-use Rattle.manifest.specs.Layout.{countOf}
-use Rattle.manifest.proofs.inner.count.Statement.{statement}
-use Rattle.manifest.proofs.inner.count.Tie as tie
+use Rattle.layout.specs.Layout.{countOf}
+use Rattle.layout.proofs.inner.count.Statement.{statement}
+use Rattle.layout.proofs.inner.count.Tie as tie
 
 returns : tie.Need-returns
 unfolding countOf

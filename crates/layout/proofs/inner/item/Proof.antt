@@ -1,8 +1,8 @@
 -- An item is a u32 at four times its number.
 use borrow.Author.Needs.{needs}
-use Rattle.manifest.specs.Layout.{itemAt}
-use Rattle.manifest.proofs.inner.item.Statement.{statement}
-use Rattle.manifest.proofs.inner.item.Tie as tie
+use Rattle.layout.specs.Layout.{itemAt}
+use Rattle.layout.proofs.inner.item.Statement.{statement}
+use Rattle.layout.proofs.inner.item.Tie as tie
 
 returns : tie.Need-returns
 unfolding itemAt

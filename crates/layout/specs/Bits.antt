@@ -4,7 +4,7 @@ use mathlib.Core.Bool.{Bool, not, _&&_}
 use mathlib.Core.List.{List}
 use lib.Dec.{ltb, eqb}
 use lib.Ieee.{Float, binary32, ofBits}
-use Rattle.manifest.specs.Layout.{itemAt}
+use Rattle.layout.specs.Layout.{itemAt}
 
 -- the pattern of a finite real: its exponent field is not all ones
 unfoldable pub finiteBits : ℕ → Bool

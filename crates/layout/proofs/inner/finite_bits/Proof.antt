@@ -1,8 +1,8 @@
 -- The exponent field, read off the pattern.
 use borrow.Author.Needs.{needs}
-use Rattle.manifest.specs.Bits.{finiteBits}
-use Rattle.manifest.proofs.reals.finite_bits.Statement.{statement}
-use Rattle.manifest.proofs.reals.finite_bits.Tie as tie
+use Rattle.layout.specs.Bits.{finiteBits}
+use Rattle.layout.proofs.inner.finite_bits.Statement.{statement}
+use Rattle.layout.proofs.inner.finite_bits.Tie as tie
 
 returns : tie.Need-returns
 unfolding finiteBits

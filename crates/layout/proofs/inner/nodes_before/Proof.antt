@@ -2,10 +2,10 @@
 use Prim.Native.Nat.{_-_, _*_, _≤_}
 use mathlib.Core.Path.{_≡_}
 use Rattle.endian.specs.Range.{sumTo}
-use Rattle.manifest.specs.Layout.{countOf}
-use Rattle.manifest.proofs.Loops.{loops}
-use Rattle.manifest.proofs.inner.nodes_before.Statement.{statement}
-use Rattle.manifest.proofs.inner.nodes_before.Tie as tie
+use Rattle.layout.specs.Layout.{countOf}
+use Rattle.layout.proofs.Loops.{loops}
+use Rattle.layout.proofs.inner.nodes_before.Statement.{statement}
+use Rattle.layout.proofs.inner.nodes_before.Tie as tie
 
 abbrev Inv-loop : tie.InvT-loop
 Inv-loop s levels level total₀ l₀ total l = (l ≤ level) × (total ≡ sumTo (countOf s) l) × (total ≤ 4294967296 * l)

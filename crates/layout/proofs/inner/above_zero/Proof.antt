@@ -1,8 +1,8 @@
 -- No sign and not 0, read off the pattern.
 use borrow.Author.Tests.{lt-ltb, le-ltb}
-use Rattle.manifest.specs.Bits.{aboveZero}
-use Rattle.manifest.proofs.reals.above_zero.Statement.{statement}
-use Rattle.manifest.proofs.reals.above_zero.Tie as tie
+use Rattle.layout.specs.Bits.{aboveZero}
+use Rattle.layout.proofs.inner.above_zero.Statement.{statement}
+use Rattle.layout.proofs.inner.above_zero.Tie as tie
 
 returns : tie.Need-returns
 unfolding aboveZero

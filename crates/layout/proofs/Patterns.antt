@@ -6,7 +6,7 @@ use lib.Dec.{T, leb, eqb}
 use lib.Pow.{field}
 use lib.Ieee.{Float, nan, inf, fin, binary32, isNan, nanBits, ofBits, ofFields, odd, toBits}
 use lib.Ieee.Bits.{toBits-ofBits, nanBits-is}
-use Rattle.manifest.specs.Bits.{finiteBits}
+use Rattle.layout.specs.Bits.{finiteBits}
 
 -- ---- finite by its bits, and as a value
 

@@ -13,7 +13,7 @@ use lib.Ieee.Fits.{up-pos}
 use lib.Ieee.Exact.{odd-sign}
 use lib.Ieee.Positive.{positive, positive-of-value}
 use borrow.Author.Tests.{lt-ltb, le-ltb, leb-true, leb-false, ne-eqb}
-use Rattle.manifest.specs.Bits.{finiteBits, aboveZero}
+use Rattle.layout.specs.Bits.{finiteBits, aboveZero}
 
 -- ---- above zero by its bits, and as a value
 

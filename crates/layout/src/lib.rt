@@ -1,0 +1,2 @@
+// Where the items of a manifest stand, and which patterns are reals.
+pub mod inner;
