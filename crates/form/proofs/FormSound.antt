@@ -8,15 +8,16 @@ use lib.ListN.{length, getD}
 use Rattle.endian.specs.Little.{row}
 use Rattle.sharding.specs.declared.Sharding.{Sharding}
 use Rattle.sharding.specs.Specification.{minishardCount}
+use Rattle.shard.specs.Index.{entryStart, startSteps, sizes, startAt}
 use Rattle.shard.specs.File.{mostShardBytes, indexPart, dataPart}
 use Rattle.shard.specs.Sound.{SoundMinishard, SoundShard}
-use Rattle.shard.specs.Items.{Item}
+use Rattle.shard.specs.Items.{Item, Led}
 use Rattle.form.specs.Form.{partLength, partsFrom, entriesFrom, settledLength}
 use Rattle.form.specs.Sorted.{Member}
 use Rattle.form.specs.Content.{idOf, formOf, formLength, fileContent, fileForm, fileFormLength}
 use Rattle.form.proofs.Sorting.{member-at, rising-later}
 use Rattle.form.proofs.Measures.{length-content, length-form, length-parts}
-use Rattle.form.proofs.Rows.{noItem, offset-size}
+use Rattle.form.proofs.Rows.{noItem, lead-offset, offset-size}
 use Rattle.form.proofs.ReadBack.{Readable, index-back, data-back, placeFrom, place-bound, entry-span, finish-most, reads-part, content-back}
 use Rattle.form.proofs.SoundContent.{Listed, listed-content, readable-content}
 
@@ -50,6 +51,15 @@ sound-part {c = c} good m l g =
           let t = r .the-items i h in
           rw (r .the-count) (omega (arith, t .the-start, t .the-size, offset-size xs i h));
     }
+
+-- and each lead lies within the form
+pub part-led : {spec : Sharding} {c : List (List Item)} (good : Readable spec c) (m : ℕ) → m < length c → (i : ℕ) → i < length (getD c m [])
+    → Led spec (partsFrom 0 c) (startAt (startSteps (partsFrom 0 c) (entryStart (row (entriesFrom 0 c)) m) (length (getD c m []))) (sizes (partsFrom 0 c) (entryStart (row (entriesFrom 0 c)) m) (length (getD c m []))) i) (sizes (partsFrom 0 c) (entryStart (row (entriesFrom 0 c)) m) (length (getD c m [])) i)
+part-led {spec} {c} good m l i h =
+    let xs = getD c m [] in
+    let t = reads-part good m l .the-items i h in
+    let e = good .each m l .led (getD xs i noItem) (member-at noItem xs i h) in
+    record { before = rw (t .the-body) (omega (arith, t .the-start, e, lead-offset xs i h)) }
 
 module _ {spec : Sharding} {shard : ℕ} {a : List ℕ} (sound : SoundShard spec shard a) (short : fileFormLength spec a ≤ mostShardBytes) where
   count : length (fileContent spec a) ≡ minishardCount spec

@@ -13,7 +13,7 @@ use Rattle.sharding.specs.declared.Sharding.{Sharding}
 use Rattle.sharding.specs.Specification.{minishardCount}
 use Rattle.shard.specs.Index.{entryStart, entryEnd, entryCount, chunkAt}
 use Rattle.shard.specs.File.{mostShardBytes, indexLength, indexPart, dataPart}
-use Rattle.shard.specs.Items.{Item, itemAt, leadLength}
+use Rattle.shard.specs.Items.{Item, leadLength, itemOf, itemAt}
 use Rattle.form.specs.Form.{chunksLength, partOf, partLength, partsFrom, partsLength, entryBegin, entryFinish, entriesFrom, settled, settledLength}
 use Rattle.form.specs.Sorted.{Rising}
 use Rattle.form.specs.Content.{itemsFrom, itemsAt, itemsOf, idOf, byId, contentFrom, contentOf, fileContent}
@@ -166,7 +166,7 @@ item-eq : {x y : Item} → x .id ≡ y .id → x .lead ≡ y .lead → x .body �
 item-eq p q r = λ i. record { id = p i; lead = q i; body = r i }
 
 items-back : (spec : Sharding) (index d : List ℕ) (c : List (List Item)) (m : ℕ) → InForm spec (getD c m []) → ReadsPart index d c m → itemsOf spec index d m ≡ getD c m []
-unfolding itemsAt itemAt
+unfolding itemsAt itemAt itemOf
 items-back spec index d c m p r =
     let s = entryStart index m in
     let xs = getD c m [] in

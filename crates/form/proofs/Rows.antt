@@ -112,6 +112,13 @@ holds-lead (x ∷ xs) zero h l = holds-move (holds-left (x .body ++ chunksOf xs)
 holds-lead (x ∷ xs) (suc i) h l =
     holds-move (holds-lead xs i (holds-right (x .body) (holds-right (x .lead) h)) (omega arith)) (omega arith)
 
+-- its lead lies before it in the minishard
+pub lead-offset : (xs : List Item) (i : ℕ) → i < length xs → length (getD xs i noItem .lead) ≤ offset xs i
+unfolding offset
+lead-offset [] i l = absurd (not-suc-le-zero l)
+lead-offset (x ∷ xs) zero l = omega arith
+lead-offset (x ∷ xs) (suc i) l = let g = lead-offset xs i (omega arith) in omega arith
+
 pub offset-size : (xs : List Item) (i : ℕ) → i < length xs → offset xs i + length (getD xs i noItem .body) ≤ chunksLength xs
 unfolding offset chunksLength
 offset-size [] i l = absurd (not-suc-le-zero l)

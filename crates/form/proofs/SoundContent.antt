@@ -1,6 +1,6 @@
 -- What a sound minishard gives of its items, in whatever order they stand, and so of the content of a sound shard.
 use Prim.Native.Nat.{ℕ, zero, suc, _+_, _^_, _≤_, _<_}
-use mathlib.Core.Path.{_≡_, refl, ap, _∙_}
+use mathlib.Core.Path.{_≡_, ap, _∙_}
 use mathlib.Core.List.{List, []}
 use native.Mathlib.Omega.{arith}
 use native.Mathlib.Nat.{not-suc-le-zero}
@@ -8,10 +8,12 @@ use lib.ListN.{length, getD}
 use Rattle.sharding.specs.declared.Sharding.{Sharding}
 use Rattle.sharding.specs.Specification.{minishardCount}
 use Rattle.sharding.specs.Place.{shardOf, minishardOf}
-use Rattle.shard.specs.Index.{entryCount, idSteps}
+use Rattle.shard.specs.Index.{entryCount, idSteps, idAt}
 use Rattle.shard.specs.File.{mostShardBytes, indexPart, dataPart}
 use Rattle.shard.specs.Sound.{SoundFrom, SoundShard}
-use Rattle.shard.specs.Items.{Item, itemAt, leadLength}
+use Rattle.shard.specs.Items.{Item, leadLength, itemOf, itemAt}
+use Rattle.shard.proofs.Leads.{sound-led}
+use Rattle.shard.proofs.Items.{item-lead}
 use Rattle.form.specs.Sorted.{Member, Distinct}
 use Rattle.form.specs.Content.{itemsAt, itemsOf, idOf, byId, contentFrom, contentOf, formLength, fileContent, fileFormLength}
 use Rattle.form.proofs.Sorting.{sort-mem, rising-sort, distinct-sort}
@@ -30,14 +32,14 @@ pub record Listed (spec : Sharding) (shard m : ℕ) (xs : List Item) : Type 0 wh
   pub led : (x : Item) → Member x xs → length (x .lead) ≡ leadLength spec (x .body)
 
 pub sound-listed : {spec : Sharding} {shard m : ℕ} {d : List ℕ} {s e : ℕ} → SoundFrom spec shard m d s e → Listed spec shard m (itemsAt spec d s (entryCount s e))
-unfolding itemAt leadLength
+unfolding itemAt itemOf
 sound-listed {spec} {shard} {m} {d} {s} {e} g =
     record {
       distinct = distinct-items spec d s (entryCount s e) (g .distinct);
       bounded = each-item spec d s (entryCount s e) (λ (x : Item). x .id < 2 ^ 64) (λ i l. id-fits (idSteps d s) i);
       ours = each-item spec d s (entryCount s e) (λ (x : Item). shardOf spec (x .id) ≡ shard) (g .ours);
       here = each-item spec d s (entryCount s e) (λ (x : Item). minishardOf spec (x .id) ≡ m) (g .here);
-      led = each-item spec d s (entryCount s e) (λ (x : Item). length (x .lead) ≡ leadLength spec (x .body)) (λ i l. refl);
+      led = each-item spec d s (entryCount s e) (λ (x : Item). length (x .lead) ≡ leadLength spec (x .body)) (λ i l. item-lead spec d (idAt (idSteps d s) i) _ _ (g .inside i l) (sound-led g i l));
     }
 
 -- what holds of them holds of them sorted

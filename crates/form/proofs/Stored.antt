@@ -7,7 +7,7 @@ use native.Mathlib.Omega.{arith}
 use native.Mathlib.Nat.{not-suc-le-zero, eq-or-lt-of-le}
 use Rattle.sharding.specs.declared.Sharding.{Sharding}
 use Rattle.shard.specs.Index.{idSteps, idAt}
-use Rattle.shard.specs.Items.{Item, itemAt}
+use Rattle.shard.specs.Items.{Item, itemOf, itemAt}
 use Rattle.form.specs.Sorted.{Member, Distinct, Rising}
 use Rattle.form.specs.Content.{itemsFrom, itemsAt, idOf, byId}
 use Rattle.form.proofs.ReadBack.{by-id-rising}
@@ -69,7 +69,7 @@ id-fits steps i = omega arith
 
 distinct-from : (spec : Sharding) (d : List ℕ) (s n : ℕ) → ((i j : ℕ) → i < j → j < n → idAt (idSteps d s) i ≡ idAt (idSteps d s) j → ⊥)
     → (i k : ℕ) → i + k ≤ n → Distinct idOf (itemsFrom spec d s n i k)
-unfolding Distinct itemsFrom itemAt
+unfolding Distinct itemsFrom itemAt itemOf
 distinct-from spec d s n apart i zero l = tt
 distinct-from spec d s n apart i (suc k) l = (later, distinct-from spec d s n apart (suc i) k (omega arith))
   where
@@ -96,7 +96,7 @@ module _ (spec : Sharding) (d : List ℕ) (s n : ℕ) (up : (i : ℕ) → suc i 
       below q = omega arith
 
   rising-from : (i k : ℕ) → i + k ≤ n → Rising idOf (itemsFrom spec d s n i k)
-  unfolding Rising itemsFrom itemAt
+  unfolding Rising itemsFrom itemAt itemOf
   rising-from i zero l = tt
   rising-from i (suc k) l = (later, rising-from (suc i) k (omega arith))
     where

@@ -1,23 +1,18 @@
 -- The settled form as it was before order 2, of shards that passed then. No code uses it. It is kept to say that they settle to the same bytes (02, order 2).
-use Prim.Native.Nat.{ℕ, zero, suc, _-_}
+use Prim.Native.Nat.{ℕ, zero, suc}
 use mathlib.Core.List.{List, [], _∷_}
-use lib.ListN.{take, drop}
 use Rattle.sharding.specs.declared.Sharding.{Sharding}
 use Rattle.sharding.specs.Specification.{minishardCount}
 use Rattle.shard.specs.Index.{entryStart, entryEnd, entryCount, idSteps, startSteps, sizes}
 use Rattle.shard.specs.File.{indexPart, dataPart}
-use Rattle.shard.specs.Items.{Item, leadLength}
+use Rattle.shard.specs.Items.{Item, itemOf}
 use Rattle.shard.specs.Before.{exactId, exactStart}
 use Rattle.form.specs.Form.{settled}
 use Rattle.form.specs.Content.{byId}
 
 -- entry i of the minishard index of n entries at s, by exact sums
 unfoldable pub itemBefore : Sharding → List ℕ → ℕ → ℕ → ℕ → Item
-itemBefore spec d s n i =
-    let start = exactStart (startSteps d s n) (sizes d s n) i in
-    let body = take (sizes d s n i) (drop start d) in
-    let k = leadLength spec body in
-    record { id = exactId (idSteps d s) i; lead = take k (drop (start - k) d); body = body }
+itemBefore spec d s n i = itemOf spec d (exactId (idSteps d s) i) (exactStart (startSteps d s n) (sizes d s n) i) (sizes d s n i)
 
 unfoldable pub itemsBefore : Sharding → List ℕ → ℕ → ℕ → ℕ → ℕ → List Item
 itemsBefore spec d s n i zero = []

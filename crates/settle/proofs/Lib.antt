@@ -1,9 +1,6 @@
 -- Laws of settling, and demand 3.
 pub mod Refused
 pub mod Answered
-pub mod WriteRows
-pub mod WriteChunks
-pub mod WriteSorted
 pub mod WriteWhole
 pub mod WriteAnswers
 pub mod Demand3

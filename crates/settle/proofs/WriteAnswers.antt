@@ -17,12 +17,14 @@ use Rattle.sharding.specs.Specification.{allowed}
 use Rattle.shard.specs.declared.CheckAnswer.{CheckAnswer}
 use Rattle.shard.specs.File.{mostShardBytes, indexLength, indexPart, dataPart, checkAnswer, checkNumber}
 use Rattle.shard.specs.Sound.{SoundFrom, SoundShard}
+use Rattle.shard.proofs.Leads.{sound-led}
 use Rattle.shard.proofs.Split.{restOf, rest-whole, front-count}
 use Rattle.shard.proofs.Numbers.{unless-some, unless-none}
 use Rattle.shard.proofs.Whole.{check-number, check-passes, check-passes-sound}
 use Rattle.form.specs.Content.{formOf, formLength}
+use Rattle.minishard.specs.Writing.{capped}
 use Rattle.settle.specs.Answers.{lengthIn, settleIn, leftIn, lengthAnswer, settleAnswer, settleLeft}
-use Rattle.settle.specs.Writing.{Settleable, SettleableShard, capped}
+use Rattle.settle.specs.Writing.{Settleable, SettleableShard}
 use Rattle.settle.proofs.Answered.{long-out, long-file, not-long, length-in, settle-in, left-in, length-by-check, settle-by-check, left-by-check}
 
 -- ---- 13, by the length up to the first one that is refused
@@ -56,18 +58,21 @@ module _ (spec : Sharding) (index d : List ℕ) {len : ℕ} (e : len ≡ capped 
       pub room-given : formLength spec index d ≤ length out
       room-given = omega arith
 
+      pub most-given : formLength spec index d ≤ mostShardBytes
+      most-given = omega arith
+
       pub form-given : {r : ℕ} → r ≡ formLength spec index d → Length r ≡ settleIn spec index d out
       form-given q = rw q (sym (settle-in spec index d out ∙ rw (not-long n out (omega arith) (omega arith))))
 
       pub form-left : {o : List ℕ} → o ≡ over (formOf spec index d) out → o ≡ leftIn spec index d out
       form-left w = w ∙ sym (left-in spec index d out ∙ rw (not-long n out (omega arith) (omega arith)))
 
-pub ruleset answering = (length-refused, length-given, long-refused, short-refused, long-left, short-left, room-given, form-given, form-left, needs)
+pub ruleset answering = (length-refused, length-given, long-refused, short-refused, long-left, short-left, room-given, most-given, form-given, form-left, needs)
 
 -- ---- after the check
 
-settleable : {spec : Sharding} {shard m : ℕ} {d : List ℕ} {s e : ℕ} → SoundFrom spec shard m d s e → Settleable d s e
-settleable g = record { ordered = g .ordered; within = g .within; whole = g .whole; distinct = g .distinct; inside = g .inside }
+settleable : {spec : Sharding} {shard m : ℕ} {d : List ℕ} {s e : ℕ} → SoundFrom spec shard m d s e → Settleable spec d s e
+settleable g = record { ordered = g .ordered; within = g .within; whole = g .whole; distinct = g .distinct; inside = g .inside; led = sound-led g }
 
 pub sound-settleable : {spec : Sharding} {shard : ℕ} {file : List ℕ} → SoundShard spec shard file → SettleableShard spec (indexPart spec file) (dataPart spec file)
 sound-settleable {spec} {shard} {file} g = record {

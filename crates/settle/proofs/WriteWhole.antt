@@ -1,7 +1,7 @@
 -- A whole shard: a minishard with its entry, and a turn over the minishards, writing them and adding up their lengths.
-use Prim.Native.Nat.{ℕ, zero, suc, _+_, _*_, _-_, _/_, _^_, _≤_, _<_}
+use Prim.Native.Nat.{ℕ, suc, _+_, _*_, _-_, _/_, _^_, _≤_, _<_}
 use mathlib.Core.Path.{_≡_, refl, sym, ap, _∙_}
-use mathlib.Core.Bool.{Bool, true}
+use mathlib.Core.Bool.{true}
 use mathlib.Core.Logic.{_⊎_, ⊎-elim}
 use mathlib.Core.List.{List, [], _∷_, _++_, append-assoc, append-nil}
 use native.Mathlib.Omega.{arith}
@@ -13,23 +13,23 @@ use mir.Val.{Fits}
 use mir.Syntax.{w64}
 use lib.ListN.{length}
 use Rattle.refusal.specs.Buffer.{over}
-use Rattle.endian.specs.Little.{row}
+use Rattle.endian.specs.Little.{le, row}
 use Rattle.endian.specs.Place.{paste}
-use Rattle.endian.proofs.Little.{length-row}
-use Rattle.endian.proofs.Paste.{paste-nil, paste-front, paste-on, paste-apart, paste-reach, length-paste}
+use Rattle.endian.proofs.Little.{length-le, length-row}
+use Rattle.endian.proofs.Paste.{paste-nil, paste-front, paste-on, paste-then, paste-apart}
 use Rattle.sharding.specs.declared.Sharding.{Sharding}
 use Rattle.sharding.specs.Specification.{allowed, minishardCount}
-use Rattle.shard.specs.Index.{entryStart, entryEnd, entryCount, idSteps}
+use Rattle.shard.specs.Index.{entryStart, entryEnd, entryCount}
 use Rattle.shard.specs.File.{mostShardBytes}
-use Rattle.shard.specs.Items.{Item, leadLength, itemAt}
+use Rattle.shard.specs.Items.{Item}
 use Rattle.form.specs.Form.{chunksOf, chunksLength, idRow, startRow, sizeRow, indexOf, partOf, partLength, partsFrom, partsLength, entryBegin, entryFinish, entriesFrom, settled, settledLength}
 use Rattle.form.specs.Sorted.{sortBy}
-use Rattle.form.specs.Content.{itemsFrom, itemsAt, itemsOf, byId, contentFrom, contentOf, formOf, formLength}
-use Rattle.settle.specs.Writing.{volume, Readable, Apart, Stored, Settleable, SettleableIn, SettleableParts, SettleableShard, minishardLength, oneLength, wholeLength, entryBytes, capped}
+use Rattle.form.specs.Content.{itemsAt, itemsOf, byId, contentFrom, contentOf, formOf, formLength}
+use Rattle.settle.specs.Writing.{Settleable, SettleableIn, SettleableParts, SettleableShard, oneLength, wholeLength, entryBytes}
 use Rattle.form.proofs.Measures.{length-part, length-items, chunks-by-id, length-by-id, part-by-id, length-shard-index, length-content-from, length-content}
-use Rattle.form.proofs.Stored.{by-id-stored}
-use Rattle.settle.specs.Reordered.{Climbs}
-use Rattle.settle.proofs.WriteRows.{items-none, items-all}
+use Rattle.minishard.specs.Writing.{Readable, LeadsIn, Apart, minishardLength, capped}
+use Rattle.minishard.proofs.StoredRows.{items-none, items-all}
+use Rattle.minishard.proofs.Copying.{paste-both}
 
 -- ---- one minishard and its entry
 
@@ -41,8 +41,8 @@ sorted-length : (spec : Sharding) (index d : List ℕ) (m : ℕ) → partLength 
 sorted-length spec index d m = part-by-id (itemsOf spec index d m) ∙ stored-length spec d (entryStart index m) (entryCount (entryStart index m) (entryEnd index m))
 
 -- a minishard that is not empty has entries, and all of its minishard index
-readable : (d : List ℕ) (s e : ℕ) → Settleable d s e → (s ≡ e → ⊥) → Readable d s (entryCount s e)
-readable d s e t h =
+readable : (spec : Sharding) (d : List ℕ) (s e : ℕ) → Settleable spec d s e → (s ≡ e → ⊥) → Readable d s (entryCount s e)
+readable spec d s e t h =
     let o = t .ordered in
     let w = t .whole in
     let l : e ≤ length d = ⊎-elim (λ q. absurd (h q)) (λ q. q) (t .within) in
@@ -78,23 +78,25 @@ some-entry spec d s n p l =
     entry-of p (byId (itemsAt spec d s n)) (omega (arith, length-by-id (itemsAt spec d s n), length-items spec d s n))
     ∙ rw (chunks-by-id (itemsAt spec d s n), part-by-id (itemsAt spec d s n), stored-length spec d s n)
 
--- where the ids rise, the settled minishard is as it stands
-pub stored-is : (d : List ℕ) (s n : ℕ) {b : Bool} → Climbs (idSteps d s) n b → b ≡ true → Stored d s n
-stored-is d s n h e = record { up = h .up e }
-
-pub stored-written : (d : List ℕ) (s n p at : ℕ) (o : List ℕ) {o₁ : List ℕ} {b : Bool} → Climbs (idSteps d s) n b → b ≡ true → o₁ ≡ paste at (partOf p (itemsAt volume d s n)) o
-    → o₁ ≡ paste at (partOf p (byId (itemsAt volume d s n))) o
-stored-written d s n p at o h e w = w ∙ rw (by-id-stored volume d s n (h .up e))
+-- two writes make an entry of the shard index
+pub entry-written : (b e at : ℕ) (o : List ℕ) {o₁ o₂ : List ℕ} → at + 16 ≤ length o → o₁ ≡ paste at (le 8 b) o → o₂ ≡ paste (at + 8) (le 8 e) o₁
+    → o₂ ≡ paste at (row (b ∷ e ∷ [])) o
+unfolding row
+entry-written b e at o l u v =
+    paste-then at (at + 8) (le 8 b) (le 8 e) o u v (omega (arith, length-le 8 b)) (omega (arith, length-le 8 b)) ∙ simp append-nil
 
 -- of a minishard whose entry was read: s and e are what was read
 module _ (spec : Sharding) (index d : List ℕ) (m : ℕ) {s e : ℕ} (es : s ≡ entryStart index m) (ee : e ≡ entryEnd index m) where
-  pub ordered-read : SettleableIn index d m → s ≤ e
+  pub ordered-read : SettleableIn spec index d m → s ≤ e
   ordered-read t = rw (es, ee) (t .ordered)
 
-  pub readable-read : SettleableIn index d m → (s ≡ e → ⊥) → Readable d s ((e - s) / 24)
-  readable-read t h = readable d s e (rw (es, ee) t) h
+  pub readable-read : SettleableIn spec index d m → (s ≡ e → ⊥) → Readable d s ((e - s) / 24)
+  readable-read t h = readable spec d s e (rw (es, ee) t) h
 
-  pub apart-read : SettleableIn index d m → Apart d s ((e - s) / 24)
+  pub leads-read : SettleableIn spec index d m → LeadsIn spec d s ((e - s) / 24)
+  leads-read t = record { led = rw (es, ee) (t .led) }
+
+  pub apart-read : SettleableIn spec index d m → Apart d s ((e - s) / 24)
   apart-read t = record { ids = rw (es, ee) (t .distinct) }
 
   pub none-length-read : s ≡ e → 0 ≡ oneLength spec index d m
@@ -116,11 +118,14 @@ module _ (spec : Sharding) (index d : List ℕ) (m : ℕ) {s e : ℕ} (es : s �
   pub room-read : (base p : ℕ) (out : List ℕ) → base + p + oneLength spec index d m ≤ length out → base + p + minishardLength spec d s ((e - s) / 24) ≤ length out
   room-read base p out h = rw (es, ee) h
 
+  pub most-read : oneLength spec index d m ≤ mostShardBytes → minishardLength spec d s ((e - s) / 24) ≤ mostShardBytes
+  most-read h = rw (es, ee) h
+
   pub end-read : (base p : ℕ) (out : List ℕ) (len : ℕ) → len ≡ minishardLength spec d s ((e - s) / 24) → base + p + oneLength spec index d m ≤ length out
       → length out < 2 ^ 64 → Fits w64 (p + len)
   end-read base p out len h r f = record { fits = omega (arith, length-read h) }
 
-  pub one-read : (base p : ℕ) (o : List ℕ) {len : ℕ} {o₁ o₂ : List ℕ} → SettleableIn index d m → (s ≡ e → ⊥) → len ≡ minishardLength spec d s ((e - s) / 24)
+  pub one-read : (base p : ℕ) (o : List ℕ) {len : ℕ} {o₁ o₂ : List ℕ} → SettleableIn spec index d m → (s ≡ e → ⊥) → len ≡ minishardLength spec d s ((e - s) / 24)
       → o₁ ≡ paste (base + p) (partOf p (byId (itemsAt spec d s ((e - s) / 24)))) o
       → o₂ ≡ paste (16 * m) (row ((p + len - 24 * ((e - s) / 24)) ∷ (p + len) ∷ [])) o₁
       → o₂ ≡ paste (16 * m) (entryBytes p (byId (itemsOf spec index d m))) (paste (base + p) (partOf p (byId (itemsOf spec index d m))) o)
@@ -130,7 +135,7 @@ module _ (spec : Sharding) (index d : List ℕ) (m : ℕ) {s e : ℕ} (es : s �
       let b : p + len ≡ p + minishardLength spec d s n = omega arith in
       w₂ ∙ rw (a, b, w₁, ← some-entry spec d s n p (readable-read t h .some), es, ee)
 
-pub ruleset reading = (ordered-read, readable-read, apart-read, none-length-read, none-capped-read, none-read, length-read, capped-read, room-read, end-read, one-read, needs)
+pub ruleset reading = (entry-written, ordered-read, readable-read, leads-read, apart-read, none-length-read, none-capped-read, none-read, length-read, capped-read, room-read, most-read, end-read, one-read, needs)
 
 -- ---- the shard
 
@@ -186,16 +191,6 @@ module _ (spec : Sharding) (index d : List ℕ) (n m : ℕ) (l : m < n) where
 length-none : (spec : Sharding) (index d : List ℕ) (n m : ℕ) → n ≤ m → partsLength (from spec index d n m) ≡ 0
 length-none spec index d n m l = length-nil (from spec index d n m) (content-none spec index d m (n - m) (omega arith))
 
--- two writes go on, each where it ended before: the entries and the minishards
-paste-both : (a a′ : ℕ) (E I : List ℕ) (b b′ : ℕ) (P B d : List ℕ) → a + length E ≡ a′ → b + length P ≡ b′ → a′ ≤ b → b′ ≤ length d
-    → paste a′ I (paste b′ B (paste a E (paste b P d))) ≡ paste a (E ++ I) (paste b (P ++ B) d)
-paste-both a a′ E I b b′ P B d ea eb h g =
-    let l = length-paste b P d (omega arith) in
-    let u : paste b′ B (paste a E (paste b P d)) ≡ paste a E (paste b′ B (paste b P d)) = sym (paste-apart a E b′ B (paste b P d) (omega arith) (omega arith)) in
-    let v : paste b′ B (paste b P d) ≡ paste b (P ++ B) d = paste-on b P B d b′ (omega arith) eb in
-    ap (paste a′ I) (u ∙ ap (paste a E) v)
-    ∙ paste-on a E I (paste b (P ++ B) d) a′ (omega (arith, paste-reach b (P ++ B) d (omega arith))) ea
-
 -- nothing is left to write
 paste-done : (at : ℕ) (xs d : List ℕ) {e : List ℕ} → xs ≡ [] → paste at xs d ≡ e → d ≡ e
 paste-done at xs d n h = sym (paste-nil at d) ∙ ap (λ (z : List ℕ). paste at z d) (sym n) ∙ h
@@ -227,6 +222,9 @@ settling-first spec index d n out h =
 module _ {spec : Sharding} {index d : List ℕ} {n : ℕ} {out₀ out : List ℕ} {m p : ℕ} (h : Settling spec index d n out₀ out m p) (b : wholeLength spec index d n ≤ length out₀) where
   pub one-room : m < n → 16 * n + p + oneLength spec index d m ≤ length out
   one-room l = omega (arith, length-next spec index d n m l, h .room, h .same)
+
+  pub one-most : m < n → wholeLength spec index d n ≤ mostShardBytes → oneLength spec index d m ≤ mostShardBytes
+  one-most l g = omega (arith, length-next spec index d n m l, h .room)
 
   pub place-fits : (len : ℕ) → m < n → length out₀ < 2 ^ 64 → len ≡ oneLength spec index d m → Fits w64 (p + len)
   place-fits len l f e = record { fits = omega (arith, one-room l, h .same) }
@@ -268,14 +266,14 @@ module _ {spec : Sharding} {index d : List ℕ} {n : ℕ} {out₀ out : List ℕ
         paste-done (16 * n + p) (partsFrom p (from spec index d n m)) out (parts-nil p (from spec index d n m) z)
         (paste-done (16 * m) (row (entriesFrom p (from spec index d n m))) _ (entries-nil p (from spec index d n m) z) (h .left))
 
-module _ {index d : List ℕ} {n m : ℕ} (a : SettleableParts index d n) (l : m < n) where
-  pub each-at : SettleableIn index d m
+module _ {spec : Sharding} {index d : List ℕ} {n m : ℕ} (a : SettleableParts spec index d n) (l : m < n) where
+  pub each-at : SettleableIn spec index d m
   each-at = a .each m l
 
   pub entry-at : 16 * m + 16 ≤ length index
   entry-at = omega (arith, a .held)
 
-pub ruleset settling = (settling-first, settling-next, each-at, entry-at, one-room, place-fits, end-fits, end-is, all-there, needs)
+pub ruleset settling = (settling-first, settling-next, each-at, entry-at, one-room, one-most, place-fits, end-fits, end-is, all-there, needs)
 
 -- ---- the loop that adds up the lengths, up to the first one that is refused
 
@@ -302,54 +300,40 @@ summed {spec} {index} {d} {n} {m} h l = let g = h .most in omega (arith, h .left
 
 pub ruleset summing = (summing-first, summing-next, summed, each-at, entry-at, falls, needs)
 
--- ---- of n minishards of a volume, where n is the number that the specification gives
-
-item-volume : (spec : Sharding) (d : List ℕ) (s n i : ℕ) → itemAt spec d s n i ≡ itemAt volume d s n i
-unfolding itemAt leadLength
-item-volume spec d s n i = refl
-
-items-volume : (spec : Sharding) (d : List ℕ) (s n i k : ℕ) → itemsFrom spec d s n i k ≡ itemsFrom volume d s n i k
-unfolding itemsFrom
-items-volume spec d s n i zero = refl
-items-volume spec d s n i (suc k) = rw (item-volume spec d s n i, items-volume spec d s n (suc i) k)
-
-content-volume : (spec : Sharding) (index d : List ℕ) (m k : ℕ) → contentFrom spec index d m k ≡ contentFrom volume index d m k
-unfolding contentFrom itemsAt
-content-volume spec index d m zero = refl
-content-volume spec index d m (suc k) =
-    let s = entryStart index m in
-    let n = entryCount s (entryEnd index m) in
-    rw (items-volume spec d s n 0 n, content-volume spec index d (suc m) k)
+-- ---- of n minishards, where n is the number that the specification gives
 
 pub permitted-shard : {spec : Sharding} {index d : List ℕ} → SettleableShard spec index d → allowed spec ≡ true
 permitted-shard h = h .permitted
 
 module _ (spec : Sharding) (index d : List ℕ) {n : ℕ} (e : n ≡ minishardCount spec) where
-  whole-content : contentFrom volume index d 0 n ≡ contentOf spec index d
+  whole-content : contentFrom spec index d 0 n ≡ contentOf spec index d
   unfolding contentOf
-  whole-content = rw e (sym (content-volume spec index d 0 (minishardCount spec)))
+  whole-content = rw e
 
-  whole-length : wholeLength volume index d n ≡ formLength spec index d
+  whole-length : wholeLength spec index d n ≡ formLength spec index d
   unfolding formLength settledLength
   whole-length = rw whole-content (omega (arith, length-content spec index d))
 
-  whole-form : settled (contentFrom volume index d 0 n) ≡ formOf spec index d
+  whole-form : settled (contentFrom spec index d 0 n) ≡ formOf spec index d
   unfolding formOf
   whole-form = ap settled whole-content
 
-  pub parts-counted : SettleableShard spec index d → SettleableParts index d n
+  pub parts-counted : SettleableShard spec index d → SettleableParts spec index d n
   parts-counted h = rw e (h .parts)
 
-  pub room-counted : (out : List ℕ) → formLength spec index d ≤ length out → wholeLength volume index d n ≤ length out
+  pub room-counted : (out : List ℕ) → formLength spec index d ≤ length out → wholeLength spec index d n ≤ length out
   room-counted out h = rw whole-length h
 
-  pub length-counted : {r : ℕ} → r ≡ wholeLength volume index d n → r ≡ formLength spec index d
+  pub most-counted : formLength spec index d ≤ mostShardBytes → wholeLength spec index d n ≤ mostShardBytes
+  most-counted h = rw whole-length h
+
+  pub length-counted : {r : ℕ} → r ≡ wholeLength spec index d n → r ≡ formLength spec index d
   length-counted h = h ∙ whole-length
 
-  pub capped-counted : {r : ℕ} → r ≡ capped (wholeLength volume index d n) → r ≡ capped (formLength spec index d)
+  pub capped-counted : {r : ℕ} → r ≡ capped (wholeLength spec index d n) → r ≡ capped (formLength spec index d)
   capped-counted h = h ∙ ap (λ (x : ℕ). capped x) whole-length
 
-  pub form-counted : (o : List ℕ) {out : List ℕ} → out ≡ paste 0 (settled (contentFrom volume index d 0 n)) o → out ≡ over (formOf spec index d) o
+  pub form-counted : (o : List ℕ) {out : List ℕ} → out ≡ paste 0 (settled (contentFrom spec index d 0 n)) o → out ≡ over (formOf spec index d) o
   form-counted o h = rw whole-form at h ∙ paste-front (formOf spec index d) o (length (formOf spec index d)) refl
 
-pub ruleset counting = (permitted-shard, parts-counted, room-counted, length-counted, capped-counted, form-counted, needs)
+pub ruleset counting = (permitted-shard, parts-counted, room-counted, most-counted, length-counted, capped-counted, form-counted, needs)

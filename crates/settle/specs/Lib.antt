@@ -1,4 +1,3 @@
 -- Settling (01, 'Settled form').
 pub mod Answers
 pub mod Writing
-pub mod Reordered

@@ -1,6 +1,5 @@
 // Settling a shard: writing it in its settled form.
 pub mod inner;
-mod sorted;
 
 ghost use mathlib.Core.Path.{_≡_};
 ghost use Rattle.shard.specs.File.{checkAnswer, checkNumber};

@@ -2,31 +2,23 @@
 use Prim.Native.Nat.{ℕ}
 use mathlib.Core.List.{List, []}
 use mathlib.Core.Logic.{_↔_}
-use mathlib.Core.Path.{_≡_, refl, sym, ap, _∙_}
+use mathlib.Core.Path.{_≡_, sym, ap, _∙_}
 use Rattle.sharding.specs.declared.Sharding.{Sharding}
 use Rattle.shard.specs.Index.{entryStart, entryEnd, entryCount, idSteps, idAt, chunkAt}
-use Rattle.shard.specs.Items.{Item, leadLength, itemAt}
+use Rattle.shard.specs.Items.{Item, itemOf, itemAt, NoLeads}
 use Rattle.shard.specs.Lists.{ListsAt, ListsIn, ListsItem, Lists, SameListing, ListsChunk, SameChunks}
 
--- chunks without leads
-abbrev pub NoLeads : Sharding → Type 0
-NoLeads spec = (body : List ℕ) → leadLength spec body ≡ 0
-
--- as those of a volume are
-pub volume-leads : (spec : Sharding) → NoLeads spec
-unfolding leadLength
-volume-leads spec body = refl
-
-abbrev pair : ℕ → List ℕ → Item
+abbrev pub pair : ℕ → List ℕ → Item
 pair id bytes = record { id = id; lead = []; body = bytes }
 
-item-pair : (spec : Sharding) → NoLeads spec → (d : List ℕ) (s n i : ℕ) → itemAt spec d s n i ≡ pair (idAt (idSteps d s) i) (chunkAt d s n i)
-unfolding itemAt
+-- an item without a lead
+pub item-pair : (spec : Sharding) → NoLeads spec → (d : List ℕ) (s n i : ℕ) → itemAt spec d s n i ≡ pair (idAt (idSteps d s) i) (chunkAt d s n i)
+unfolding itemAt itemOf
 item-pair spec none d s n i = rw (none (chunkAt d s n i))
 
 -- an item that a minishard lists is listed with its id and bytes
 pub item-at : {spec : Sharding} {x d : List ℕ} {m : ℕ} {item : Item} (t : ListsItem spec x d m item) → ListsAt x d m (t .entry) (item .id) (item .body)
-unfolding itemAt
+unfolding itemAt itemOf
 item-at t = record { among = t .among; named = ap (λ (i : Item). i .id) (t .listed); holding = ap (λ (i : Item). i .body) (t .listed) }
 
 module _ (spec : Sharding) (none : NoLeads spec) where

@@ -10,5 +10,7 @@ pub mod Tally
 pub mod Split
 pub mod Whole
 pub mod WholeAnswers
+pub mod Leads
+pub mod Items
 pub mod Chunks
 pub mod Earlier

@@ -1,5 +1,7 @@
 -- What an entry of a minishard index lists: an item (01, 'From id to shard').
-use Prim.Native.Nat.{ℕ, _-_}
+use Prim.Native.Nat.{ℕ, _-_, _≤_}
+use mathlib.Core.Path.{_≡_}
+use mathlib.Core.Bool.{Bool, false}
 use mathlib.Core.List.{List}
 use lib.ListN.{take, drop}
 use Rattle.sharding.specs.declared.Sharding.{Sharding}
@@ -15,10 +17,31 @@ pub record Item : Type 0 where
 unfoldable pub leadLength : Sharding → List ℕ → ℕ
 leadLength spec body = 0
 
+-- the item of this id whose chunk stands in d, `size` bytes from `start` on
+unfoldable pub itemOf : Sharding → List ℕ → ℕ → ℕ → ℕ → Item
+itemOf spec d id start size =
+    let body = take size (drop start d) in
+    let k = leadLength spec body in
+    record { id = id; lead = take k (drop (start - k) d); body = body }
+
 -- entry i of the minishard index of n entries at s
 unfoldable pub itemAt : Sharding → List ℕ → ℕ → ℕ → ℕ → Item
-itemAt spec d s n i =
-    let start = startAt (startSteps d s n) (sizes d s n) i in
-    let body = chunkAt d s n i in
-    let k = leadLength spec body in
-    record { id = idAt (idSteps d s) i; lead = take k (drop (start - k) d); body = body }
+itemAt spec d s n i = itemOf spec d (idAt (idSteps d s) i) (startAt (startSteps d s n) (sizes d s n) i) (sizes d s n i)
+
+-- ---- leads, as those who read or write them take them
+
+-- the lengths of the leads, beside the rows of that minishard index
+abbrev pub leads : Sharding → List ℕ → ℕ → ℕ → ℕ → ℕ
+leads spec d s n i = leadLength spec (chunkAt d s n i)
+
+-- the lead of the chunk of `size` bytes at `start` lies within d
+pub record Led (spec : Sharding) (d : List ℕ) (start size : ℕ) : Type 0 where
+  pub before : leadLength spec (take size (drop start d)) ≤ start
+
+-- no chunk has a lead
+abbrev pub NoLeads : Sharding → Type 0
+NoLeads spec = (body : List ℕ) → leadLength spec body ≡ 0
+
+-- nor has any where b is false
+pub record MayLead (spec : Sharding) (b : Bool) : Type 0 where
+  pub none : b ≡ false → NoLeads spec

@@ -1,9 +1,11 @@
-// The measures of a shard as one file.
+// The measures of a shard as one file, and the leads of its chunks.
 ghost use mathlib.Core.Path.{_≡_};
 ghost use mathlib.Core.Bool.{true};
-ghost use Prim.Native.Nat.{_≤_};
+ghost use Prim.Native.Nat.{_+_, _≤_};
+ghost use lib.ListN.{length, take, drop};
 ghost use Rattle.sharding.specs.Specification.{allowed};
 ghost use Rattle.shard.specs.File.{indexLength};
+ghost use Rattle.shard.specs.Items.{leadLength, Led, MayLead};
 use sharding::Sharding;
 use sharding::inner::minishard_count;
 
@@ -15,4 +17,21 @@ pub fn index_length(spec: Sharding) -> usize
     ensures { λ r. ⌜ (r ≡ indexLength spec) × (r ≤ 65536) ⌝ }
 {
     16 * minishard_count(spec) as usize
+}
+
+// ---- leads
+
+// Whether any chunk may have one.
+pub fn has_leads(spec: Sharding) -> bool
+    ensures { λ r. ⌜ MayLead spec r ⌝ }
+{
+    false
+}
+
+// How long the lead of the chunk of `size` bytes at `start` is.
+pub fn lead_length(spec: Sharding, data: &[u8], start: usize, size: usize) -> usize
+    requires { ⌜ (start + size ≤ length (now «data»)) × Led spec (now «data») start size ⌝ }
+    ensures { λ r. ⌜ r ≡ leadLength spec (take size (drop start (now («data» .entry)))) ⌝ }
+{
+    0
 }

@@ -4,7 +4,8 @@ use mathlib.Core.Logic.{inl, inr}
 use native.Mathlib.Omega.{arith, by-contra}
 use Rattle.refusal.specs.declared.Written.the-variants.{Length}
 use Rattle.grid.proofs.Laws.{keyed, cell-gives-key-gives-cell, accepted-key}
-use Rattle.shard.proofs.Chunks.{volume-leads, same-listing-is-same-chunks}
+use Rattle.shard.proofs.Leads.{volume-leads}
+use Rattle.shard.proofs.Chunks.{same-listing-is-same-chunks}
 use Rattle.shard.proofs.Whole.{check-number, check-refuses, check-passes-sound, sound-passes-check, check-passes, check-names}
 use Rattle.lookup.proofs.Refused.{lookup-refuses}
 use Rattle.lookup.proofs.Retrieval.{listed-chunk-is-handed-out, twelve-means-not-listed}

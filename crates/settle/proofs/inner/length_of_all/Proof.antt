@@ -1,14 +1,13 @@
 use Prim.Native.Nat.{_-_}
-use Rattle.settle.specs.Writing.{volume}
 use Rattle.settle.proofs.WriteWhole.{Summing, summing}
 use Rattle.settle.proofs.inner.length_of_all.Statement.{statement}
 use Rattle.settle.proofs.inner.length_of_all.Tie as tie
 
 abbrev Inv-loop : tie.InvT-loop
-Inv-loop index «data» n sum₀ m₀ sum m = Summing volume index «data» n m sum
+Inv-loop spec index «data» n sum₀ m₀ sum m = Summing spec index «data» n m sum
 
 abbrev μ-loop : tie.MeasureT-loop
-μ-loop index «data» n sum₀ m₀ sum m = n - m
+μ-loop spec index «data» n sum₀ m₀ sum m = n - m
 
 pub length-of-all-spec : {M : Type 1} → statement M
 length-of-all-spec =

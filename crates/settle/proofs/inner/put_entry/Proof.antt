@@ -1,4 +1,4 @@
-use Rattle.settle.proofs.WriteRows.{writing}
+use Rattle.settle.proofs.WriteWhole.{reading}
 use Rattle.settle.proofs.inner.put_entry.Statement.{statement}
 use Rattle.settle.proofs.inner.put_entry.Tie as tie
 
@@ -6,8 +6,8 @@ pub put-entry-spec : {M : Type 1} → statement M
 put-entry-spec =
     tie.close
     (tie.spec
-    (λ c κs. search writing)
-    (λ c. search writing)
-    (λ c κs. search writing)
-    (λ c. search writing)
-    (λ c. search writing))
+    (λ c κs. search reading)
+    (λ c. search reading)
+    (λ c κs. search reading)
+    (λ c. search reading)
+    (λ c. search reading))

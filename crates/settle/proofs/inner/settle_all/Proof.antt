@@ -1,14 +1,13 @@
 use Prim.Native.Nat.{_-_}
-use Rattle.settle.specs.Writing.{volume}
 use Rattle.settle.proofs.WriteWhole.{Settling, settling}
 use Rattle.settle.proofs.inner.settle_all.Statement.{statement}
 use Rattle.settle.proofs.inner.settle_all.Tie as tie
 
 abbrev Inv-loop : tie.InvT-loop
-Inv-loop index «data» n out₀ base m₀ p₀ out m p = Settling volume index «data» n out₀ out m p
+Inv-loop spec index «data» n out₀ base m₀ p₀ out m p = Settling spec index «data» n out₀ out m p
 
 abbrev μ-loop : tie.MeasureT-loop
-μ-loop index «data» n out₀ base m₀ p₀ out m p = n - m
+μ-loop spec index «data» n out₀ base m₀ p₀ out m p = n - m
 
 pub settle-all-spec : {M : Type 1} → statement M
 settle-all-spec =

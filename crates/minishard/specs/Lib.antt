@@ -1,0 +1,3 @@
+-- One minishard of a settled form (01, 'Settled form').
+pub mod Writing
+pub mod Reordered

@@ -1,0 +1,4 @@
+// One minishard of a settled form: its length, and writing it.
+pub mod inner;
+mod sorted;
+mod stored;

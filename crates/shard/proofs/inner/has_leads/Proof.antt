@@ -1,0 +1,6 @@
+use Rattle.shard.proofs.Leads.{volume-told}
+use Rattle.shard.proofs.inner.has_leads.Statement.{statement}
+use Rattle.shard.proofs.inner.has_leads.Tie as tie
+
+pub has-leads-spec : {M : Type 1} → statement M
+has-leads-spec = tie.close (tie.spec (λ c. volume-told _))
