@@ -1,0 +1,4 @@
+pub mod Cases
+pub mod Ids
+pub mod Rises
+pub mod Meaning

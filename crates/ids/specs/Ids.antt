@@ -1,0 +1,17 @@
+-- The ids of a minishard, and one that stands twice.
+use Prim.Native.Nat.{ℕ, suc, _%_, _^_}
+use mathlib.Core.Bool.{Bool}
+use lib.Dec.{eqb}
+use Rattle.endian.specs.Range.{sumTo, anyBelow, first}
+
+-- the id of entry i: the sum of the id steps so far, modulo 2^64
+unfoldable pub idAt : (ℕ → ℕ) → ℕ → ℕ
+idAt steps i = sumTo steps (suc i) % 2 ^ 64
+
+-- an earlier entry has the id of entry i
+unfoldable pub repeats : (ℕ → ℕ) → ℕ → Bool
+repeats id i = anyBelow i (λ j. eqb (id j) (id i))
+
+-- the first of n entries whose id an earlier one has; n where there is none
+unfoldable pub firstTwice : (ℕ → ℕ) → ℕ → ℕ
+firstTwice steps n = first (repeats (idAt steps)) n
