@@ -12,8 +12,9 @@
  *
  * The header is C99 or later and C++. The archive is made for Linux on x86-64;
  * it needs the C library's memory functions and nothing else. A call needs at
- * most 64 KiB of stack, one that reads a shard at most 384 KiB. It takes no
- * memory of its own, and none calls back.
+ * most 64 KiB of stack, and one that judges a minishard of 1,024 chunks or more
+ * whose ids do not rise at most 320 KiB. It takes no memory of its own, and none
+ * calls back.
  *
  * Answers. Each function takes any numbers and bytes and returns. A function
  * that can refuse returns an answer word:

@@ -3,6 +3,7 @@
 
 use compare::sides::{answer, refusal, sharding};
 use coronagamba::{Listed, Shard, Span};
+use reference::murmur::murmur3_x86_128;
 use reference::sharding::Sharding;
 use reference::{settle, shard, Refusal};
 use testkit::Rng;
@@ -224,12 +225,12 @@ fn many(rng: &mut Rng, kind: u64, count: usize) -> Vec<u64> {
     }
 }
 
-/// Minishards around 2^15 entries and above 2^16, in orders that are
+/// Minishards around 2^10, 2^15 and 2^16 entries and above, in orders that are
 /// hard on a search and on a sort; and with an id that stands twice.
 #[test]
 fn many_entries() {
     let mut rng = Rng::new(18);
-    for count in [1_000, 32_767, 32_768, 32_769, 70_000] {
+    for count in [1_000, 1_024, 32_768, 65_536, 65_537, 70_000] {
         for kind in 0..5 {
             let mut ids = many(&mut rng, kind, count);
             match rng.below(4) {
@@ -253,5 +254,22 @@ fn many_entries() {
             rows.push(chunk(extremes.expect("there are ids")));
             assert_eq!(same_answers(&listing(&rows), &[]), fault(9));
         }
+    }
+}
+
+/// Ids whose hashes begin alike, so that a filter by their hash soon seems to
+/// know each of them; and with one that stands twice.
+#[test]
+fn ids_that_crowd_a_filter() {
+    let mut rng = Rng::new(19);
+    let crowds = |id: &u64| murmur3_x86_128(&id.to_le_bytes(), 0)[7] == 0;
+    let mut ids: Vec<u64> = (0..).filter(crowds).take(8_000).collect();
+    rng.shuffle(&mut ids);
+    let mut rows: Vec<Row> = ids.iter().map(|id| (*id, 0, 0)).collect();
+    assert_eq!(same_answers(&listing(&rows), &ids[..2]), Ok(()));
+    for later in [1_500, 5_000, 7_999] {
+        rows[later].0 = rows[rng.index(later)].0;
+        assert_eq!(same_answers(&listing(&rows), &[]), fault(9));
+        rows[later].0 = ids[later];
     }
 }

@@ -6,8 +6,9 @@ use std::thread;
 /// The bytes that coronagamba.h names; the thread's own needs come out of them
 /// too.
 const STACK: usize = 64 * 1024;
-/// Those for a call that reads a shard.
-const SHARD_STACK: usize = 384 * 1024;
+/// Those for a call that judges a minishard of 1,024 chunks or more whose ids do
+/// not rise.
+const ARRIVAL_STACK: usize = 320 * 1024;
 
 const SHARDING: Sharding = Sharding {
     preshift: 0,
@@ -112,11 +113,13 @@ fn within(stack: usize, calls: impl FnOnce() + Send + 'static) {
 #[test]
 fn a_small_stack_is_enough() {
     within(STACK, calls);
+    within(STACK, shard_calls);
+    within(STACK, || judging_calls(1_000));
 }
 
+/// By the filter, and by the passes.
 #[test]
-fn shards_take_more() {
-    within(SHARD_STACK, shard_calls);
-    within(SHARD_STACK, || judging_calls(1_000));
-    within(SHARD_STACK, || judging_calls(50_000));
+fn ids_in_order_of_arrival_take_more() {
+    within(ARRIVAL_STACK, || judging_calls(50_000));
+    within(ARRIVAL_STACK, || judging_calls(70_000));
 }
