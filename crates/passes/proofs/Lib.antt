@@ -1,5 +1,3 @@
-pub mod Counts
-pub mod Heaps
 pub mod Gathers
 pub mod Marks
 pub mod Passes

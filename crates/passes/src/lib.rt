@@ -1,3 +1,2 @@
-// An id that stands twice, by passes over ranges of values, and a sort in place.
+// An id that stands twice, by passes over ranges of values.
 pub mod inner;
-pub mod sorting;
