@@ -22,17 +22,5 @@ loop-again c =
 pub copy-bytes-spec : {M : Type 1} → statement M
 copy-bytes-spec =
     tie.close
-    (tie.spec
-    Inv-loop
-    μ-loop
-    (λ c. search copies)
-    (λ c. search copies)
-    (λ c κs. search copies)
-    (λ c. search copies)
-    (λ c. search copies)
-    (λ c κs. search copies)
-    (λ c. search copies)
-    (λ c. search copies)
-    loop-again
-    (λ c. search copies)
-    (λ c. search copies))
+    (tie.spec Inv-loop μ-loop (λ c. search copies) (λ c. search copies) (λ c κs. search copies) (λ c. search copies) (λ c. search copies)
+    (λ c κs. search copies) (λ c. search copies) (λ c. search copies) loop-again (λ c. search copies) (λ c. search copies))

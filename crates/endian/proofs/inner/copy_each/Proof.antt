@@ -16,16 +16,5 @@ abbrev μ-loop : tie.MeasureT-loop
 pub copy-each-spec : {M : Type 1} → statement M
 copy-each-spec =
     tie.close
-    (tie.spec
-    Inv-loop
-    μ-loop
-    (λ c. search copies)
-    (λ c. search copies)
-    (λ c. search copies)
-    (λ c. search copies)
-    (λ c. search copies)
-    (λ c. search copies)
-    (λ c. search copies)
-    (λ c. search copies)
-    (λ c. search copies)
-    (λ c. search copies))
+    (tie.spec Inv-loop μ-loop (λ c. search copies) (λ c. search copies) (λ c. search copies) (λ c. search copies) (λ c. search copies)
+    (λ c. search copies) (λ c. search copies) (λ c. search copies) (λ c. search copies) (λ c. search copies))

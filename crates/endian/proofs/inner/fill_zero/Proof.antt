@@ -16,14 +16,5 @@ abbrev μ-loop : tie.MeasureT-loop
 pub fill-zero-spec : {M : Type 1} → statement M
 fill-zero-spec =
     tie.close
-    (tie.spec
-    Inv-loop
-    μ-loop
-    (λ c. search copies)
-    (λ c. search copies)
-    (λ c. search copies)
-    (λ c. search copies)
-    (λ c. search copies)
-    (λ c. search copies)
-    (λ c. search copies)
-    (λ c. search copies))
+    (tie.spec Inv-loop μ-loop (λ c. search copies) (λ c. search copies) (λ c. search copies) (λ c. search copies) (λ c. search copies)
+    (λ c. search copies) (λ c. search copies) (λ c. search copies))

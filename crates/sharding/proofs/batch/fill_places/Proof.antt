@@ -39,20 +39,6 @@ ruleset filling = (map-last, needs)
 pub fill-places-spec : {M : Type 1} → statement M
 fill-places-spec =
     tie.close
-    (tie.spec
-    Inv-loop
-    μ-loop
-    (λ c. search filling)
-    (λ c. search filling)
-    (λ c. search filling)
-    (λ c κs. search filling)
-    (λ c. search filling)
-    (λ c. search filling)
-    (λ c. search filling)
-    (λ c. search filling)
-    (λ c. search filling)
-    (λ c. search filling)
-    loop-again
-    (λ c. search filling)
-    (λ c. search filling)
-    (λ c. search filling))
+    (tie.spec Inv-loop μ-loop (λ c. search filling) (λ c. search filling) (λ c. search filling) (λ c κs. search filling) (λ c. search filling)
+    (λ c. search filling) (λ c. search filling) (λ c. search filling) (λ c. search filling) (λ c. search filling) loop-again (λ c. search filling)
+    (λ c. search filling) (λ c. search filling))

@@ -28,12 +28,5 @@ returns-3 c = (
 pub places-of-spec : {M : Type 1} → statement M
 places-of-spec =
     tie.close
-    (tie.spec
-    (λ c κs. search needs)
-    returns
-    returns-2
-    returns-3
-    (λ c κs. (search (told-allowed, not-false, needs), search needs))
-    (λ c. search needs)
-    (λ c. search needs)
-    (λ c. (search placing, (search placing, search placing))))
+    (tie.spec (λ c κs. search needs) returns returns-2 returns-3 (λ c κs. (search (told-allowed, not-false, needs), search needs)) (λ c. search needs)
+    (λ c. search needs) (λ c. (search placing, (search placing, search placing))))
