@@ -21,7 +21,7 @@ use Rattle.form.proofs.Sorting.{length-sort}
 pub length-chunks : (xs : List Item) → length (chunksOf xs) ≡ chunksLength xs
 unfolding chunksOf chunksLength
 length-chunks [] = refl
-length-chunks (x ∷ xs) = rw (length-append (x .lead) (x .body ++ chunksOf xs), length-append (x .body) (chunksOf xs), length-chunks xs)
+length-chunks (x ∷ xs) = let h = length-chunks xs in simp length-append (omega arith)
 
 pub length-ids : (before : ℕ) (xs : List Item) → length (idRow before xs) ≡ length xs
 unfolding idRow

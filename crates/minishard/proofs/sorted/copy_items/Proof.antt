@@ -1,5 +1,6 @@
 use Prim.Native.Nat.{_-_}
-use Rattle.minishard.proofs.Copying.{CopyingRows, copyingRows}
+use native.Mathlib.Omega.{arith}
+use Rattle.minishard.proofs.Copying.{CopyingRows, rows-inside, rows-lead, rows-out, copyingRows}
 use Rattle.minishard.proofs.sorted.copy_items.Statement.{statement}
 use Rattle.minishard.proofs.sorted.copy_items.Tie as tie
 
@@ -20,7 +21,14 @@ copy-items-spec =
     (λ c κs. search copyingRows)
     (λ c. search copyingRows)
     (λ c. search copyingRows)
-    (λ c κs. search copyingRows)
+    (λ c κs.
+    let lead = c .before in
+    let get = lead .before in
+    let loop = get .before .before .before in
+    let pre = loop .before .before .before .pre in (
+      omega (arith, rows-inside (loop .loop .inv) (pre .0 .0) (omega arith) _ (get .get .ensures .0), rows-lead (loop .loop .inv) (pre .0 .0) (omega arith) _ (get .get .ensures .0) _ (lead .lead-length .ensures)),
+      omega (arith, rows-out (loop .loop .inv) (pre .0 .0) (omega arith) _ (get .get .ensures .0) _ (lead .lead-length .ensures) (pre .1 .0) (pre .1 .1)),
+    ))
     (λ c. search copyingRows)
     (λ c. search copyingRows)
     (λ c. search copyingRows)
