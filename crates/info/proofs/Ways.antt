@@ -2,7 +2,7 @@
 use Prim.Native.Nat.{ℕ, zero, suc}
 use mathlib.Core.Path.{_≡_, refl, sym, ap, _∙_}
 use mathlib.Core.Bool.{Bool, true, false, not, _&&_}
-use mathlib.Core.List.{List}
+use mathlib.Core.List.{List, []}
 use native.Mathlib.Omega.{arith}
 use borrow.Author.Needs.{needs}
 use borrow.Author.Tests.{eq-eqb, ne-eqb, ltb-true, not-true, not-false}
@@ -29,6 +29,7 @@ use Rattle.text.specs.declared.Found.{Found}
 use Rattle.text.specs.declared.Found.the-variants.{At, Nothing}
 use Rattle.places.specs.declared.Given.{Given}
 use Rattle.places.specs.declared.Given.the-variants.{Once, Never, Twice}
+use Rattle.places.specs.declared.Four.{Four}
 use Rattle.places.specs.declared.Three.{Three}
 use Rattle.places.specs.declared.Threes.{Threes}
 use Rattle.places.specs.declared.Threes.the-variants.{Are as Threefold, Wrong as NotThree}
@@ -44,10 +45,11 @@ use Rattle.info.specs.declared.ShardingIn.{ShardingIn}
 use Rattle.info.specs.declared.ShardingIn.the-variants.{Is as ShardingIs, Wrong as NoSharding}
 use Rattle.info.specs.declared.Settings.{Settings}
 use Rattle.info.specs.declared.Settings.the-variants.{Are as SettingsAre, Wrong as NoSettings}
-use Rattle.places.specs.Places.{elements, isText, member, needed, element, threeOf, loneOf}
+use Rattle.places.specs.Places.{elements, isText, onceOf, needed, element, threeOf, loneOf, fourOf}
 use Rattle.wholes.specs.Numbers.{naturalAt, coordinateAt}
 use Rattle.info.specs.Words.{scalesName, sizeName, chunksName, offsetName, shardingName, typeName, preshiftName, hashName, minishardName, shardName, indexName, dataName, typeText, rawText, identityText, murmurText}
 use Rattle.info.specs.Settings.{extentsOf, extentsAt, offsetOf, offsetAt, sizeIn, chunkIn, offsetBy, offsetIn, volumeIn, typed, rawBy, formed, hashAt, hashIn, numberIn, shardingOf, numbersOf, numbersIn, shardingAt, shardingIn, settingsAt, scaleAt, settingsOf}
+use Rattle.info.specs.Parts.{sizeBy, chunkBy, volumeBy, typedBy, hashBy, numberBy, shardingBy}
 use Rattle.info.specs.Answers.{noSettings, recordOf, infoChecks, infoAnswer}
 
 -- ---- extents and offset
@@ -110,63 +112,62 @@ module _ (s : List ℕ) (p : ℕ) {w : Threes} (ew : w ≡ threeOf (elements s p
     unfolding offsetAt
     offset-at ea eb ed e = rw (sym ew ∙ et, ← ea, ← eb, ← ed) e
 
--- ---- the volume of the scale at p
+-- ---- the volume, by the members found
 
-module _ (s : List ℕ) (p : ℕ) where
-  module _ {q : Found} (eq : q ≡ needed sizeName s p) where
-    pub size-none : q ≡ Nothing → NoExtents ≡ sizeIn s p
-    unfolding sizeIn
+module _ (s : List ℕ) where
+  module _ (g : Given) {q : Found} (eq : q ≡ onceOf g) where
+    pub size-none : q ≡ Nothing → NoExtents ≡ sizeBy s g
+    unfolding sizeBy
     size-none e = rw (sym eq ∙ e)
 
-    pub size-some : {v : ℕ} {r : ExtentsIn} → q ≡ At v → r ≡ extentsAt s v → r ≡ sizeIn s p
-    unfolding sizeIn
+    pub size-some : {v : ℕ} {r : ExtentsIn} → q ≡ At v → r ≡ extentsAt s v → r ≡ sizeBy s g
+    unfolding sizeBy
     size-some e f = rw (sym eq ∙ e) f
 
-  module _ {q : Found} (eq : q ≡ needed chunksName s p) where
-    pub chunk-none : q ≡ Nothing → NoExtents ≡ chunkIn s p
-    unfolding chunkIn
+    pub chunk-none : q ≡ Nothing → NoExtents ≡ chunkBy s g
+    unfolding chunkBy
     chunk-none e = rw (sym eq ∙ e)
 
     module _ {v : ℕ} (ev : q ≡ At v) {u : Found} (eu : u ≡ loneOf (elements s v)) where
-      pub chunk-many : u ≡ Nothing → NoExtents ≡ chunkIn s p
-      unfolding chunkIn
+      pub chunk-many : u ≡ Nothing → NoExtents ≡ chunkBy s g
+      unfolding chunkBy
       chunk-many e = rw (sym eq ∙ ev, sym eu ∙ e)
 
-      pub chunk-some : {w : ℕ} {r : ExtentsIn} → u ≡ At w → r ≡ extentsAt s w → r ≡ chunkIn s p
-      unfolding chunkIn
+      pub chunk-some : {w : ℕ} {r : ExtentsIn} → u ≡ At w → r ≡ extentsAt s w → r ≡ chunkBy s g
+      unfolding chunkBy
       chunk-some e f = rw (sym eq ∙ ev, sym eu ∙ e) f
 
-  module _ {f : Given} (ef : f ≡ member offsetName s p) where
-    pub offset-once : {v : ℕ} {r : OffsetIn} → f ≡ Once v → r ≡ offsetAt s v → r ≡ offsetIn s p
-    unfolding offsetIn offsetBy
-    offset-once e g = rw (sym ef ∙ e) g
+  module _ (g : Given) where
+    pub offset-once : {v : ℕ} {r : OffsetIn} → g ≡ Once v → r ≡ offsetAt s v → r ≡ offsetBy s g
+    unfolding offsetBy
+    offset-once e f = rw e f
 
-    pub offset-never : f ≡ Never → OffsetIs (record { x = pos 0; y = pos 0; z = pos 0 }) ≡ offsetIn s p
-    unfolding offsetIn offsetBy
-    offset-never e = rw (sym ef ∙ e)
+    pub offset-never : g ≡ Never → OffsetIs (record { x = pos 0; y = pos 0; z = pos 0 }) ≡ offsetBy s g
+    unfolding offsetBy
+    offset-never e = rw e
 
-    pub offset-twice : f ≡ Twice → NoOffset ≡ offsetIn s p
-    unfolding offsetIn offsetBy
-    offset-twice e = rw (sym ef ∙ e)
+    pub offset-twice : g ≡ Twice → NoOffset ≡ offsetBy s g
+    unfolding offsetBy
+    offset-twice e = rw e
 
-  module _ {a : ExtentsIn} (ea : a ≡ sizeIn s p) where
-    pub volume-size : a ≡ NoExtents → NoVolume ≡ volumeIn s p
-    unfolding volumeIn
+  module _ (f g h : Given) {a : ExtentsIn} (ea : a ≡ sizeBy s f) where
+    pub volume-size : a ≡ NoExtents → NoVolume ≡ volumeBy s f g h
+    unfolding volumeBy
     volume-size e = rw (sym ea ∙ e)
 
-    module _ {g : Extents} (eg : a ≡ ExtentsAre g) {b : ExtentsIn} (eb : b ≡ chunkIn s p) where
-      pub volume-chunk : b ≡ NoExtents → NoVolume ≡ volumeIn s p
-      unfolding volumeIn
-      volume-chunk e = rw (sym ea ∙ eg, sym eb ∙ e)
+    module _ {x : Extents} (ex : a ≡ ExtentsAre x) {b : ExtentsIn} (eb : b ≡ chunkBy s g) where
+      pub volume-chunk : b ≡ NoExtents → NoVolume ≡ volumeBy s f g h
+      unfolding volumeBy
+      volume-chunk e = rw (sym ea ∙ ex, sym eb ∙ e)
 
-      module _ {h : Extents} (eh : b ≡ ExtentsAre h) {d : OffsetIn} (ed : d ≡ offsetIn s p) where
-        pub volume-offset : d ≡ NoOffset → NoVolume ≡ volumeIn s p
-        unfolding volumeIn
-        volume-offset e = rw (sym ea ∙ eg, sym eb ∙ eh, sym ed ∙ e)
+      module _ {y : Extents} (ey : b ≡ ExtentsAre y) {d : OffsetIn} (ed : d ≡ offsetBy s h) where
+        pub volume-offset : d ≡ NoOffset → NoVolume ≡ volumeBy s f g h
+        unfolding volumeBy
+        volume-offset e = rw (sym ea ∙ ex, sym eb ∙ ey, sym ed ∙ e)
 
-        pub volume-is : {o : Offset} → d ≡ OffsetIs o → VolumeIs (record { size = g; chunk = h; offset = o }) ≡ volumeIn s p
-        unfolding volumeIn
-        volume-is e = rw (sym ea ∙ eg, sym eb ∙ eh, sym ed ∙ e)
+        pub volume-is : {o : Offset} → d ≡ OffsetIs o → VolumeIs (record { size = x; chunk = y; offset = o }) ≡ volumeBy s f g h
+        unfolding volumeBy
+        volume-is e = rw (sym ea ∙ ex, sym eb ∙ ey, sym ed ∙ e)
 
 -- ---- the sharding at p
 
@@ -184,20 +185,44 @@ module _ (s : List ℕ) where
     unfolding rawBy
     raw-twice e = rw e
 
+  module _ (g : Given) {q : Found} (eq : q ≡ onceOf g) where
+    pub typed-none : q ≡ Nothing → false ≡ typedBy s g
+    unfolding typedBy
+    typed-none e = rw (sym eq ∙ e)
+
+    pub typed-some : {v : ℕ} {r : Bool} → q ≡ At v → r ≡ isText typeText s v → r ≡ typedBy s g
+    unfolding typedBy
+    typed-some e f = rw (sym eq ∙ e) f
+
+    pub hashed-none : q ≡ Nothing → Wrong ≡ hashBy s g
+    unfolding hashBy
+    hashed-none e = rw (sym eq ∙ e)
+
+    pub hashed-some : {v : ℕ} {r : Number} → q ≡ At v → r ≡ hashAt s v → r ≡ hashBy s g
+    unfolding hashBy
+    hashed-some e f = rw (sym eq ∙ e) f
+
+    pub number-none : q ≡ Nothing → Wrong ≡ numberBy s g
+    unfolding numberBy
+    number-none e = rw (sym eq ∙ e)
+
+    pub number-some : {v : ℕ} {r : Number} → q ≡ At v → r ≡ naturalAt s v → r ≡ numberBy s g
+    unfolding numberBy
+    number-some e f = rw (sym eq ∙ e) f
+
+    pub sharding-none : q ≡ Nothing → NoSharding ≡ shardingBy s g
+    unfolding shardingBy
+    sharding-none e = rw (sym eq ∙ e)
+
+    pub sharding-some : {v : ℕ} {r : ShardingIn} → q ≡ At v → r ≡ shardingAt s v → r ≡ shardingBy s g
+    unfolding shardingBy
+    sharding-some e f = rw (sym eq ∙ e) f
+
   module _ (p : ℕ) where
-    module _ {q : Found} (eq : q ≡ needed typeName s p) where
-      pub typed-none : q ≡ Nothing → false ≡ typed s p
-      unfolding typed
-      typed-none e = rw (sym eq ∙ e)
-
-      pub typed-some : {v : ℕ} {r : Bool} → q ≡ At v → r ≡ isText typeText s v → r ≡ typed s p
-      unfolding typed
-      typed-some e f = rw (sym eq ∙ e) f
-
-    pub formed-is : {a b d : Bool} {f g : Given} → f ≡ member indexName s p → g ≡ member dataName s p → a ≡ typed s p → b ≡ rawBy s f → d ≡ rawBy s g
+    pub formed-is : {w : Four} {a b d : Bool} → w ≡ fourOf typeName indexName dataName [] s p → a ≡ typedBy s (w .a) → b ≡ rawBy s (w .b) → d ≡ rawBy s (w .c)
         → (a && (b && d)) ≡ formed s p
-    unfolding formed
-    formed-is ef eg ea eb ed = cc
+    unfolding formed typed typedBy needed
+    formed-is ew ea eb ed = rw (ea, eb, ed, ew)
 
     module _ {b : ℕ} (eb : b ≡ getD s p 0) where
       pub hash-none : (b ≡ 0x22 → ⊥) → Wrong ≡ hashAt s p
@@ -218,28 +243,10 @@ module _ (s : List ℕ) where
           unfolding hashAt
           hash-other e = rw (← eb, eq-eqb b 0x22 m, sym et ∙ n, sym eu ∙ e)
 
-    module _ {q : Found} (eq : q ≡ needed hashName s p) where
-      pub hashed-none : q ≡ Nothing → Wrong ≡ hashIn s p
-      unfolding hashIn
-      hashed-none e = rw (sym eq ∙ e)
-
-      pub hashed-some : {v : ℕ} {r : Number} → q ≡ At v → r ≡ hashAt s v → r ≡ hashIn s p
-      unfolding hashIn
-      hashed-some e f = rw (sym eq ∙ e) f
-
-    module _ (name : List ℕ) {q : Found} (eq : q ≡ needed name s p) where
-      pub number-none : q ≡ Nothing → Wrong ≡ numberIn name s p
-      unfolding numberIn
-      number-none e = rw (sym eq ∙ e)
-
-      pub number-some : {v : ℕ} {r : Number} → q ≡ At v → r ≡ naturalAt s v → r ≡ numberIn name s p
-      unfolding numberIn
-      number-some e f = rw (sym eq ∙ e) f
-
-    pub numbers-are : {a b d e : Number} {r : ShardingIn} → a ≡ numberIn preshiftName s p → b ≡ hashIn s p → d ≡ numberIn minishardName s p → e ≡ numberIn shardName s p
-        → r ≡ numbersOf a b d e → r ≡ numbersIn s p
-    unfolding numbersIn
-    numbers-are ea eb ed ee f = rw (← ea, ← eb, ← ed, ← ee) f
+    pub numbers-are : {w : Four} {a b d e : Number} {r : ShardingIn} → w ≡ fourOf preshiftName hashName minishardName shardName s p
+        → a ≡ numberBy s (w .a) → b ≡ hashBy s (w .b) → d ≡ numberBy s (w .c) → e ≡ numberBy s (w .d) → r ≡ numbersOf a b d e → r ≡ numbersIn s p
+    unfolding numbersIn numberIn numberBy hashIn hashBy needed
+    numbers-are ew ea eb ed ee f = f ∙ rw (ea, eb, ed, ee, ew)
 
     module _ {t : Bool} (et : t ≡ formed s p) where
       pub unformed : t ≡ false → NoSharding ≡ shardingAt s p
@@ -249,15 +256,6 @@ module _ (s : List ℕ) where
       pub well-formed : {r : ShardingIn} → t ≡ true → r ≡ numbersIn s p → r ≡ shardingAt s p
       unfolding shardingAt
       well-formed e f = rw (sym et ∙ e) f
-
-    module _ {q : Found} (eq : q ≡ needed shardingName s p) where
-      pub sharding-none : q ≡ Nothing → NoSharding ≡ shardingIn s p
-      unfolding shardingIn
-      sharding-none e = rw (sym eq ∙ e)
-
-      pub sharding-some : {v : ℕ} {r : ShardingIn} → q ≡ At v → r ≡ shardingAt s v → r ≡ shardingIn s p
-      unfolding shardingIn
-      sharding-some e f = rw (sym eq ∙ e) f
 
 module _ (p q r t : Number) where
   pub numbers-1 : p ≡ Wrong → NoSharding ≡ numbersOf p q r t
@@ -316,19 +314,27 @@ module _ (a h m n : ℕ) where
 
 -- ---- the whole
 
-module _ (s : List ℕ) (p : ℕ) {a : ShardingIn} (ea : a ≡ shardingIn s p) where
+module _ (s : List ℕ) (p : ℕ) {w : Four} (ew : w ≡ fourOf sizeName chunksName offsetName shardingName s p) {a : ShardingIn} (ea : a ≡ shardingBy s (w .d)) where
+  as-sharding : a ≡ shardingIn s p
+  unfolding shardingIn shardingBy needed
+  as-sharding = ea ∙ ap (λ (x : Four). shardingBy s (x .d)) ew
+
   pub settings-sharding : a ≡ NoSharding → NoSettings ≡ settingsAt s p
   unfolding settingsAt
-  settings-sharding e = rw (sym ea ∙ e)
+  settings-sharding e = rw (sym as-sharding ∙ e)
 
-  module _ {g : Sharding} (eg : a ≡ ShardingIs g) {b : VolumeIn} (eb : b ≡ volumeIn s p) where
+  module _ {g : Sharding} (eg : a ≡ ShardingIs g) {b : VolumeIn} (eb : b ≡ volumeBy s (w .a) (w .b) (w .c)) where
+    as-volume : b ≡ volumeIn s p
+    unfolding volumeIn volumeBy sizeIn sizeBy chunkIn chunkBy offsetIn needed
+    as-volume = eb ∙ ap (λ (x : Four). volumeBy s (x .a) (x .b) (x .c)) ew
+
     pub settings-volume : b ≡ NoVolume → NoSettings ≡ settingsAt s p
     unfolding settingsAt
-    settings-volume e = rw (sym ea ∙ eg, sym eb ∙ e)
+    settings-volume e = rw (sym as-sharding ∙ eg, sym as-volume ∙ e)
 
     pub settings-are : {v : Volume} → b ≡ VolumeIs v → SettingsAre (record { sharding = g; volume = v }) ≡ settingsAt s p
     unfolding settingsAt
-    settings-are e = rw (sym ea ∙ eg, sym eb ∙ e)
+    settings-are e = rw (sym as-sharding ∙ eg, sym as-volume ∙ e)
 
 module _ (s : List ℕ) (k : ℕ) where
   module _ {j : ℕ} (ej : j ≡ ws s 0) {q : Found} (eq : q ≡ needed scalesName s j) where

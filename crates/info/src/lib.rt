@@ -37,8 +37,9 @@ pub enum Settings {
 }
 
 // The settings of the scale as a card says them: refused with 19, 20, 1, 2 or 3.
-// The time is linear in the text: it is walked once as JSON, once to the scale, and once for each of the twelve names that are
-// looked for; a walk passes over each value once, and calls nest no deeper than values, 32.
+// The time is linear in the text: it is walked once as JSON, once along the outermost members, once along the scales to the one that
+// is asked for, once along its members and twice along its sharding's; a walk passes over each value once, and calls nest no deeper
+// than values, 32.
 pub fn read_info(text: &[u8], scale: u64) -> CardAnswer
     ensures answer { λ r. ⌜ r ≡ infoAnswer (now (text .entry)) scale ⌝ }
 {

@@ -1,8 +1,7 @@
 // Parts of the settings of a volume, from the text of its info file.
 ghost use mathlib.Core.Path.{_≡_};
-ghost use mathlib.Core.Bool.{true};
-ghost use Rattle.strings.specs.Names.{ascii};
-ghost use Rattle.info.specs.Settings.{extentsOf, extentsAt, offsetOf, offsetAt, sizeIn, chunkIn, offsetIn, volumeIn, typed, rawBy, formed, hashAt, hashIn, numberIn, shardingOf, numbersOf, numbersIn, shardingAt, shardingIn, settingsAt, scaleAt, settingsOf};
+ghost use Rattle.info.specs.Settings.{extentsOf, extentsAt, offsetOf, offsetAt, offsetBy, rawBy, formed, hashAt, shardingOf, numbersOf, numbersIn, shardingAt, settingsAt, scaleAt, settingsOf};
+ghost use Rattle.info.specs.Parts.{sizeBy, chunkBy, volumeBy, typedBy, hashBy, numberBy, shardingBy};
 use crate::ExtentsIn;
 use crate::OffsetIn;
 use crate::Settings;
@@ -77,21 +76,21 @@ fn offset_at(s: &[u8], p: usize) -> OffsetIn
     offset_of(x, y, z)
 }
 
-// The size of the scale at p.
-fn size_in(s: &[u8], p: usize) -> ExtentsIn
-    ensures { λ r. ⌜ r ≡ sizeIn (now (s .entry)) p ⌝ }
+// The size, by the member found.
+fn size_by(s: &[u8], given: Given) -> ExtentsIn
+    ensures { λ r. ⌜ r ≡ sizeBy (now (s .entry)) given ⌝ }
 {
-    let Found::At(v) = places::needed(s, p, b"size") else {
+    let Found::At(v) = places::once(given) else {
         return ExtentsIn::Wrong;
     };
     extents_at(s, v)
 }
 
-// Its one chunk size.
-fn chunk_in(s: &[u8], p: usize) -> ExtentsIn
-    ensures { λ r. ⌜ r ≡ chunkIn (now (s .entry)) p ⌝ }
+// The one chunk size.
+fn chunk_by(s: &[u8], given: Given) -> ExtentsIn
+    ensures { λ r. ⌜ r ≡ chunkBy (now (s .entry)) given ⌝ }
 {
-    let Found::At(v) = places::needed(s, p, b"chunk_sizes") else {
+    let Found::At(v) = places::once(given) else {
         return ExtentsIn::Wrong;
     };
     let Found::At(e) = places::just_one(s, v) else {
@@ -100,11 +99,10 @@ fn chunk_in(s: &[u8], p: usize) -> ExtentsIn
     extents_at(s, e)
 }
 
-// Its offset, 0,0,0 where it has none.
-fn offset_in(s: &[u8], p: usize) -> OffsetIn
-    ensures { λ r. ⌜ r ≡ offsetIn (now (s .entry)) p ⌝ }
+// The offset, 0,0,0 where there is none.
+fn offset_by(s: &[u8], given: Given) -> OffsetIn
+    ensures { λ r. ⌜ r ≡ offsetBy (now (s .entry)) given ⌝ }
 {
-    let given = places::member(s, p, b"voxel_offset");
     match given {
         Given::Once(v) => offset_at(s, v),
         Given::Never => OffsetIn::Is(Offset { x: 0, y: 0, z: 0 }),
@@ -112,16 +110,16 @@ fn offset_in(s: &[u8], p: usize) -> OffsetIn
     }
 }
 
-fn volume_in(s: &[u8], p: usize) -> VolumeIn
-    ensures { λ r. ⌜ r ≡ volumeIn (now (s .entry)) p ⌝ }
+fn volume_by(s: &[u8], sizes: Given, chunks: Given, offsets: Given) -> VolumeIn
+    ensures { λ r. ⌜ r ≡ volumeBy (now (s .entry)) sizes chunks offsets ⌝ }
 {
-    let ExtentsIn::Are(size) = size_in(s, p) else {
+    let ExtentsIn::Are(size) = size_by(s, sizes) else {
         return VolumeIn::Wrong;
     };
-    let ExtentsIn::Are(chunk) = chunk_in(s, p) else {
+    let ExtentsIn::Are(chunk) = chunk_by(s, chunks) else {
         return VolumeIn::Wrong;
     };
-    let OffsetIn::Is(offset) = offset_in(s, p) else {
+    let OffsetIn::Is(offset) = offset_by(s, offsets) else {
         return VolumeIn::Wrong;
     };
     VolumeIn::Is(Volume {
@@ -131,11 +129,11 @@ fn volume_in(s: &[u8], p: usize) -> VolumeIn
     })
 }
 
-// The sharding at p has the type that the format names.
-fn typed(s: &[u8], p: usize) -> bool
-    ensures { λ r. ⌜ r ≡ typed (now (s .entry)) p ⌝ }
+// The type found is the one that the format names.
+fn typed(s: &[u8], given: Given) -> bool
+    ensures { λ r. ⌜ r ≡ typedBy (now (s .entry)) given ⌝ }
 {
-    let Found::At(v) = places::needed(s, p, b"@type") else {
+    let Found::At(v) = places::once(given) else {
         return false;
     };
     places::is_text(s, v, b"neuroglancer_uint64_sharded_v1")
@@ -152,12 +150,22 @@ fn raw(s: &[u8], given: Given) -> bool
     }
 }
 
+// The sharding at p is of the type and in the encodings that are read. A walk tells of four names, one of which is not used.
 fn formed(s: &[u8], p: usize) -> bool
     ensures { λ r. ⌜ r ≡ formed (now (s .entry)) p ⌝ }
 {
-    let index = places::member(s, p, b"minishard_index_encoding");
-    let data = places::member(s, p, b"data_encoding");
-    typed(s, p) & (raw(s, index) & raw(s, data))
+    let found = places::four_members(
+        s,
+        p,
+        b"@type",
+        b"minishard_index_encoding",
+        b"data_encoding",
+        b"",
+    );
+    let named = found.a;
+    let index = found.b;
+    let data = found.c;
+    typed(s, named) & (raw(s, index) & raw(s, data))
 }
 
 // The number of the hash that is named at p.
@@ -176,21 +184,20 @@ fn hash_at(s: &[u8], p: usize) -> Number
     Number::Is(2)
 }
 
-fn hash_in(s: &[u8], p: usize) -> Number
-    ensures { λ r. ⌜ r ≡ hashIn (now (s .entry)) p ⌝ }
+fn hash_by(s: &[u8], given: Given) -> Number
+    ensures { λ r. ⌜ r ≡ hashBy (now (s .entry)) given ⌝ }
 {
-    let Found::At(v) = places::needed(s, p, b"hash") else {
+    let Found::At(v) = places::once(given) else {
         return Number::Wrong;
     };
     hash_at(s, v)
 }
 
-// The number that the member with the name has.
-fn number_in(s: &[u8], p: usize, name: &[u8]) -> Number
-    requires { ⌜ ascii (now name) ≡ true ⌝ }
-    ensures { λ r. ⌜ r ≡ numberIn (now (name .entry)) (now (s .entry)) p ⌝ }
+// The number that the member found has.
+fn number_by(s: &[u8], given: Given) -> Number
+    ensures { λ r. ⌜ r ≡ numberBy (now (s .entry)) given ⌝ }
 {
-    let Found::At(v) = places::needed(s, p, name) else {
+    let Found::At(v) = places::once(given) else {
         return Number::Wrong;
     };
     wholes::natural(s, v)
@@ -232,11 +239,24 @@ fn numbers_of(p: Number, q: Number, r: Number, t: Number) -> ShardingIn
 fn numbers_in(s: &[u8], p: usize) -> ShardingIn
     ensures { λ r. ⌜ r ≡ numbersIn (now (s .entry)) p ⌝ }
 {
-    let preshift = number_in(s, p, b"preshift_bits");
-    let hash = hash_in(s, p);
-    let minishard = number_in(s, p, b"minishard_bits");
-    let shard = number_in(s, p, b"shard_bits");
-    numbers_of(preshift, hash, minishard, shard)
+    let found = places::four_members(
+        s,
+        p,
+        b"preshift_bits",
+        b"hash",
+        b"minishard_bits",
+        b"shard_bits",
+    );
+    let preshift = found.a;
+    let hash = found.b;
+    let minishard = found.c;
+    let shard = found.d;
+    numbers_of(
+        number_by(s, preshift),
+        hash_by(s, hash),
+        number_by(s, minishard),
+        number_by(s, shard),
+    )
 }
 
 fn sharding_at(s: &[u8], p: usize) -> ShardingIn
@@ -248,10 +268,10 @@ fn sharding_at(s: &[u8], p: usize) -> ShardingIn
     ShardingIn::Wrong
 }
 
-fn sharding_in(s: &[u8], p: usize) -> ShardingIn
-    ensures { λ r. ⌜ r ≡ shardingIn (now (s .entry)) p ⌝ }
+fn sharding_by(s: &[u8], given: Given) -> ShardingIn
+    ensures { λ r. ⌜ r ≡ shardingBy (now (s .entry)) given ⌝ }
 {
-    let Found::At(v) = places::needed(s, p, b"sharding") else {
+    let Found::At(v) = places::once(given) else {
         return ShardingIn::Wrong;
     };
     sharding_at(s, v)
@@ -261,10 +281,15 @@ fn sharding_in(s: &[u8], p: usize) -> ShardingIn
 fn settings_at(s: &[u8], p: usize) -> Settings
     ensures { λ r. ⌜ r ≡ settingsAt (now (s .entry)) p ⌝ }
 {
-    let ShardingIn::Is(sharding) = sharding_in(s, p) else {
+    let found = places::four_members(s, p, b"size", b"chunk_sizes", b"voxel_offset", b"sharding");
+    let size = found.a;
+    let chunk = found.b;
+    let offset = found.c;
+    let given = found.d;
+    let ShardingIn::Is(sharding) = sharding_by(s, given) else {
         return Settings::Wrong;
     };
-    let VolumeIn::Is(volume) = volume_in(s, p) else {
+    let VolumeIn::Is(volume) = volume_by(s, size, chunk, offset) else {
         return Settings::Wrong;
     };
     Settings::Are(Card { sharding, volume })

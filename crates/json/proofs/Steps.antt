@@ -16,9 +16,32 @@ use Rattle.text.specs.declared.Found.the-variants.{At, Nothing}
 use Rattle.text.proofs.Laws.{if-eq, if-ne, then-at, then-nothing, at-byte}
 use Rattle.text.proofs.Steps.{mark-room}
 use Rattle.strings.specs.Chars.{stringAt}
-use Rattle.json.specs.Grammar.{scalarAt, itemsAt, listAt, memberAt, valueAt, endsAt, isJson}
+use Rattle.json.specs.Grammar.{endOf, scalarAt, itemsAt, listAt, memberAt, valueAt, endsAt, isJson}
 use Rattle.json.proofs.Ahead.{Ahead, value-ahead, member-ahead, mark-ahead}
 use Rattle.json.proofs.Turns.{items-none, items-last, items-on, mark-most}
+
+-- ---- a position as one number
+
+pub end-at : (f : Found) {e : ℕ} → f ≡ At e → e ≡ endOf f
+unfolding endOf
+end-at f h = rw h
+
+pub end-none : (f : Found) → f ≡ Nothing → 0 ≡ endOf f
+unfolding endOf
+end-none f h = rw h
+
+-- what ends behind k is there just if the number is not 0
+pub no-end : (k : ℕ) (f : Found) {e : ℕ} → Ahead (k + 1) f → e ≡ endOf f → e ≡ 0 → f ≡ Nothing
+unfolding endOf
+no-end k (At n) a h z = absurd (omega (arith, a n refl))
+no-end k Nothing a h z = refl
+
+pub some-end : (f : Found) {e : ℕ} → e ≡ endOf f → (e ≡ 0 → ⊥) → f ≡ At e
+unfolding endOf
+some-end (At n) h z = ap At (sym h)
+some-end Nothing h z = absurd (z h)
+
+pub ruleset ends = (end-at, end-none, needs)
 
 -- ---- a scalar
 
@@ -66,38 +89,38 @@ value-some zero s i h = absurd (h refl)
 value-some (suc d) s i h = rw (sub-one (suc d))
 
 module _ (d : ℕ) (s : List ℕ) (i : ℕ) where
-  pub value-none : d ≡ 0 → Nothing ≡ valueAt d s i
+  pub value-none : d ≡ 0 → 0 ≡ endOf (valueAt d s i)
   unfolding valueAt
-  value-none e = rw e
+  value-none e = end-none (valueAt d s i) (rw e)
 
-  module _ (h : d ≡ 0 → ⊥) {b : ℕ} (eb : b ≡ getD s i 0) {r : Found} where
-    pub value-object : b ≡ 123 → r ≡ listAt (memberAt (valueAt (d - 1) s) s) 125 s (i + 1) → r ≡ valueAt d s i
-    value-object t er = er ∙ sym (value-some d s i h ∙ if-eq _ _ _ _ (sym eb ∙ t))
+  module _ (h : d ≡ 0 → ⊥) {b : ℕ} (eb : b ≡ getD s i 0) {r : ℕ} where
+    pub value-object : b ≡ 123 → r ≡ endOf (listAt (memberAt (valueAt (d - 1) s) s) 125 s (i + 1)) → r ≡ endOf (valueAt d s i)
+    value-object t er = er ∙ ap endOf (sym (value-some d s i h ∙ if-eq _ _ _ _ (sym eb ∙ t)))
 
     module _ (n : b ≡ 123 → ⊥) where
-      pub value-array : b ≡ 91 → r ≡ listAt (valueAt (d - 1) s) 93 s (i + 1) → r ≡ valueAt d s i
-      value-array t er = er ∙ sym (value-some d s i h ∙ if-ne _ _ _ _ (λ q. n (eb ∙ q)) ∙ if-eq _ _ _ _ (sym eb ∙ t))
+      pub value-array : b ≡ 91 → r ≡ endOf (listAt (valueAt (d - 1) s) 93 s (i + 1)) → r ≡ endOf (valueAt d s i)
+      value-array t er = er ∙ ap endOf (sym (value-some d s i h ∙ if-ne _ _ _ _ (λ q. n (eb ∙ q)) ∙ if-eq _ _ _ _ (sym eb ∙ t)))
 
-      pub value-scalar : (b ≡ 91 → ⊥) → r ≡ scalarAt s i → r ≡ valueAt d s i
-      value-scalar m er = er ∙ sym (value-some d s i h ∙ if-ne _ _ _ _ (λ q. n (eb ∙ q)) ∙ if-ne _ _ _ _ (λ q. m (eb ∙ q)))
+      pub value-scalar : {x : Found} → (b ≡ 91 → ⊥) → x ≡ scalarAt s i → r ≡ endOf x → r ≡ endOf (valueAt d s i)
+      value-scalar m ex er = er ∙ ap endOf (ex ∙ sym (value-some d s i h ∙ if-ne _ _ _ _ (λ q. n (eb ∙ q)) ∙ if-ne _ _ _ _ (λ q. m (eb ∙ q))))
 
 pub ruleset values = (mark-room, value-none, value-object, value-array, value-scalar, needs)
 
 -- ---- a member
 
 module _ (value : ℕ → Found) (s : List ℕ) (i : ℕ) {p : Found} (ep : p ≡ stringAt s i) where
-  pub member-unnamed : p ≡ Nothing → Nothing ≡ memberAt value s i
+  pub member-unnamed : p ≡ Nothing → 0 ≡ endOf (memberAt value s i)
   unfolding memberAt
-  member-unnamed e = sym (then-nothing _ _ (sym ep ∙ e))
+  member-unnamed e = end-none _ (then-nothing _ _ (sym ep ∙ e))
 
   module _ {e : ℕ} (ee : p ≡ At e) {q : Found} (eq : q ≡ markAt 58 s e) where
-    pub member-unmarked : q ≡ Nothing → Nothing ≡ memberAt value s i
+    pub member-unmarked : q ≡ Nothing → 0 ≡ endOf (memberAt value s i)
     unfolding memberAt
-    member-unmarked n = sym (then-at _ _ e (sym ep ∙ ee) ∙ then-nothing _ _ (sym eq ∙ n))
+    member-unmarked n = end-none _ (then-at _ _ e (sym ep ∙ ee) ∙ then-nothing _ _ (sym eq ∙ n))
 
-    pub member-valued : {j : ℕ} {r : Found} → q ≡ At j → r ≡ value j → r ≡ memberAt value s i
+    pub member-valued : {j r : ℕ} → q ≡ At j → r ≡ endOf (value j) → r ≡ endOf (memberAt value s i)
     unfolding memberAt
-    member-valued {j} t er = er ∙ sym (then-at _ _ e (sym ep ∙ ee) ∙ then-at _ _ j (sym eq ∙ t))
+    member-valued {j} t er = er ∙ ap endOf (sym (then-at _ _ e (sym ep ∙ ee) ∙ then-at _ _ j (sym eq ∙ t)))
 
 pub ruleset members = (member-unnamed, member-unmarked, member-valued, needs)
 
@@ -113,9 +136,9 @@ module _ (item : ℕ → Found) (close : ℕ) (s : List ℕ) (at : ℕ) {i b : �
   there : getD s (ws s at) 0 ≡ b
   there = ap (λ (j : ℕ). getD s j 0) (sym ei) ∙ sym eb
 
-  pub list-empty : b ≡ close → At (i + 1) ≡ listAt item close s at
+  pub list-empty : b ≡ close → i + 1 ≡ endOf (listAt item close s at)
   unfolding listAt
-  list-empty t = ap (λ (j : ℕ). At (j + 1)) ei ∙ sym (if-eq _ _ _ _ (there ∙ t))
+  list-empty t = end-at _ (if-eq _ _ _ _ (there ∙ t) ∙ ap (λ (j : ℕ). At (j + 1)) (sym ei))
 
   list-start : ((k : ℕ) → Ahead (k + 1) (item k)) → (b ≡ close → ⊥) → Listing item close s at i
   unfolding listAt
@@ -133,21 +156,24 @@ module _ (d : ℕ) (close : ℕ) (s : List ℕ) (at : ℕ) {i b : ℕ} (ei : i �
   pub object-start : Listing (memberAt (valueAt d s) s) close s at i
   object-start = list-start (memberAt (valueAt d s) s) close s at ei eb (member-ahead (valueAt d s) s (value-ahead d s)) n
 
-module _ {item : ℕ → Found} {close : ℕ} {s : List ℕ} {at i : ℕ} (k : Listing item close s at i) {r : Found} (er : r ≡ item i) where
-  pub list-bad : r ≡ Nothing → Nothing ≡ listAt item close s at
-  list-bad e = sym (k .left ∙ items-none item close s (k .fuel) i (sym er ∙ e))
+module _ {item : ℕ → Found} {close : ℕ} {s : List ℕ} {at i : ℕ} (k : Listing item close s at i) {e : ℕ} (ei : e ≡ endOf (item i)) where
+  pub list-bad : e ≡ 0 → 0 ≡ endOf (listAt item close s at)
+  list-bad z = end-none _ (k .left ∙ items-none item close s (k .fuel) i (no-end i (item i) (k .ahead i) ei z))
 
-  module _ {e : ℕ} (ee : r ≡ At e) {q : Found} (eq : q ≡ markAt 44 s e) where
-    pub list-last : {x : Found} → q ≡ Nothing → 0 < close → x ≡ closeAt close s e → x ≡ listAt item close s at
-    list-last n h ex = ex ∙ sym (k .left ∙ items-last item close s (k .ahead) (k .fuel) i e (k .enough) h (sym er ∙ ee) (sym eq ∙ n))
+  module _ (z : e ≡ 0 → ⊥) {q : Found} (eq : q ≡ markAt 44 s e) where
+    here : item i ≡ At e
+    here = some-end (item i) ei z
+
+    pub list-last : {x : Found} {r : ℕ} → q ≡ Nothing → 0 < close → x ≡ closeAt close s e → r ≡ endOf x → r ≡ endOf (listAt item close s at)
+    list-last n h ex er = er ∙ ap endOf (ex ∙ sym (k .left ∙ items-last item close s (k .ahead) (k .fuel) i e (k .enough) h here (sym eq ∙ n)))
 
     module _ {j : ℕ} (t : q ≡ At j) where
       onward : i < j
-      onward = omega (arith, k .ahead i e (sym er ∙ ee), mark-ahead 44 s e j (sym eq ∙ t))
+      onward = omega (arith, k .ahead i e here, mark-ahead 44 s e j (sym eq ∙ t))
 
       pub list-on : Listing item close s at j
       list-on =
-          let x = items-on item close s (k .ahead) (k .fuel) i e j (listAt item close s at) (k .enough) (k .left) (sym er ∙ ee) (sym eq ∙ t) onward in
+          let x = items-on item close s (k .ahead) (k .fuel) i e j (listAt item close s at) (k .enough) (k .left) here (sym eq ∙ t) onward in
           record { ahead = k .ahead; fuel = x .0; enough = x .1; left = x .2 }
 
       pub list-less : length s - j < length s - i
@@ -157,13 +183,13 @@ pub ruleset listing = (mark-room, list-empty, array-start, object-start, list-ba
 
 -- ---- a whole text
 
-module _ (d : ℕ) (s : List ℕ) {j : ℕ} (ej : j ≡ ws s 0) {v : Found} (ev : v ≡ valueAt d s j) where
-  pub json-none : v ≡ Nothing → false ≡ isJson d s
+module _ (d : ℕ) (s : List ℕ) {j : ℕ} (ej : j ≡ ws s 0) {e : ℕ} (ee : e ≡ endOf (valueAt d s j)) where
+  pub json-none : e ≡ 0 → false ≡ isJson d s
   unfolding isJson endsAt
-  json-none e = rw (← ej, ← ev, e)
+  json-none z = rw (← ej, no-end j (valueAt d s j) (value-ahead d s j) ee z)
 
-  pub json-ends : {e k : ℕ} → v ≡ At e → k ≡ ws s e → eqb k (length s) ≡ isJson d s
+  pub json-ends : {k : ℕ} → (e ≡ 0 → ⊥) → k ≡ ws s e → eqb k (length s) ≡ isJson d s
   unfolding isJson endsAt same
-  json-ends h w = rw (← ej, ← ev, h, ← w)
+  json-ends z w = rw (← ej, some-end (valueAt d s j) ee z, ← w)
 
 pub ruleset whole = (json-none, json-ends, needs)

@@ -14,6 +14,11 @@ use Rattle.strings.specs.Chars.{stringAt}
 abbrev pub deepest : ℕ
 deepest = 32
 
+-- a position as one number: no part of a text ends at 0, so that 0 is left for none
+unfoldable pub endOf : Found → ℕ
+endOf (At e) = e
+endOf Nothing = 0
+
 -- true / null / false / string / number, by the first byte
 unfoldable pub scalarAt : List ℕ → ℕ → Found
 scalarAt s i =

@@ -1,6 +1,6 @@
 // JSON text (RFC 8259): where its values end, to a depth.
 ghost use mathlib.Core.Path.{_≡_};
-ghost use Rattle.json.specs.Grammar.{deepest, scalarAt, listAt, memberAt, valueAt, isJson};
+ghost use Rattle.json.specs.Grammar.{deepest, endOf, scalarAt, listAt, memberAt, valueAt, isJson};
 use text::Found;
 
 fn skip_scalar(s: &[u8], at: usize) -> Found
@@ -22,12 +22,22 @@ fn skip_scalar(s: &[u8], at: usize) -> Found
     text::skip_number(s, at)
 }
 
-// The cycle: a value, what stands in an array and in an object, and one member of an object.
-pub fn skip_value(s: &[u8], at: usize, depth: usize) -> Found
-    ensures { λ r. ⌜ r ≡ valueAt depth (now (s .entry)) at ⌝ }
+// A position as one number, which calls hand back in a register.
+fn end_of(f: Found) -> usize
+    ensures { λ r. ⌜ r ≡ endOf f ⌝ }
+{
+    match f {
+        Found::At(e) => e,
+        Found::Nothing => 0,
+    }
+}
+
+// The cycle: a value, what stands in an array and in an object, and one member of an object. 0: there is none.
+pub fn skip_value(s: &[u8], at: usize, depth: usize) -> usize
+    ensures { λ r. ⌜ r ≡ endOf (valueAt depth (now (s .entry)) at) ⌝ }
 {
     if depth == 0 {
-        return Found::Nothing;
+        return 0;
     }
     let b = text::byte(s, at);
     if b == b'{' {
@@ -36,53 +46,55 @@ pub fn skip_value(s: &[u8], at: usize, depth: usize) -> Found
     if b == b'[' {
         return skip_array(s, at + 1, depth - 1);
     }
-    skip_scalar(s, at)
+    end_of(skip_scalar(s, at))
 }
 
-fn skip_array(s: &[u8], at: usize, depth: usize) -> Found
-    ensures { λ r. ⌜ r ≡ listAt (valueAt depth (now (s .entry))) 93 (now (s .entry)) at ⌝ }
+fn skip_array(s: &[u8], at: usize, depth: usize) -> usize
+    ensures { λ r. ⌜ r ≡ endOf (listAt (valueAt depth (now (s .entry))) 93 (now (s .entry)) at) ⌝ }
 {
     let mut i = text::skip_ws(s, at);
     if text::byte(s, i) == b']' {
-        return Found::At(i + 1);
+        return i + 1;
     }
     loop {
-        let Found::At(e) = skip_value(s, i, depth) else {
-            return Found::Nothing;
-        };
+        let e = skip_value(s, i, depth);
+        if e == 0 {
+            return 0;
+        }
         let Found::At(j) = text::skip_mark(s, e, b',') else {
-            return text::skip_close(s, e, b']');
+            return end_of(text::skip_close(s, e, b']'));
         };
         i = j;
     }
 }
 
-fn skip_object(s: &[u8], at: usize, depth: usize) -> Found
-    ensures { λ r. ⌜ r ≡ listAt (memberAt (valueAt depth (now (s .entry))) (now (s .entry))) 125 (now (s .entry)) at ⌝ }
+fn skip_object(s: &[u8], at: usize, depth: usize) -> usize
+    ensures { λ r. ⌜ r ≡ endOf (listAt (memberAt (valueAt depth (now (s .entry))) (now (s .entry))) 125 (now (s .entry)) at) ⌝ }
 {
     let mut i = text::skip_ws(s, at);
     if text::byte(s, i) == b'}' {
-        return Found::At(i + 1);
+        return i + 1;
     }
     loop {
-        let Found::At(e) = skip_member(s, i, depth) else {
-            return Found::Nothing;
-        };
+        let e = skip_member(s, i, depth);
+        if e == 0 {
+            return 0;
+        }
         let Found::At(j) = text::skip_mark(s, e, b',') else {
-            return text::skip_close(s, e, b'}');
+            return end_of(text::skip_close(s, e, b'}'));
         };
         i = j;
     }
 }
 
-pub fn skip_member(s: &[u8], at: usize, depth: usize) -> Found
-    ensures { λ r. ⌜ r ≡ memberAt (valueAt depth (now (s .entry))) (now (s .entry)) at ⌝ }
+fn skip_member(s: &[u8], at: usize, depth: usize) -> usize
+    ensures { λ r. ⌜ r ≡ endOf (memberAt (valueAt depth (now (s .entry))) (now (s .entry)) at) ⌝ }
 {
     let Found::At(e) = strings::skip_string(s, at) else {
-        return Found::Nothing;
+        return 0;
     };
     let Found::At(j) = text::skip_mark(s, e, b':') else {
-        return Found::Nothing;
+        return 0;
     };
     skip_value(s, j, depth)
 }
@@ -90,8 +102,9 @@ pub fn skip_member(s: &[u8], at: usize, depth: usize) -> Found
 pub fn is_json(s: &[u8]) -> bool
     ensures { λ r. ⌜ r ≡ isJson deepest (now (s .entry)) ⌝ }
 {
-    let Found::At(e) = skip_value(s, text::skip_ws(s, 0), 32) else {
+    let e = skip_value(s, text::skip_ws(s, 0), 32);
+    if e == 0 {
         return false;
-    };
+    }
     text::skip_ws(s, e) == s.len()
 }

@@ -16,17 +16,19 @@ use Rattle.text.specs.Bytes.{isWs}
 use Rattle.text.specs.Parts.{andThen, ws, markAt}
 use Rattle.text.specs.declared.Found.{Found}
 use Rattle.text.specs.declared.Found.the-variants.{At, Nothing}
-use Rattle.text.proofs.Laws.{within, le-span, ws-most, then-at, then-nothing}
+use Rattle.text.proofs.Laws.{within, le-span, ws-most, then-at, then-nothing, then-case}
 use Rattle.text.proofs.Steps.{mark-room}
 use Rattle.strings.specs.Chars.{stringAt}
 use Rattle.strings.specs.Names.{unescaped, textAt, eqList}
-use Rattle.json.specs.Grammar.{deepest, memberAt, valueAt}
+use Rattle.json.specs.Grammar.{deepest, endOf, memberAt, valueAt}
 use Rattle.json.proofs.Ahead.{Ahead, value-ahead, member-ahead, mark-ahead}
 use Rattle.json.proofs.Turns.{mark-most}
+use Rattle.json.proofs.Steps.{no-end, some-end}
 use Rattle.places.specs.declared.Given.{Given}
 use Rattle.places.specs.declared.Given.the-variants.{Once, Never, Twice}
+use Rattle.places.specs.declared.Four.{Four}
 use Rattle.places.specs.declared.Threes.the-variants.{Are, Wrong}
-use Rattle.places.specs.Places.{nextElement, orStart, valueOf, nextMember, firstIn, itemsBy, itemsFrom, elementsFrom, elements, members, isText, keep, isName, named, only, member, onceOf, needed, pickNth, element, threeOf, loneOf, namedFrom, opened, anyOf}
+use Rattle.places.specs.Places.{nextElement, orStart, valueOf, nextMember, firstIn, itemsBy, itemsFrom, elementsFrom, elements, members, isText, keep, isName, named, only, member, onceOf, needed, pickNth, element, threeOf, loneOf, namedFrom, more, noted, fourFrom, fourOf}
 
 -- ---- what stands behind a part and a mark lies onward, within the text
 
@@ -92,23 +94,14 @@ module _ (next : ℕ → Found) (s : List ℕ) (on : (i : ℕ) → Onward (lengt
 -- ---- what the steps need: b, j, k and r are what calls gave
 
 module _ (s : List ℕ) (i : ℕ) where
-  module _ {r : Found} (er : r ≡ valueAt deepest s i) where
-    pub element-none : r ≡ Nothing → Nothing ≡ nextElement s i
+  module _ {e : ℕ} (ee : e ≡ endOf (valueAt deepest s i)) where
+    pub element-none : e ≡ 0 → Nothing ≡ nextElement s i
     unfolding nextElement
-    element-none e = sym (then-nothing _ _ (sym er ∙ e))
+    element-none z = sym (then-nothing _ _ (no-end i _ (value-ahead deepest s i) ee z))
 
-    pub element-next : {e : ℕ} {q : Found} → r ≡ At e → q ≡ markAt 44 s e → q ≡ nextElement s i
+    pub element-next : {q : Found} → (e ≡ 0 → ⊥) → q ≡ markAt 44 s e → q ≡ nextElement s i
     unfolding nextElement
-    element-next {e} ee eq = eq ∙ sym (then-at _ _ e (sym er ∙ ee))
-
-  module _ {r : Found} (er : r ≡ memberAt (valueAt deepest s) s i) where
-    pub member-none : r ≡ Nothing → Nothing ≡ nextMember s i
-    unfolding nextMember
-    member-none e = sym (then-nothing _ _ (sym er ∙ e))
-
-    pub member-next : {e : ℕ} {q : Found} → r ≡ At e → q ≡ markAt 44 s e → q ≡ nextMember s i
-    unfolding nextMember
-    member-next {e} ee eq = eq ∙ sym (then-at _ _ e (sym er ∙ ee))
+    element-next z eq = eq ∙ sym (then-at _ _ e (some-end _ ee z))
 
   module _ {r : Found} (er : r ≡ stringAt s i) where
     pub value-unnamed : r ≡ Nothing → 0 ≡ valueOf s i
@@ -123,6 +116,37 @@ module _ (s : List ℕ) (i : ℕ) where
       pub value-there : {v : ℕ} → q ≡ At v → v ≡ valueOf s i
       unfolding valueOf orStart
       value-there t = sym (ap orStart (then-at _ _ e (sym er ∙ ee) ∙ sym eq ∙ t))
+
+-- the member behind another stands where the element behind its value would
+then-then : (p : Found) (f g : ℕ → Found) → andThen p (λ e. andThen (f e) g) ≡ andThen (andThen p f) g
+unfolding andThen
+then-then (At e) f g = refl
+then-then Nothing f g = refl
+
+as-end : (p : Found) → orStart p ≡ endOf p
+unfolding orStart endOf
+as-end (At v) = refl
+as-end Nothing = refl
+
+module _ (s : List ℕ) (m : ℕ) {v : ℕ} (ev : v ≡ valueOf s m) where
+  by-value : nextMember s m ≡ andThen (andThen (stringAt s m) (markAt 0x3A s)) (nextElement s)
+  unfolding nextMember memberAt nextElement
+  by-value =
+      ap (λ (r : Found). andThen r (markAt 0x2C s)) (then-then (stringAt s m) (markAt 0x3A s) (valueAt deepest s))
+      ∙ sym (then-then (andThen (stringAt s m) (markAt 0x3A s)) (valueAt deepest s) (markAt 0x2C s))
+
+  past-start : (e : ℕ) → andThen (stringAt s m) (markAt 0x3A s) ≡ At e → 0 + 1 ≤ e
+  past-start e q = then-case (0 + 1 ≤ e) (stringAt s m) (markAt 0x3A s) e q (λ n g h. omega (arith, mark-ahead 0x3A s n e h))
+
+  by-end : v ≡ endOf (andThen (stringAt s m) (markAt 0x3A s))
+  unfolding valueOf
+  by-end = ev ∙ as-end (andThen (stringAt s m) (markAt 0x3A s))
+
+  pub member-none : v ≡ 0 → Nothing ≡ nextMember s m
+  member-none z = sym (by-value ∙ then-nothing _ _ (no-end 0 _ past-start by-end z))
+
+  pub member-next : {q : Found} → (v ≡ 0 → ⊥) → q ≡ nextElement s v → q ≡ nextMember s m
+  member-next z eq = eq ∙ sym (by-value ∙ then-at _ _ v (some-end _ by-end z))
 
 module _ (opening closing : ℕ) (s : List ℕ) (p : ℕ) {a : ℕ} (ea : a ≡ getD s p 0) where
   pub first-none : (a ≡ opening → ⊥) → Nothing ≡ firstIn opening closing s p
@@ -149,48 +173,115 @@ module _ (words s : List ℕ) (p : ℕ) {b : ℕ} (eb : b ≡ getD s p 0) where
   unfolding isText
   text-same t e = rw (← eb, eq-eqb b 0x22 t) e
 
--- ---- the search for a name, begun at m and come to i
+-- ---- what is known of a name
 
-pub record Seeking (name s : List ℕ) (m i : ℕ) : Type 0 where
-  pub here : i ≤ length s
-  pub left : namedFrom name s (At m) ≡ namedFrom name s (At i)
+module _ (g : Given) (v : ℕ) where
+  pub more-first : g ≡ Never → Once v ≡ more g v
+  unfolding more
+  more-first e = rw e
 
-pub seek-start : (name s : List ℕ) (m : ℕ) → m ≤ length s → Seeking name s m m
-seek-start name s m h = record { here = h; left = refl }
+  pub more-second : {w : ℕ} → g ≡ Once w → Twice ≡ more g v
+  unfolding more
+  more-second e = rw e
 
-named-cons : (name s : List ℕ) (i : ℕ) {t : Bool} → i ≤ length s → t ≡ isName name s i
-    → namedFrom name s (At i) ≡ pick t (i ∷ namedFrom name s (nextMember s i)) (namedFrom name s (nextMember s i))
-unfolding namedFrom
-named-cons name s i h e =
-    ap (keep (isName name s)) (items-cons (nextMember s) s (member-onward s) i h) ∙ (unfold keep in rw (sym e))
+  pub more-later : g ≡ Twice → Twice ≡ more g v
+  unfolding more
+  more-later e = rw e
 
-pub seek-room : {name s : List ℕ} {m i : ℕ} → Seeking name s m i → length s * 1 < 2 ^ 63 → Fits w64 (i + 1)
-seek-room k h = omega (arith, k .here)
+pub note-room : (s : List ℕ) (m : ℕ) → m ≤ length s → length s * 1 < 2 ^ 63 → Fits w64 (m + 1)
+note-room s m l h = omega arith
 
-module _ {name s : List ℕ} {m i : ℕ} (k : Seeking name s m i) {t : Bool} (er : t ≡ eqList (unescaped s (length s + 1) (i + 1)) name) where
-  et : t ≡ isName name s i
+module _ (name s : List ℕ) (g : Given) (m : ℕ) {t : Bool} (er : t ≡ eqList (unescaped s (length s + 1) (m + 1)) name) where
+  et : isName name s m ≡ t
   unfolding isName
-  et = er
+  et = sym er
 
-  pub seek-hit : t ≡ true → namedFrom name s (At m) ≡ opened name s (At i)
-  unfolding opened
-  seek-hit e = k .left ∙ named-cons name s i (k .here) et ∙ rw e
+  pub noted-yes : {v : ℕ} {r : Given} → t ≡ true → v ≡ valueOf s m → r ≡ more g v → r ≡ noted name s g m
+  unfolding noted
+  noted-yes e ev e2 = e2 ∙ ap (more g) ev ∙ rw (et ∙ e)
 
-  module _ (e : t ≡ false) {q : Found} (eq : q ≡ nextMember s i) where
-    pub seek-end : q ≡ Nothing → namedFrom name s (At m) ≡ opened name s Nothing
-    unfolding opened
-    seek-end g = k .left ∙ named-cons name s i (k .here) et ∙ rw (e, sym eq ∙ g) (unfold namedFrom itemsBy keep in refl)
+  pub noted-no : t ≡ false → g ≡ noted name s g m
+  unfolding noted
+  noted-no e = rw (et ∙ e)
 
-    pub seek-on : {j : ℕ} → q ≡ At j → Seeking name s m j
-    seek-on {j} g =
-        let n : nextMember s i ≡ At j = sym eq ∙ g in
-        let o : Onward (length s) i (At j) = rw n at (member-onward s i) in
-        record { here = o .1; left = k .left ∙ named-cons name s i (k .here) et ∙ rw (e, n) }
+-- ---- the walk for four names, begun at m and come to i
 
-  pub seek-less : {q : Found} {j : ℕ} → q ≡ nextMember s i → q ≡ At j → length s - j < length s - i
-  seek-less {q} {j} eq g =
-      let o : Onward (length s) i (At j) = rw (sym eq ∙ g) at (member-onward s i) in
-      omega (arith, o .0, o .1)
+-- what is known of a name, with the members of a list that have it
+unfoldable pub joined : List ℕ → Given → List ℕ → Given
+joined s g [] = g
+joined s g (m ∷ l) = joined s (more g (valueOf s m)) l
+
+joined-twice : (s l : List ℕ) → joined s Twice l ≡ Twice
+unfolding more joined
+joined-twice s [] = refl
+joined-twice s (m ∷ l) = joined-twice s l
+
+joined-only : (s l : List ℕ) → only s l ≡ joined s Never l
+unfolding only more joined
+joined-only s [] = refl
+joined-only s (m ∷ []) = refl
+joined-only s (m ∷ n ∷ l) = sym (joined-twice s l)
+
+named-cons : (name s : List ℕ) (i : ℕ) → i ≤ length s
+    → namedFrom name s (At i) ≡ pick (isName name s i) (i ∷ namedFrom name s (nextMember s i)) (namedFrom name s (nextMember s i))
+unfolding namedFrom
+named-cons name s i h = ap (keep (isName name s)) (items-cons (nextMember s) s (member-onward s) i h) ∙ (unfold keep in refl)
+
+joined-pick : (s : List ℕ) (g : Given) (i : ℕ) (l : List ℕ) (t : Bool) → joined s g (pick t (i ∷ l) l) ≡ joined s (pick t (more g (valueOf s i)) g) l
+unfolding joined
+joined-pick s g i l true = refl
+joined-pick s g i l false = refl
+
+abbrev pub Known : List ℕ → List ℕ → ℕ → ℕ → Given → Type 0
+Known name s m i g = only s (namedFrom name s (At m)) ≡ joined s g (namedFrom name s (At i))
+
+-- with the member at i
+known-on : (name s : List ℕ) (m i : ℕ) (g : Given) {h : Given} {q : Found} → i ≤ length s → Known name s m i g → h ≡ noted name s g i → q ≡ nextMember s i
+    → only s (namedFrom name s (At m)) ≡ joined s h (namedFrom name s q)
+unfolding noted
+known-on name s m i g l k eh eq =
+    k ∙ ap (joined s g) (named-cons name s i l) ∙ joined-pick s g i (namedFrom name s (nextMember s i)) (isName name s i) ∙ rw (eh, eq)
+
+pub record Walking (a b c d s : List ℕ) (m i : ℕ) (w x y z : Given) : Type 0 where
+  pub here : i ≤ length s
+  pub first : Known a s m i w
+  pub second : Known b s m i x
+  pub third : Known c s m i y
+  pub fourth : Known d s m i z
+
+pub walk-start : (a b c d s : List ℕ) (m : ℕ) → m ≤ length s → Walking a b c d s m m Never Never Never Never
+walk-start a b c d s m h =
+    record { here = h; first = joined-only s _; second = joined-only s _; third = joined-only s _; fourth = joined-only s _ }
+
+module _ {a b c d s : List ℕ} {m i : ℕ} {w x y z : Given} (k : Walking a b c d s m i w x y z) where
+  module _ {w' x' y' z' : Given} (ew : w' ≡ noted a s w i) (ex : x' ≡ noted b s x i) (ey : y' ≡ noted c s y i) (ez : z' ≡ noted d s z i) {q : Found} (eq : q ≡ nextMember s i) where
+    none-left : (name : List ℕ) (g : Given) → q ≡ Nothing → joined s g (namedFrom name s q) ≡ g
+    unfolding namedFrom itemsBy keep joined
+    none-left name g e = rw e
+
+    pub walk-end : q ≡ Nothing → _≡_ {A = Four} (record { a = w'; b = x'; c = y'; d = z' }) (fourFrom a b c d s (At m))
+    walk-end e =
+        let p = known-on a s m i w (k .here) (k .first) ew eq ∙ none-left a w' e in
+        let r = known-on b s m i x (k .here) (k .second) ex eq ∙ none-left b x' e in
+        let t = known-on c s m i y (k .here) (k .third) ey eq ∙ none-left c y' e in
+        let u = known-on d s m i z (k .here) (k .fourth) ez eq ∙ none-left d z' e in
+        sym (λ i. record { a = p i; b = r i; c = t i; d = u i })
+
+    pub walk-on : {j : ℕ} → q ≡ At j → Walking a b c d s m j w' x' y' z'
+    walk-on {j} e =
+        let o : Onward (length s) i (At j) = rw (sym eq ∙ e) at (member-onward s i) in
+        record {
+          here = o .1;
+          first = known-on a s m i w (k .here) (k .first) ew (sym e ∙ eq);
+          second = known-on b s m i x (k .here) (k .second) ex (sym e ∙ eq);
+          third = known-on c s m i y (k .here) (k .third) ey (sym e ∙ eq);
+          fourth = known-on d s m i z (k .here) (k .fourth) ez (sym e ∙ eq);
+        }
+
+pub walk-less : (s : List ℕ) (i : ℕ) {q : Found} {j : ℕ} → q ≡ nextMember s i → q ≡ At j → length s - j < length s - i
+walk-less s i {q} {j} eq e =
+    let o : Onward (length s) i (At j) = rw (sym eq ∙ e) at (member-onward s i) in
+    omega (arith, o .0, o .1)
 
 -- ---- the way to the k-th element, begun at a and come to i with n to go
 
@@ -238,63 +329,23 @@ pub one-less : (n : ℕ) → (n ≡ 0 → ⊥) → n - 1 < n
 one-less zero h = absurd (h refl)
 one-less (suc n) h = omega arith
 
--- ---- another member with the name
+-- ---- the members with four names
 
-module _ (name s : List ℕ) (m : ℕ) {q : Found} (eq : q ≡ nextMember s m) where
-  pub another-none : q ≡ Nothing → false ≡ anyOf (namedFrom name s (nextMember s m))
-  unfolding namedFrom itemsBy keep anyOf
-  another-none g = rw (sym eq ∙ g)
-
-  module _ {b : ℕ} (g : q ≡ At b) where
-    pub another-room : b ≤ length s
-    another-room = let o : Onward (length s) m (At b) = rw (sym eq ∙ g) at (member-onward s m) in o .1
-
-    module _ {r : Found} (er : namedFrom name s (At b) ≡ opened name s r) where
-      pub another-no : r ≡ Nothing → false ≡ anyOf (namedFrom name s (nextMember s m))
-      another-no e = rw (sym eq ∙ g, er, e) (unfold opened anyOf in refl)
-
-      pub another-yes : {n : ℕ} → r ≡ At n → true ≡ anyOf (namedFrom name s (nextMember s m))
-      another-yes e = rw (sym eq ∙ g, er, e) (unfold opened anyOf in refl)
-
--- ---- the one member with the name
-
-only-many : (s : List ℕ) (m : ℕ) (l : List ℕ) → anyOf l ≡ true → only s (m ∷ l) ≡ Twice
-unfolding only anyOf
-only-many s m [] e = let z : _≡_ {A = ℕ} 0 1 = cc in absurd (omega arith)
-only-many s m (x ∷ l) e = refl
-
-only-one : (s : List ℕ) (m : ℕ) (l : List ℕ) → anyOf l ≡ false → only s (m ∷ l) ≡ Once (valueOf s m)
-unfolding only anyOf
-only-one s m [] e = refl
-only-one s m (x ∷ l) e = let z : _≡_ {A = ℕ} 0 1 = cc in absurd (omega arith)
-
-module _ (name s : List ℕ) (p : ℕ) {q : Found} (eq : q ≡ firstIn 0x7B 0x7D s p) where
-  member-is : member name s p ≡ only s (namedFrom name s q)
+module _ (a b c d s : List ℕ) (p : ℕ) {q : Found} (eq : q ≡ firstIn 0x7B 0x7D s p) where
+  four-is : fourOf a b c d s p ≡ fourFrom a b c d s q
   unfolding member named members namedFrom
-  member-is = rw eq
+  four-is = rw eq
 
-  pub no-object : q ≡ Nothing → Never ≡ member name s p
-  no-object g = sym (member-is ∙ rw g (unfold namedFrom itemsBy keep only in refl))
+  pub four-none : q ≡ Nothing → _≡_ {A = Four} (record { a = Never; b = Never; c = Never; d = Never }) (fourOf a b c d s p)
+  unfolding namedFrom itemsBy keep only
+  four-none g = sym (four-is ∙ rw g)
 
-  module _ {a : ℕ} (g : q ≡ At a) where
-    pub object-room : a ≤ length s
-    object-room =
-        let o : Onward (length s) p (At a) = rw (sym eq ∙ g) at (first-onward 0x7B 0x7D s p (omega arith)) in
-        o .1
+  module _ {m : ℕ} (g : q ≡ At m) where
+    pub four-room : m ≤ length s
+    four-room = let o : Onward (length s) p (At m) = rw (sym eq ∙ g) at (first-onward 0x7B 0x7D s p (omega arith)) in o .1
 
-    module _ {r : Found} (er : namedFrom name s (At a) ≡ opened name s r) where
-      pub no-name : r ≡ Nothing → Never ≡ member name s p
-      no-name e = sym (member-is ∙ rw (g, er, e) (unfold opened only in refl))
-
-      module _ {m : ℕ} (e : r ≡ At m) {t : Bool} (et : t ≡ anyOf (namedFrom name s (nextMember s m))) where
-        by-first : member name s p ≡ only s (m ∷ namedFrom name s (nextMember s m))
-        by-first = member-is ∙ rw (g, er, e) (unfold opened in refl)
-
-        pub name-twice : t ≡ true → Twice ≡ member name s p
-        name-twice u = sym (by-first ∙ only-many s m (namedFrom name s (nextMember s m)) (sym et ∙ u))
-
-        pub name-once : {v : ℕ} → t ≡ false → v ≡ valueOf s m → Once v ≡ member name s p
-        name-once u ev = sym (by-first ∙ only-one s m (namedFrom name s (nextMember s m)) (sym et ∙ u) ∙ ap Once (sym ev))
+    pub four-some : {r : Four} → r ≡ fourFrom a b c d s (At m) → r ≡ fourOf a b c d s p
+    four-some er = er ∙ ap (fourFrom a b c d s) (sym g) ∙ sym four-is
 
 -- ---- an element
 
@@ -313,20 +364,24 @@ module _ (k : ℕ) (s : List ℕ) (p : ℕ) {q : Found} (eq : q ≡ firstIn 0x5B
     unfolding element elements
     element-is e = rw (sym eq ∙ g) e
 
--- ---- members
+-- ---- a member that is needed
 
-module _ (name s : List ℕ) (p : ℕ) {f : Given} (ef : f ≡ member name s p) where
-  pub needed-once : {v : ℕ} → f ≡ Once v → At v ≡ needed name s p
-  unfolding needed onceOf
-  needed-once e = rw (sym ef ∙ e)
+module _ (g : Given) where
+  pub once-once : {v : ℕ} → g ≡ Once v → At v ≡ onceOf g
+  unfolding onceOf
+  once-once e = rw e
 
-  pub needed-never : f ≡ Never → Nothing ≡ needed name s p
-  unfolding needed onceOf
-  needed-never e = rw (sym ef ∙ e)
+  pub once-never : g ≡ Never → Nothing ≡ onceOf g
+  unfolding onceOf
+  once-never e = rw e
 
-  pub needed-twice : f ≡ Twice → Nothing ≡ needed name s p
-  unfolding needed onceOf
-  needed-twice e = rw (sym ef ∙ e)
+  pub once-twice : g ≡ Twice → Nothing ≡ onceOf g
+  unfolding onceOf
+  once-twice e = rw e
+
+pub needed-is : (name s : List ℕ) (p : ℕ) {f : Four} {r : Found} → f ≡ fourOf name name name name s p → r ≡ onceOf (f .a) → r ≡ needed name s p
+unfolding needed
+needed-is name s p ef er = er ∙ ap (λ (x : Four). onceOf (x .a)) ef
 
 -- ---- arrays of three and of one
 
@@ -395,10 +450,8 @@ module _ (s : List ℕ) (p : ℕ) {q : Found} (eq : q ≡ firstIn 0x5B 0x5D s p)
 
 pub ruleset steps = (mark-room, element-none, element-next, member-none, member-next, value-unnamed, value-unmarked, value-there, first-none, first-empty, first-some, text-none, text-same, needs)
 
-pub ruleset seeking = (seek-start, seek-room, seek-hit, seek-end, seek-on, seek-less, needs)
+pub ruleset walking = (more-first, more-second, more-later, note-room, noted-yes, noted-no, walk-start, walk-end, walk-on, walk-less, four-none, four-room, four-some, once-once, once-never, once-twice, needed-is, needs)
 
 pub ruleset reaching = (reach-start, reach-end, reach-gone, reach-on, one-less, needs)
 
-pub ruleset finding = (another-none, another-room, another-no, another-yes, no-object, object-room, no-name, name-twice, name-once, no-array, array-room, element-is, needs)
-
-pub ruleset arrays = (needed-once, needed-never, needed-twice, three-none, three-one, three-two, three-are, three-many, lone-none, lone-one, lone-many, needs)
+pub ruleset arrays = (no-array, array-room, element-is, three-none, three-one, three-two, three-are, three-many, lone-none, lone-one, lone-many, needs)

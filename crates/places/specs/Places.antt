@@ -1,7 +1,8 @@
 -- Places in a JSON text: the elements of an array, the members of an object, and the one member with a name.
 -- A place is the position of a value's first byte; a member's place is that of its name's quotation mark.
 use Prim.Native.Nat.{ℕ, zero, suc, _+_}
-use mathlib.Core.Bool.{Bool, true, false, _&&_}
+use mathlib.Core.Path.{_≡_}
+use mathlib.Core.Bool.{Bool, true, _&&_}
 use mathlib.Core.List.{List, [], _∷_}
 use lib.Dec.{eqb}
 use lib.ListN.{length}
@@ -11,10 +12,11 @@ use Rattle.text.specs.Parts.{andThen, ws, markAt}
 use Rattle.text.specs.declared.Found.{Found}
 use Rattle.text.specs.declared.Found.the-variants.{At, Nothing}
 use Rattle.strings.specs.Chars.{stringAt}
-use Rattle.strings.specs.Names.{textAt, eqList}
+use Rattle.strings.specs.Names.{textAt, eqList, ascii}
 use Rattle.json.specs.Grammar.{deepest, memberAt, valueAt}
 use Rattle.places.specs.declared.Given.{Given}
 use Rattle.places.specs.declared.Given.the-variants.{Once, Never, Twice}
+use Rattle.places.specs.declared.Four.{Four}
 use Rattle.places.specs.declared.Threes.{Threes}
 use Rattle.places.specs.declared.Threes.the-variants.{Are, Wrong}
 
@@ -124,14 +126,31 @@ loneOf [] = Nothing
 loneOf (a ∷ []) = At a
 loneOf (a ∷ b ∷ l) = Nothing
 
--- ---- what the search for a name tells: the first that has it and all that follow
+-- ---- what one walk tells of four names
+
+-- the members from q on that have this name
 unfoldable pub namedFrom : List ℕ → List ℕ → Found → List ℕ
 namedFrom name s q = keep (isName name s) (itemsFrom (nextMember s) s q)
 
-unfoldable pub opened : List ℕ → List ℕ → Found → List ℕ
-opened name s (At m) = m ∷ namedFrom name s (nextMember s m)
-opened name s Nothing = []
+-- one more member with a name, whose value is at v
+unfoldable pub more : Given → ℕ → Given
+more Never v = Once v
+more (Once w) v = Twice
+more Twice v = Twice
 
-unfoldable pub anyOf : List ℕ → Bool
-anyOf [] = false
-anyOf (m ∷ l) = true
+-- what is known of a name, with the member at m
+unfoldable pub noted : List ℕ → List ℕ → Given → ℕ → Given
+noted name s g m = pick (isName name s m) (more g (valueOf s m)) g
+
+pub record AllAscii (a b c d : List ℕ) : Type 0 where
+  pub first : ascii a ≡ true
+  pub second : ascii b ≡ true
+  pub third : ascii c ≡ true
+  pub fourth : ascii d ≡ true
+
+module _ (a b c d s : List ℕ) where
+  abbrev pub fourFrom : Found → Four
+  fourFrom q = record { a = only s (namedFrom a s q); b = only s (namedFrom b s q); c = only s (namedFrom c s q); d = only s (namedFrom d s q) }
+
+  abbrev pub fourOf : ℕ → Four
+  fourOf p = record { a = member a s p; b = member b s p; c = member c s p; d = member d s p }

@@ -5,7 +5,7 @@ ghost use Prim.Native.Nat.{_≤_, _<_};
 ghost use lib.ListN.{length};
 ghost use Rattle.text.specs.declared.Found.the-variants.{At};
 ghost use Rattle.strings.specs.Names.{ascii};
-ghost use Rattle.places.specs.Places.{nextElement, nextMember, valueOf, firstIn, isText, namedFrom, opened, anyOf, member, needed, pickNth, elementsFrom, element, elements, threeOf, loneOf};
+ghost use Rattle.places.specs.Places.{nextElement, nextMember, valueOf, firstIn, isText, AllAscii, more, noted, fourFrom, fourOf, onceOf, needed, pickNth, elementsFrom, element, elements, threeOf, loneOf};
 use text::Found;
 
 // The value of the member with a name: where it is if the object has that member once.
@@ -13,6 +13,14 @@ pub enum Given {
     Once(usize),
     Never,
     Twice,
+}
+
+// The same of four names.
+pub struct Four {
+    pub a: Given,
+    pub b: Given,
+    pub c: Given,
+    pub d: Given,
 }
 
 // The places of an array's elements, if it has just three.
@@ -31,23 +39,25 @@ pub enum Threes {
 fn next_element(s: &[u8], i: usize) -> Found
     ensures { λ r. ⌜ r ≡ nextElement (now (s .entry)) i ⌝ }
 {
-    let Found::At(e) = json::skip_value(s, i, 32) else {
+    let e = json::skip_value(s, i, 32);
+    if e == 0 {
         return Found::Nothing;
-    };
+    }
     text::skip_mark(s, e, b',')
 }
 
-// The member behind the one at m.
-fn next_member(s: &[u8], m: usize) -> Found
+// The member behind the one at m, whose value is at v.
+fn next_member(s: &[u8], m: usize, v: usize) -> Found
+    requires { ⌜ v ≡ valueOf (now s) m ⌝ }
     ensures { λ r. ⌜ r ≡ nextMember (now (s .entry)) m ⌝ }
 {
-    let Found::At(e) = json::skip_member(s, m, 32) else {
+    if v == 0 {
         return Found::Nothing;
-    };
-    text::skip_mark(s, e, b',')
+    }
+    next_element(s, v)
 }
 
-// The value of the member at m.
+// The value of the member at m; 0, where no value stands, if there is none.
 fn value_of(s: &[u8], m: usize) -> usize
     ensures { λ r. ⌜ r ≡ valueOf (now (s .entry)) m ⌝ }
 {
@@ -83,68 +93,95 @@ pub fn is_text(s: &[u8], p: usize, words: &[u8]) -> bool
     if text::byte(s, p) != b'"' {
         return false;
     }
-    strings::name_is(s, p + 1, words)
+    strings::says(s, p + 1, words)
 }
 
-// The first member from m on that has the name.
-fn named_from(s: &[u8], m: usize, name: &[u8]) -> Found
-    requires { ⌜ (ascii (now name) ≡ true) × (m ≤ length (now s)) ⌝ }
-    ensures { λ r. ⌜ namedFrom (now (name .entry)) (now (s .entry)) (At m) ≡ opened (now (name .entry)) (now (s .entry)) r ⌝ }
+// One more member with a name, whose value is at v.
+fn more(g: Given, v: usize) -> Given
+    ensures { λ r. ⌜ r ≡ more g v ⌝ }
+{
+    match g {
+        Given::Never => Given::Once(v),
+        Given::Once(_first) => Given::Twice,
+        Given::Twice => Given::Twice,
+    }
+}
+
+// What is known of a name, with the member at m, whose value is at v.
+fn noted(s: &[u8], m: usize, v: usize, name: &[u8], g: Given) -> Given
+    requires { ⌜ (ascii (now name) ≡ true) × (m ≤ length (now s)) × (v ≡ valueOf (now s) m) ⌝ }
+    ensures { λ r. ⌜ r ≡ noted (now (name .entry)) (now (s .entry)) g m ⌝ }
+{
+    if strings::name_is(s, m + 1, name) {
+        return more(g, v);
+    }
+    g
+}
+
+// The values of the members with these names, among the members from m on. What is known of each is a local of its own, which
+// stays in a register.
+fn four_from(s: &[u8], m: usize, a: &[u8], b: &[u8], c: &[u8], d: &[u8]) -> Four
+    requires { ⌜ AllAscii (now a) (now b) (now c) (now d) × (m ≤ length (now s)) ⌝ }
+    ensures { λ r. ⌜ r ≡ fourFrom (now (a .entry)) (now (b .entry)) (now (c .entry)) (now (d .entry)) (now (s .entry)) (At m) ⌝ }
 {
     let mut i = m;
+    let mut w = Given::Never;
+    let mut x = Given::Never;
+    let mut y = Given::Never;
+    let mut z = Given::Never;
     loop {
-        if strings::name_is(s, i + 1, name) {
-            return Found::At(i);
-        }
-        let Found::At(j) = next_member(s, i) else {
-            return Found::Nothing;
+        let v = value_of(s, i);
+        w = noted(s, i, v, a, w);
+        x = noted(s, i, v, b, x);
+        y = noted(s, i, v, c, y);
+        z = noted(s, i, v, d, z);
+        let Found::At(j) = next_member(s, i, v) else {
+            return Four {
+                a: w,
+                b: x,
+                c: y,
+                d: z,
+            };
         };
         i = j;
     }
 }
 
-// Does a member behind the one at m have the name?
-fn another(s: &[u8], m: usize, name: &[u8]) -> bool
-    requires { ⌜ ascii (now name) ≡ true ⌝ }
-    ensures { λ r. ⌜ r ≡ anyOf (namedFrom (now (name .entry)) (now (s .entry)) (nextMember (now (s .entry)) m)) ⌝ }
+// The value of the one member with each of these names in the object at p, which is walked once.
+pub fn four_members(s: &[u8], p: usize, a: &[u8], b: &[u8], c: &[u8], d: &[u8]) -> Four
+    requires { ⌜ AllAscii (now a) (now b) (now c) (now d) ⌝ }
+    ensures { λ r. ⌜ r ≡ fourOf (now (a .entry)) (now (b .entry)) (now (c .entry)) (now (d .entry)) (now (s .entry)) p ⌝ }
 {
-    let Found::At(b) = next_member(s, m) else {
-        return false;
+    let Found::At(m) = first_in(s, p, b'{', b'}') else {
+        return Four {
+            a: Given::Never,
+            b: Given::Never,
+            c: Given::Never,
+            d: Given::Never,
+        };
     };
-    let Found::At(_n) = named_from(s, b, name) else {
-        return false;
-    };
-    true
-}
-
-// The value of the one member with the name in the object at p.
-pub fn member(s: &[u8], p: usize, name: &[u8]) -> Given
-    requires { ⌜ ascii (now name) ≡ true ⌝ }
-    ensures { λ r. ⌜ r ≡ member (now (name .entry)) (now (s .entry)) p ⌝ }
-{
-    let Found::At(a) = first_in(s, p, b'{', b'}') else {
-        return Given::Never;
-    };
-    let Found::At(m) = named_from(s, a, name) else {
-        return Given::Never;
-    };
-    if another(s, m, name) {
-        return Given::Twice;
-    }
-    Given::Once(value_of(s, m))
+    four_from(s, m, a, b, c, d)
 }
 
 // The value of a member that must be there, once.
-pub fn needed(s: &[u8], p: usize, name: &[u8]) -> Found
-    requires { ⌜ ascii (now name) ≡ true ⌝ }
-    ensures { λ r. ⌜ r ≡ needed (now (name .entry)) (now (s .entry)) p ⌝ }
+pub fn once(g: Given) -> Found
+    ensures { λ r. ⌜ r ≡ onceOf g ⌝ }
 {
-    let given = member(s, p, name);
-    match given {
+    match g {
         Given::Once(v) => Found::At(v),
         Given::Never => Found::Nothing,
         Given::Twice => Found::Nothing,
     }
+}
+
+// The value of the one member with this name, which must be there: the walk for four names serves for one.
+pub fn needed(s: &[u8], p: usize, name: &[u8]) -> Found
+    requires { ⌜ ascii (now name) ≡ true ⌝ }
+    ensures { λ r. ⌜ r ≡ needed (now (name .entry)) (now (s .entry)) p ⌝ }
+{
+    let f = four_members(s, p, name, name, name, name);
+    let g = f.a;
+    once(g)
 }
 
 // The k-th element from the one at a on.

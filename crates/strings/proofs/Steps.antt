@@ -11,12 +11,12 @@ use lib.Dec.{ltb, leb, eqb}
 use mir.Syntax.{w64}
 use mir.Val.{Fits}
 use Rattle.refusal.proofs.Tests.{both}
-use Rattle.text.specs.Bytes.{choose, same, under, inside, isDigit}
+use Rattle.text.specs.Bytes.{choose, same, under, inside, isDigit, span}
 use Rattle.text.specs.declared.Found.the-variants.{At, Nothing}
-use Rattle.text.proofs.Laws.{if-yes, if-no, if-eq, if-ne, within}
-use Rattle.text.proofs.Steps.{mark-room}
-use Rattle.strings.specs.Chars.{isHex, isShort, isTail, isSecond, utf8Len, escapeLen, charLen, charsAt, stringAt}
-use Rattle.strings.specs.Names.{hexValue, unitOf, unitAt, shortByte, unescaped, eqList, ascii, asciiOf, asciiAt, agrees}
+use Rattle.text.proofs.Laws.{if-yes, if-no, if-eq, if-ne, not-same, in-text, within, span-on, span-stop, le-span}
+use Rattle.text.proofs.Steps.{along-start, along-end, along-fits, along-less, along-on, mark-room}
+use Rattle.strings.specs.Chars.{isHex, isShort, isPlain, isTail, isSecond, utf8Len, escapeLen, charLen, charsAt, stringAt}
+use Rattle.strings.specs.Names.{hexValue, unitOf, unitAt, shortByte, unescaped, eqList, ascii, asciiOf, asciiAt, differs, agrees}
 use Rattle.strings.proofs.Characters.{char-here, char-le, chars-end, chars-bad, chars-on}
 use Rattle.strings.proofs.Naming.{name-end, name-no, name-long, name-on}
 
@@ -106,6 +106,42 @@ module _ (s : List ℕ) (i : ℕ) {b : ℕ} (eb : b ≡ getD s i 0) where
 
 pub ruleset measuring = (utf8-1, utf8-2, utf8-3, utf8-4, utf8-0, escape-2, escape-6, escape-0, escape-read, utf8-read, char-low, char-text, char-quote, char-escape, char-plain, needs)
 
+-- ---- plain characters
+
+pub plain-zero : isPlain 0 ≡ false
+unfolding isPlain inside
+plain-zero = refl
+
+module _ (s : List ℕ) (i : ℕ) (e : isPlain (getD s i 0) ≡ true) where
+  plain-parts : (inside 0x20 0x7F (getD s i 0) ≡ true) × (not (same (getD s i 0) 0x22) ≡ true) × (not (same (getD s i 0) 0x5C) ≡ true)
+  unfolding isPlain
+  plain-parts =
+      let p = both (inside 0x20 0x7F (getD s i 0)) _ e in
+      let q = both (not (same (getD s i 0) 0x22)) (not (same (getD s i 0) 0x5C)) (p .1) in
+      (p .0, q .0, q .1)
+
+  plain-low : (0x20 ≤ getD s i 0) × (getD s i 0 ≤ 0x7F)
+  unfolding inside
+  plain-low =
+      let p = both (leb 0x20 (getD s i 0)) (leb (getD s i 0) 0x7F) (plain-parts .0) in
+      (leb-true 0x20 (getD s i 0) (p .0), leb-true (getD s i 0) 0x7F (p .1))
+
+  plain-mark : getD s i 0 ≡ 0x22 → ⊥
+  plain-mark = not-same _ _ (not-true _ (plain-parts .1))
+
+  plain-slash : getD s i 0 ≡ 0x5C → ⊥
+  plain-slash = not-same _ _ (not-true _ (plain-parts .2))
+
+  pub plain-one : charLen s i ≡ 1
+  unfolding charLen utf8Len
+  plain-one = if-ge _ _ _ _ (plain-low .0) ∙ if-ne _ _ _ _ plain-mark ∙ if-ne _ _ _ _ plain-slash ∙ if-lt _ _ _ _ (omega (arith, plain-low .1))
+
+  pub plain-itself : asciiAt s i ≡ getD s i 0
+  unfolding asciiAt asciiOf
+  plain-itself = if-ne _ _ _ _ plain-slash ∙ if-lt _ _ _ _ (omega (arith, plain-low .1))
+
+pub ruleset plainly = (plain-zero, along-start, along-end, along-fits, along-less, along-on, needs)
+
 -- ---- the string that begins at `at` is passed up to i
 
 pub record Passing (s : List ℕ) (at i : ℕ) : Type 0 where
@@ -121,18 +157,38 @@ pub pass-start : (s : List ℕ) (at : ℕ) {b : ℕ} → b ≡ getD s at 0 → b
 unfolding stringAt
 pass-start s at eb t = record { fuel = length s; enough = omega arith; left = if-eq _ _ _ _ (sym eb ∙ t) }
 
-module _ {s : List ℕ} {at i : ℕ} (k : Passing s at i) {b : ℕ} (eb : b ≡ getD s i 0) where
-  pub pass-end : b ≡ 34 → At (i + 1) ≡ stringAt s at
-  pass-end t = sym (k .left ∙ chars-end s (k .fuel) i (k .enough) (sym eb ∙ t))
+pass-char : {s : List ℕ} {at i : ℕ} (c : ℕ) → Passing s at i → c ≡ charLen s i → (getD s i 0 ≡ 34 → ⊥) → (c ≡ 0 → ⊥) → Passing s at (i + c)
+pass-char {s} {at} {i} c k ec n z =
+    let x = chars-on s (k .fuel) i c (stringAt s at) (k .enough) (k .left) ec n z in
+    record { fuel = x .0; enough = x .1; left = x .2 }
 
-  module _ (n : b ≡ 34 → ⊥) {c : ℕ} (ec : c ≡ charLen s i) where
+-- plain characters are passed one by one
+plain-turn : (s : List ℕ) (at i : ℕ) (t : Bool) → isPlain (getD s i 0) ≡ t → Passing s at i → (i < length s → Passing s at (i + 1) → Passing s at (span isPlain s (i + 1))) → Passing s at (span isPlain s i)
+plain-turn s at i false e k f = rw (span-stop isPlain s i e) k
+plain-turn s at i true e k f =
+    rw (span-on isPlain s i plain-zero e) (f (in-text isPlain s i plain-zero e) (pass-char 1 k (sym (plain-one s i e)) (plain-mark s i e) (λ q. omega (arith, q))))
+
+pass-plain : (s : List ℕ) (at n i : ℕ) → length s ≤ n + i → Passing s at i → Passing s at (span isPlain s i)
+pass-plain s at zero i h k = plain-turn s at i (isPlain (getD s i 0)) refl k (λ l p. absurd (omega (arith, l)))
+pass-plain s at (suc n) i h k = plain-turn s at i (isPlain (getD s i 0)) refl k (λ l p. pass-plain s at n (i + 1) (omega arith) p)
+
+module _ {s : List ℕ} {at i : ℕ} (k : Passing s at i) {e : ℕ} (ee : e ≡ span isPlain s i) {b : ℕ} (eb : b ≡ getD s e 0) where
+  there : Passing s at e
+  there = rw ee (pass-plain s at (length s) i (omega arith) k)
+
+  pub pass-end : b ≡ 34 → At (e + 1) ≡ stringAt s at
+  pass-end t = sym (there .left ∙ chars-end s (there .fuel) e (there .enough) (sym eb ∙ t))
+
+  module _ (n : b ≡ 34 → ⊥) {c : ℕ} (ec : c ≡ charLen s e) where
     pub pass-bad : c ≡ 0 → Nothing ≡ stringAt s at
-    pass-bad z = sym (k .left ∙ chars-bad s (k .fuel) i (λ q. n (eb ∙ q)) (sym ec ∙ z))
+    pass-bad z = sym (there .left ∙ chars-bad s (there .fuel) e (λ q. n (eb ∙ q)) (sym ec ∙ z))
 
-    pub pass-on : (c ≡ 0 → ⊥) → Passing s at (i + c)
-    pass-on z =
-        let x = chars-on s (k .fuel) i c (stringAt s at) (k .enough) (k .left) ec (λ q. n (eb ∙ q)) z in
-        record { fuel = x .0; enough = x .1; left = x .2 }
+    module _ (z : c ≡ 0 → ⊥) where
+      pub pass-on : Passing s at (e + c)
+      pass-on = pass-char c there ec (λ q. n (eb ∙ q)) z
+
+      pub pass-less : length s - (e + c) < length s - i
+      pass-less = omega (arith, char-here s e c ec z, z, le-span isPlain s i)
 
 module _ (s : List ℕ) (i : ℕ) {c : ℕ} (ec : c ≡ charLen s i) (z : c ≡ 0 → ⊥) where
   pub char-inside : i < length s
@@ -144,7 +200,7 @@ module _ (s : List ℕ) (i : ℕ) {c : ℕ} (ec : c ≡ charLen s i) (z : c ≡ 
   pub char-less : length s - (i + c) < length s - i
   char-less = omega (arith, char-here s i c ec z, z)
 
-pub ruleset strings = (mark-room, pass-none, pass-start, pass-end, pass-bad, pass-on, char-room, char-less, needs)
+pub ruleset strings = (mark-room, pass-none, pass-start, pass-end, pass-bad, pass-on, pass-less, char-room, needs)
 
 -- ---- what a character stands for
 
@@ -284,5 +340,21 @@ module _ {s name : List ℕ} {at i k : ℕ} (g : Agreeing s name at i k) {c : �
       agree-on =
           let x = name-on s name (g .fuel) i k c (eqList (unescaped s (length s + 1) at) name) (g .enough) (g .left) ec z short (ascii-below name small) (eqb-true (asciiAt s i) (getD name k 0) (parts .1)) in
           record { fuel = x .0; enough = x .1; part = omega (arith, short); left = x .2 }
+
+-- ---- the first byte
+
+pub differs-is : (s : List ℕ) (i : ℕ) (name : List ℕ) {a b : ℕ} {t : Bool} → b ≡ getD s i 0 → a ≡ getD name 0 0 → t ≡ isPlain b → (t && not (eqb b a)) ≡ differs s i name
+unfolding differs
+differs-is s i name eb ea et = rw (et, ea, eb)
+
+pub name-differs : (s : List ℕ) (i : ℕ) (name : List ℕ) {t : Bool} → ascii name ≡ true → t ≡ differs s i name → t ≡ true → false ≡ eqList (unescaped s (length s + 1) i) name
+unfolding differs
+name-differs s i name small et e =
+    let p = both (isPlain (getD s i 0)) (not (eqb (getD s i 0) (getD name 0 0))) (sym et ∙ e) in
+    let n = eqb-false (getD s i 0) (getD name 0 0) (not-true _ (p .1)) in
+    let z : charLen s i ≡ 0 → ⊥ = λ q. omega (arith, plain-one s i (p .0), q) in
+    sym (name-no s name (length s + 1) i 0 (omega arith) z (ascii-below name small) (λ q. n (sym (plain-itself s i (p .0)) ∙ q)))
+
+pub ruleset firsts = (differs-is, name-differs, needs)
 
 pub ruleset comparing = (agrees-is, agree-start, agree-end, agree-no, agree-on, agree-room, char-inside, char-room, char-less, needs)

@@ -17,6 +17,10 @@ isHex b = inside 0x30 0x39 b || (inside 0x41 0x46 b || inside 0x61 0x66 b)
 unfoldable pub isShort : ℕ → Bool
 isShort b = same b 0x22 || (same b 0x5C || (same b 0x2F || (same b 0x62 || (same b 0x66 || (same b 0x6E || (same b 0x72 || same b 0x74))))))
 
+-- a character by itself: ASCII from the space on, but the quotation mark and the backslash
+unfoldable pub isPlain : ℕ → Bool
+isPlain b = inside 0x20 0x7F b && (not (same b 0x22) && not (same b 0x5C))
+
 -- UTF8-tail = %x80-BF
 unfoldable pub isTail : ℕ → Bool
 isTail c = inside 0x80 0xBF c

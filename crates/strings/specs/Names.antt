@@ -1,11 +1,11 @@
 -- The text of a string with its escapes undone, as bytes of UTF-8: "strings compare unescaped" (order 'read the settings from the info file').
 use Prim.Native.Nat.{ℕ, zero, suc, _+_, _-_, _*_, _/_, _%_}
 use mathlib.Core.List.{List, [], _∷_, _++_}
-use mathlib.Core.Bool.{Bool, true, false, _&&_}
+use mathlib.Core.Bool.{Bool, true, false, not, _&&_}
 use lib.Dec.{ltb, eqb}
 use lib.ListN.{length, getD, take, drop}
 use Rattle.text.specs.Bytes.{choose, byteAt, same, under, inside, isDigit}
-use Rattle.strings.specs.Chars.{charLen}
+use Rattle.strings.specs.Chars.{isPlain, charLen}
 
 -- the value of a hexadecimal digit, and of the four from i on
 unfoldable pub hexValue : ℕ → ℕ
@@ -81,6 +81,10 @@ asciiAt s i =
     choose (same (byteAt s i) 0x5C)
     (choose (same (byteAt s (i + 1)) 0x75) (asciiOf (unitAt s (i + 2))) (asciiOf (shortByte (byteAt s (i + 1)))))
     (asciiOf (byteAt s i))
+
+-- the first byte tells that the text from i on is not the name
+unfoldable pub differs : List ℕ → ℕ → List ℕ → Bool
+differs s i name = isPlain (byteAt s i) && not (eqb (byteAt s i) (getD name 0 0))
 
 -- the name goes on at k with the byte that the character at i stands for
 unfoldable pub agrees : List ℕ → ℕ → List ℕ → ℕ → Bool

@@ -2,7 +2,8 @@
 ghost use mathlib.Core.Path.{_≡_};
 ghost use Prim.Native.Nat.{_+_, _<_};
 ghost use lib.ListN.{getD, length};
-ghost use Rattle.strings.specs.Chars.{isHex, isShort, isTail, isSecond, utf8Len, escapeLen, charLen};
+ghost use Rattle.text.specs.Bytes.{span};
+ghost use Rattle.strings.specs.Chars.{isHex, isShort, isPlain, isTail, isSecond, utf8Len, escapeLen, charLen};
 
 fn is_hex(b: u8) -> bool
     ensures { λ r. ⌜ r ≡ isHex b ⌝ }
@@ -16,6 +17,23 @@ fn is_short(b: u8) -> bool
     (b == 34)
         | ((b == 92)
             | ((b == 47) | ((b == 98) | ((b == 102) | ((b == 110) | ((b == 114) | (b == 116)))))))
+}
+
+pub fn is_plain(b: u8) -> bool
+    ensures { λ r. ⌜ r ≡ isPlain b ⌝ }
+{
+    ((32 <= b) & (b <= 127)) & (!(b == 34) & !(b == 92))
+}
+
+// Most of a string: characters of one byte, passed with no call.
+pub fn skip_plain(s: &[u8], at: usize) -> usize
+    ensures { λ r. ⌜ r ≡ span isPlain (now (s .entry)) at ⌝ }
+{
+    let mut i = at;
+    while is_plain(text::byte(s, i)) {
+        i += 1;
+    }
+    i
 }
 
 fn is_tail(c: u8) -> bool

@@ -18,19 +18,32 @@ pub fn skip_string(s: &[u8], at: usize) -> Found
     }
     let mut i = at + 1;
     loop {
-        if text::byte(s, i) == b'"' {
-            return Found::At(i + 1);
+        let e = chars::skip_plain(s, i);
+        if text::byte(s, e) == b'"' {
+            return Found::At(e + 1);
         }
-        let n = chars::char_len(s, i);
+        let n = chars::char_len(s, e);
         if n == 0 {
             return Found::Nothing;
         }
-        i += n;
+        i = e + n;
     }
 }
 
-// Do the characters from `at` on, unescaped, say the name, which is ASCII?
+// Do the characters from `at` on, unescaped, say the name, which is ASCII? For names that are likely
+// to be others: the first byte is tried alone.
 pub fn name_is(s: &[u8], at: usize, name: &[u8]) -> bool
+    requires { ⌜ ascii (now name) ≡ true ⌝ }
+    ensures { λ r. ⌜ r ≡ eqList (unescaped (now (s .entry)) (length (now (s .entry)) + 1) at) (now (name .entry)) ⌝ }
+{
+    if names::differs(s, at, name) {
+        return false;
+    }
+    says(s, at, name)
+}
+
+// The same, character by character.
+pub fn says(s: &[u8], at: usize, name: &[u8]) -> bool
     requires { ⌜ ascii (now name) ≡ true ⌝ }
     ensures { λ r. ⌜ r ≡ eqList (unescaped (now (s .entry)) (length (now (s .entry)) + 1) at) (now (name .entry)) ⌝ }
 {

@@ -2,7 +2,7 @@
 ghost use mathlib.Core.Path.{_≡_};
 ghost use Prim.Native.Nat.{_+_, _≤_, _<_};
 ghost use lib.ListN.{length};
-ghost use Rattle.strings.specs.Names.{hexValue, unitOf, unitAt, shortByte, asciiOf, asciiAt, agrees};
+ghost use Rattle.strings.specs.Names.{hexValue, unitOf, unitAt, shortByte, asciiOf, asciiAt, differs, agrees};
 
 fn hex_value(b: u8) -> u8
     ensures { λ r. ⌜ r ≡ hexValue b ⌝ }
@@ -86,6 +86,16 @@ fn ascii_at(s: &[u8], i: usize) -> u8
         return ascii_of(unit_at(s, i + 2));
     }
     ascii_of(wide(short_byte(c)))
+}
+
+// Does the first byte tell that the text from i on is not the name?
+pub fn differs(s: &[u8], i: usize, name: &[u8]) -> bool
+    ensures { λ r. ⌜ r ≡ differs (now (s .entry)) i (now (name .entry)) ⌝ }
+{
+    let b = text::byte(s, i);
+    let a = text::byte(name, 0);
+    let plain = crate::chars::is_plain(b);
+    plain & !(b == a)
 }
 
 // Does the name go on at k with what the character at i stands for?

@@ -18,6 +18,7 @@ use Rattle.json.proofs.+skip_array+skip_member+skip_object+skip_value.L
 use Rattle.json.proofs.skip_value.Reads as skip-value
 use Rattle.json.proofs.skip_value.Kinds as skip-value-kinds
 use Rattle.json.proofs.+skip_array+skip_member+skip_object+skip_value.Lts-skip_value as skip-value-lts
+use Rattle.json.proofs.end_of.Reads as end-of-reads
 use Rattle.json.proofs.skip_scalar.Reads as skip-scalar-reads
 use Rattle.strings.proofs.skip_string.Reads as skip-string-reads
 use Rattle.text.proofs.byte.Reads as byte-reads
@@ -85,24 +86,72 @@ skip-object-μ-loop s at depth i₀ i = length s - i
 
 pub +skip-array+skip-member+skip-object+skip-value-spec : {M : Type 1} → statement M
 +skip-array+skip-member+skip-object+skip-value-spec =
-    close μ-skip-array μ-skip-member μ-skip-object μ-skip-value (λ t. skip-array-lts.spec (skip-ws-reads.Asked, skip-ws-reads.Learnt, byte-reads.Asked, byte-reads.Learnt, skip-value-below t, skip-value.Post, skip-mark-reads.Asked, skip-mark-reads.Learnt, skip-close-reads.Asked, skip-close-reads.Learnt)
+    close μ-skip-array μ-skip-member μ-skip-object μ-skip-value (λ t. skip-array-lts.spec (skip-ws-reads.Asked, skip-ws-reads.Learnt, byte-reads.Asked, byte-reads.Learnt, skip-value-below t, skip-value.Post, skip-mark-reads.Asked, skip-mark-reads.Learnt, skip-close-reads.Asked, skip-close-reads.Learnt, end-of-reads.Asked, end-of-reads.Learnt)
     (skip-array-at t)
-    skip-array.Post skip-array-Inv-loop skip-array-μ-loop (λ c κs. search listing) (λ c κs. search listing) (λ c. search listing)
-    (λ c. search listing) (λ c. search listing) (λ c κs. (omega arith, tt)) (λ c. search listing) (λ c. search listing) (λ c. search listing)
-    (λ c κs. search listing) (λ c. search listing) (λ c. search listing) (λ c κs. search listing) (λ c. search listing) (λ c. search list-less)
+    skip-array.Post
+    skip-array-Inv-loop
+    skip-array-μ-loop
+    (λ c κs. search listing)
+    (λ c κs. search listing)
+    (λ c. search listing)
+    (λ c. search listing)
+    (λ c. search listing)
+    (λ c κs. (omega arith, tt))
+    (λ c. search listing)
+    (λ c κs. search listing)
+    (λ c. search listing)
+    (λ c. search listing)
+    (λ c κs. search listing)
+    (λ c κs. search listing)
+    (λ c. search listing)
+    (λ c. search list-less)
     (λ c. search list-on))
     (λ t. skip-member-lts.spec (skip-string-reads.Asked, skip-string-reads.Learnt, skip-mark-reads.Asked, skip-mark-reads.Learnt, skip-value-below t, skip-value.Post)
     (skip-member-at t)
-    skip-member.Post (λ c κs. search members) (λ c. search members) (λ c. search members) (λ c. search members) (λ c κs. search members)
-    (λ c. search members) (λ c. search members) (λ c. search members) (λ c κs. (omega arith, tt)) (λ c. search members))
-    (λ t. skip-object-lts.spec (skip-ws-reads.Asked, skip-ws-reads.Learnt, byte-reads.Asked, byte-reads.Learnt, skip-member-below t, skip-member.Post, skip-mark-reads.Asked, skip-mark-reads.Learnt, skip-close-reads.Asked, skip-close-reads.Learnt)
+    skip-member.Post
+    (λ c κs. search members)
+    (λ c. search members)
+    (λ c. search members)
+    (λ c. search members)
+    (λ c κs. search members)
+    (λ c. search members)
+    (λ c. search members)
+    (λ c. search members)
+    (λ c κs. (omega arith, tt))
+    (λ c. search members))
+    (λ t. skip-object-lts.spec (skip-ws-reads.Asked, skip-ws-reads.Learnt, byte-reads.Asked, byte-reads.Learnt, skip-member-below t, skip-member.Post, skip-mark-reads.Asked, skip-mark-reads.Learnt, skip-close-reads.Asked, skip-close-reads.Learnt, end-of-reads.Asked, end-of-reads.Learnt)
     (skip-object-at t)
-    skip-object.Post skip-object-Inv-loop skip-object-μ-loop (λ c κs. search listing) (λ c κs. search listing) (λ c. search listing)
-    (λ c. search listing) (λ c. search listing) (λ c κs. (omega arith, tt)) (λ c. search listing) (λ c. search listing) (λ c. search listing)
-    (λ c κs. search listing) (λ c. search listing) (λ c. search listing) (λ c κs. search listing) (λ c. search listing) (λ c. search list-less)
+    skip-object.Post
+    skip-object-Inv-loop
+    skip-object-μ-loop
+    (λ c κs. search listing)
+    (λ c κs. search listing)
+    (λ c. search listing)
+    (λ c. search listing)
+    (λ c. search listing)
+    (λ c κs. (omega arith, tt))
+    (λ c. search listing)
+    (λ c κs. search listing)
+    (λ c. search listing)
+    (λ c. search listing)
+    (λ c κs. search listing)
+    (λ c κs. search listing)
+    (λ c. search listing)
+    (λ c. search list-less)
     (λ c. search list-on))
-    λ t. skip-value-lts.spec (byte-reads.Asked, byte-reads.Learnt, skip-object-below t, skip-object.Post, skip-array-below t, skip-array.Post, skip-scalar-reads.Asked, skip-scalar-reads.Learnt)
+    λ t. skip-value-lts.spec (byte-reads.Asked, byte-reads.Learnt, skip-object-below t, skip-object.Post, skip-array-below t, skip-array.Post, skip-scalar-reads.Asked, skip-scalar-reads.Learnt, end-of-reads.Asked, end-of-reads.Learnt)
     (skip-value-at t)
-    skip-value.Post (λ c. search values) (λ c κs. search values) (λ c. search values) (λ c. search values) (λ c κs. (omega arith, tt))
-    (λ c. search values) (λ c. search values) (λ c. search values) (λ c κs. (omega arith, tt)) (λ c. search values) (λ c κs. search values)
+    skip-value.Post
+    (λ c. search values)
+    (λ c κs. search values)
+    (λ c. search values)
+    (λ c. search values)
+    (λ c κs. (omega arith, tt))
+    (λ c. search values)
+    (λ c. search values)
+    (λ c. search values)
+    (λ c κs. (omega arith, tt))
+    (λ c. search values)
+    (λ c κs. search values)
+    (λ c κs. search values)
     (λ c. search values)

@@ -1,4 +1,4 @@
-use Rattle.places.proofs.Items.{finding}
+use Rattle.places.proofs.Items.{arrays}
 use Rattle.places.proofs.element.Statement.{statement}
 use Rattle.places.proofs.element.Tie as tie
 
@@ -6,9 +6,9 @@ pub element-spec : {M : Type 1} → statement M
 element-spec =
     tie.close
     (tie.spec
-    (λ c κs. search finding)
-    (λ c. search finding)
-    (λ c. search finding)
-    (λ c. search finding)
-    (λ c κs. search finding)
-    (λ c. search finding))
+    (λ c κs. search arrays)
+    (λ c. search arrays)
+    (λ c. search arrays)
+    (λ c. search arrays)
+    (λ c κs. search arrays)
+    (λ c. search arrays))

@@ -3,12 +3,4 @@ use Rattle.places.proofs.next_member.Statement.{statement}
 use Rattle.places.proofs.next_member.Tie as tie
 
 pub next-member-spec : {M : Type 1} → statement M
-next-member-spec =
-    tie.close
-    (tie.spec
-    (λ c κs. search steps)
-    (λ c. search steps)
-    (λ c. search steps)
-    (λ c. search steps)
-    (λ c κs. search steps)
-    (λ c. search steps))
+next-member-spec = tie.close (tie.spec (λ c. search steps) (λ c κs. search steps) (λ c. search steps))

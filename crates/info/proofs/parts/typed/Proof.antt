@@ -3,4 +3,4 @@ use Rattle.info.proofs.parts.typed.Statement.{statement}
 use Rattle.info.proofs.parts.typed.Tie as tie
 
 pub typed-spec : {M : Type 1} → statement M
-typed-spec = tie.close (tie.spec (λ c. search shardings) (λ c κs. search shardings) (λ c. search shardings) (λ c. search shardings) (λ c. search shardings) (λ c. search shardings) (λ c κs. search shardings) (λ c. search shardings))
+typed-spec = tie.close (tie.spec (λ c κs. search shardings) (λ c. search shardings) (λ c. search shardings) (λ c. search shardings) (λ c. search shardings) (λ c κs. search shardings) (λ c. search shardings))
