@@ -1,15 +1,15 @@
 -- Laws of the hash: the two words of a key, the first 8 bytes of the result, the product of two words.
 use Prim.Native.Nat.{ℕ, _+_, _*_, _/_, _%_, _^_, _<_}
-use mathlib.Core.Path.{_≡_, subst⁻¹}
+use mathlib.Core.Path.{_≡_, subst⁻¹, _∙_, ap₂}
 use mathlib.Core.List.{List, _++_}
-use native.Mathlib.Nat.{lt-of-le-of-lt, le-of-lt, mul-le-mul-left, mul-lt-mul-of-pos-right}
+use native.Mathlib.Nat.{lt-of-le-of-lt, le-of-lt, mul-le-mul-left, mul-lt-mul-of-pos-right, mul-add, add-mul, mul-assoc, mul-left-comm}
 use native.Mathlib.Omega.{arith}
 use lib.Bits.{bitXor}
 use lib.Pow.{pow-pos, pow-add}
 use mir.Syntax.{w32, w64}
 use mir.Val.{Fits}
 use Rattle.endian.specs.Little.{le, leAt}
-use Rattle.murmur.specs.Murmur.{State, tail1, tail2, tail, seeded, lengthened, summed, mixed, finished, murmur3, seed, murmurHash}
+use Rattle.murmur.specs.Murmur.{State, tail1, tail2, tail, seeded, lengthened, summed, mixed, finished, murmur3, seed, murmurHash, add32, mul32}
 
 -- k1 is the key's low half, k2 its high half
 k1-low : (n : ℕ) → leAt 4 (le 8 n) 0 ≡ n % 2 ^ 32
@@ -49,8 +49,31 @@ product-below k {a} {b} ha hb =
     subst⁻¹ (λ (n : ℕ). a * b < n) (pow-add 2 k k)
     (lt-of-le-of-lt (mul-le-mul-left a (le-of-lt hb)) (mul-lt-mul-of-pos-right ha (pow-pos k)))
 
-pub product-fits : {a b : ℕ} → Fits w32 a → Fits w32 b → Fits w64 (a * b)
-product-fits p q = record { fits = product-below 32 (p .fits) (q .fits) }
+-- the product of two halves is a word
+pub product-fits : {a b : ℕ} → a < 65536 → b < 65536 → Fits w32 (a * b)
+product-fits p q = record { fits = product-below 16 p q }
+
+-- the product of two words, by their halves
+by-halves : (p q r s : ℕ) → (p + 65536 * q) * (r + 65536 * s) ≡ p * r + 65536 * (q * r + p * s) + 2 ^ 32 * (q * s)
+by-halves p q r s =
+    omega (
+      arith,
+      add-mul p (65536 * q) (r + 65536 * s),
+      mul-add p r (65536 * s),
+      mul-add (65536 * q) r (65536 * s),
+      mul-assoc 65536 q r,
+      mul-assoc 65536 q (65536 * s),
+      mul-left-comm p 65536 s,
+      mul-left-comm q 65536 s,
+    )
+
+-- the low product and the two middle ones are what is left of it in a word
+pub product-halves : {a b x y z m r : ℕ} → Fits w32 a → Fits w32 b → x ≡ (a % 65536) * (b % 65536) → y ≡ (a / 2 ^ 16) * (b % 65536) → z ≡ (a % 65536) * (b / 2 ^ 16) →
+    m ≡ add32 y z → r ≡ add32 x ((m * 2 ^ 16) % 2 ^ 32) → r ≡ mul32 a b
+product-halves {a} {b} {x} {y} {z} f g p q s t e =
+    let h : a * b ≡ x + 65536 * (y + z) + 2 ^ 32 * ((a / 2 ^ 16) * (b / 2 ^ 16)) =
+    rw (p, q, s) (ap₂ _*_ (omega arith) (omega arith) ∙ by-halves (a % 65536) (a / 2 ^ 16) (b % 65536) (b / 2 ^ 16)) in
+    omega arith
 
 -- the hash is a number of 64 bits
 pub murmur-below : (n : ℕ) → murmurHash n < 2 ^ 64

@@ -1,6 +1,6 @@
 // MurmurHash3_x86_128 of 8 bytes with seed 0, of which the first 8 result bytes are kept.
 ghost use mathlib.Core.Path.{_≡_};
-ghost use Prim.Native.Nat.{_+_, _*_, _^_};
+ghost use Prim.Native.Nat.{_+_, _*_, _^_, _<_};
 ghost use Rattle.endian.specs.Little.{leAt};
 ghost use Rattle.murmur.specs.Murmur.{add32, mul32, rotl32, fmix32, tail1, tail2, finished, murmurHash};
 
@@ -17,14 +17,27 @@ const C3: u32 = 0x38b3_4ae5;
 fn sum(a: u32, b: u32) -> u32
     ensures { λ r. ⌜ r ≡ add32 a b ⌝ }
 {
-    ((a as u64 + b as u64) % 4294967296) as u32
+    std::num::wrapping_add_u32(a, b)
 }
 
-// The one place that multiplies.
+// The one place that multiplies. A product of two factors below 65,536 is a number of 32 bits.
+fn times(a: u32, b: u32) -> u32
+    requires { ⌜ a < 65536 ⌝ }
+    requires { ⌜ b < 65536 ⌝ }
+    ensures { λ r. ⌜ r ≡ a * b ⌝ }
+{
+    a * b
+}
+
+// By 16-bit halves. The product of the two upper ones lies above the 32 bits that are kept.
 fn product(a: u32, b: u32) -> u32
     ensures { λ r. ⌜ r ≡ mul32 a b ⌝ }
 {
-    ((a as u64) * (b as u64) % 4294967296) as u32
+    let low = times(a % 65536, b % 65536);
+    let upper_lower = times(a >> 16, b % 65536);
+    let lower_upper = times(a % 65536, b >> 16);
+    let middle = sum(upper_lower, lower_upper);
+    sum(low, middle << 16)
 }
 
 fn rotate_15(x: u32) -> u32

@@ -104,8 +104,9 @@ fn placement(name: &str, hash: u8) {
     );
 }
 
-/// The same with all ids in one call; the limit copies the ids twice.
-fn placements(name: &str, hash: u8) {
+/// The same with all ids in one call, beside plain Rust with this murmur; the
+/// limit copies the ids twice.
+fn placements(name: &str, hash: u8, murmur: impl Fn(u64) -> u64 + Copy) {
     let ids = numbers(1_000_000);
     let sharding = sharding(hash);
     let (mut shards, mut minishards) = (vec![0; ids.len()], vec![0; ids.len()]);
@@ -124,7 +125,14 @@ fn placements(name: &str, hash: u8) {
             shards[ids.len() / 2] ^ minishards[ids.len() / 3]
         },
         || {
-            assert!(plain::places(&sharding, &ids, &mut shards_too, &mut minishards_too).is_ok());
+            assert!(plain::places(
+                &sharding,
+                &ids,
+                &mut shards_too,
+                &mut minishards_too,
+                murmur
+            )
+            .is_ok());
             shards_too[ids.len() / 2] ^ minishards_too[ids.len() / 3]
         },
         || {
@@ -146,6 +154,11 @@ pub fn run_keys() {
 pub fn run_places() {
     placement("identity", 0);
     placement("murmur", 1);
-    placements("identity", 0);
-    placements("murmur", 1);
+    placements("identity", 0, plain::murmur);
+    placements("murmur, plain Rust with 32-bit products", 1, plain::murmur);
+    placements(
+        "murmur, plain Rust with 16-bit halves",
+        1,
+        plain::murmur_by_halves,
+    );
 }

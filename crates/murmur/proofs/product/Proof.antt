@@ -1,8 +1,13 @@
--- The product of two words fits in 64 bits.
+-- The low product and the two middle ones, put together.
 use borrow.Author.Needs.{needs}
-use Rattle.murmur.proofs.Words.{product-fits}
+use Rattle.murmur.proofs.Words.{product-halves}
 use Rattle.murmur.proofs.product.Statement.{statement}
 use Rattle.murmur.proofs.product.Tie as tie
 
+returns : tie.Need-returns
+returns c = search product-halves
+
 pub product-spec : {M : Type 1} → statement M
-product-spec = tie.close (tie.spec (λ c. search (product-fits, needs)) (λ c. search needs) (λ c. search needs))
+product-spec =
+    tie.close
+    (tie.spec (λ c κs. search needs) (λ c κs. search needs) (λ c κs. search needs) (λ c κs. search needs) (λ c κs. search needs) returns)

@@ -75,35 +75,51 @@ pub fn keys(volume: &Volume, cells: &[Cell], keys: &mut [u64]) -> Result<(), u8>
     Ok(())
 }
 
+/// The product of two words, from their halves of 16 bits.
+#[inline]
+fn by_halves(a: u32, b: u32) -> u32 {
+    let (upper, lower) = (a >> 16, a & 0xffff);
+    let (upper_too, lower_too) = (b >> 16, b & 0xffff);
+    let middle = (upper * lower_too).wrapping_add(lower * upper_too);
+    (lower * lower_too).wrapping_add(middle << 16)
+}
+
 /// Spreads every bit of `h` over all of them.
 #[inline]
-fn finish(mut h: u32) -> u32 {
-    h = (h ^ (h >> 16)).wrapping_mul(0x85eb_ca6b);
-    h = (h ^ (h >> 13)).wrapping_mul(0xc2b2_ae35);
+fn finish(product: impl Fn(u32, u32) -> u32, mut h: u32) -> u32 {
+    h = product(h ^ (h >> 16), 0x85eb_ca6b);
+    h = product(h ^ (h >> 13), 0xc2b2_ae35);
     h ^ (h >> 16)
 }
 
-/// The first 8 bytes of MurmurHash3_x86_128 of an 8-byte number, seed 0.
+/// The first 8 bytes of MurmurHash3_x86_128 of an 8-byte number, seed 0, with
+/// this product of two words.
 #[inline]
-pub fn murmur(number: u64) -> u64 {
+fn murmur_with(product: impl Fn(u32, u32) -> u32 + Copy, number: u64) -> u64 {
     let (low, high) = (number as u32, (number >> 32) as u32);
-    let one = low
-        .wrapping_mul(0x239b_961b)
-        .rotate_left(15)
-        .wrapping_mul(0xab0e_9789);
-    let two = high
-        .wrapping_mul(0xab0e_9789)
-        .rotate_left(16)
-        .wrapping_mul(0x38b3_4ae5);
+    let one = product(product(low, 0x239b_961b).rotate_left(15), 0xab0e_9789);
+    let two = product(product(high, 0xab0e_9789).rotate_left(16), 0x38b3_4ae5);
     // Lanes three and four are equal throughout.
     let (mut a, mut b, mut c) = (one ^ 8, two ^ 8, 8u32);
     a = a.wrapping_add(b).wrapping_add(c).wrapping_add(c);
     b = b.wrapping_add(a);
     c = c.wrapping_add(a);
-    (a, b, c) = (finish(a), finish(b), finish(c));
+    (a, b, c) = (finish(product, a), finish(product, b), finish(product, c));
     a = a.wrapping_add(b).wrapping_add(c).wrapping_add(c);
     b = b.wrapping_add(a);
     u64::from(a) | u64::from(b) << 32
+}
+
+/// The hash with products of 32 bits.
+#[inline]
+pub fn murmur(number: u64) -> u64 {
+    murmur_with(u32::wrapping_mul, number)
+}
+
+/// The hash with products from 16-bit halves.
+#[inline]
+pub fn murmur_by_halves(number: u64) -> u64 {
+    murmur_with(by_halves, number)
 }
 
 /// Refusal 1, or nothing.
@@ -164,12 +180,14 @@ pub fn place_called(sharding: &Sharding, id: u64, shard: &mut u64, minishard: &m
     }
 }
 
-/// The places of many ids, or 1 or 13: judged once, the hash chosen once.
+/// The places of many ids, or 1 or 13: judged once, the hash chosen once, with
+/// this murmur.
 pub fn places(
     sharding: &Sharding,
     ids: &[u64],
     shards: &mut [u64],
     minishards: &mut [u64],
+    murmur: impl Fn(u64) -> u64,
 ) -> Result<(), u8> {
     judged(sharding)?;
     if shards.len() < ids.len() || minishards.len() < ids.len() {
