@@ -95,7 +95,7 @@
 /* ---- refusals ------------------------------------------------------------ */
 
 /* preshift above 63, hash neither identity nor murmur, minishard bits above
- * 12, or shard bits above 32 */
+ * 16, or shard bits above 32 */
 #define CORONAGAMBA_REFUSED_SHARDING_NOT_ALLOWED 1
 
 /* a volume or chunk extent is 0, or a cell coordinate is not below its grid

@@ -12,7 +12,7 @@ class Numbers:
     """The numbers by name."""
 
     # preshift above 63, hash neither identity nor murmur, minishard bits above
-    # 12, or shard bits above 32
+    # 16, or shard bits above 32
     SHARDING_NOT_ALLOWED = 1
 
     # a volume or chunk extent is 0, or a cell coordinate is not below its grid

@@ -37,7 +37,7 @@ CALLS = {
     1: [
         lambda: Sharding(64, 0, 0, 0).place(0),
         lambda: Sharding(0, 2, 0, 0).place(0),
-        lambda: Sharding(0, 0, 13, 0).places([]),
+        lambda: Sharding(0, 0, 17, 0).places([]),
         lambda: Sharding(0, 0, 0, 33).shard_name(0),
         lambda: shard(b"", Sharding(255, 0, 0, 0)).lookup(0),
         lambda: Card(Sharding(64, 0, 0, 0), Volume(UNIT, UNIT)).to_bytes(),

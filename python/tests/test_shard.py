@@ -47,6 +47,30 @@ def samples(seed, count):
         yield rng, sharding, number, content
 
 
+class ManyMinishards(unittest.TestCase):
+    """Change requests, order 4: up to 2^16 minishards."""
+
+    def test_the_last_of_65536(self):
+        sharding = Sharding(0, IDENTITY, 16, 0)
+        last = 65535
+        front = bytes(16 * last) + u64s(3, 27) + b"abc"
+        shard = Shard(sharding, 0, front + u64s(last, 0, 3))
+        shard.check()
+        self.assertEqual(shard.chunk(last), b"abc")
+        form = bytes(16 * last) + u64s(3, 27) + b"abc" + u64s(last, 0, 3)
+        self.assertEqual(shard.settled(), form)
+        faulty = Shard(sharding, 0, front + u64s(last, 0, 28))
+        with self.assertRaises(Refused) as told:
+            faulty.check()
+        self.assertEqual(told.exception.number, 11)
+        self.assertEqual(told.exception.minishard, last)
+
+    def test_17_bits(self):
+        with self.assertRaises(Refused) as told:
+            Shard(Sharding(0, IDENTITY, 17, 0), 0, bytes(2**21)).check()
+        self.assertEqual(told.exception.number, 1)
+
+
 class TheScopesCase(unittest.TestCase):
     def setUp(self):
         self.shard = Shard(CASE, 0, SETTLED)

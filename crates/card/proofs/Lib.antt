@@ -4,3 +4,4 @@ pub mod Parsing
 pub mod Composing
 pub mod Judged
 pub mod Meaning
+pub mod Before

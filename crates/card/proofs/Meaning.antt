@@ -296,7 +296,7 @@ unfolding recordChecks firstNumber
 fault-most c = fault-by (allowed (c .sharding)) (zeroExtent (c .volume)) (tooManyBits (gridOf (c .volume)))
 
 module _ (s : List ℕ) where
-  said : (c : Card) → readAnswer s ≡ Says c → (wellFormed s ≡ true) × (fault (cardIn s) ≡ 0) × (cardIn s ≡ c)
+  pub said : (c : Card) → readAnswer s ≡ Says c → (wellFormed s ≡ true) × (fault (cardIn s) ≡ 0) × (cardIn s ≡ c)
   said c e =
       let q = unless-says (pick (not (wellFormed s)) 14 (fault (cardIn s))) c (cardIn s) (sym (read-first s) ∙ e) in
       let p = picked-none (wellFormed s) (fault (cardIn s)) (q .0) in

@@ -14,7 +14,7 @@ pub const MOST_SHARD_BYTES: usize = 1073741824;
 
 pub fn index_length(spec: Sharding) -> usize
     requires { ⌜ allowed spec ≡ true ⌝ }
-    ensures { λ r. ⌜ (r ≡ indexLength spec) × (r ≤ 65536) ⌝ }
+    ensures { λ r. ⌜ (r ≡ indexLength spec) × (r ≤ 1048576) ⌝ }
 {
     16 * minishard_count(spec) as usize
 }

@@ -2,3 +2,4 @@
 pub mod Allowed
 pub mod Placed
 pub mod Batched
+pub mod Before

@@ -2,3 +2,4 @@
 pub mod Specification
 pub mod Place
 pub mod Batch
+pub mod Before

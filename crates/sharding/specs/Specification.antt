@@ -10,8 +10,9 @@ use Rattle.sharding.specs.declared.Sharding.{Sharding}
 abbrev pub mostPreshift : ℕ
 mostPreshift = 63
 
+-- 02, order 4; 12 before it
 abbrev pub mostMinishardBits : ℕ
-mostMinishardBits = 12
+mostMinishardBits = 16
 
 abbrev pub mostShardBits : ℕ
 mostShardBits = 32

@@ -9,7 +9,7 @@ use crate::Sharding;
 
 const MOST_PRESHIFT: u8 = 63;
 
-const MOST_MINISHARD_BITS: u8 = 12;
+const MOST_MINISHARD_BITS: u8 = 16;
 
 const MOST_SHARD_BITS: u8 = 32;
 

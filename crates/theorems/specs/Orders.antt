@@ -1,17 +1,29 @@
 -- What the orders promise (02), beyond the demands, which hold as they did.
-use Prim.Native.Nat.{ℕ, _≤_}
+use Prim.Native.Nat.{ℕ, _<_, _≤_}
 use mathlib.Core.Path.{_≡_}
-use mathlib.Core.List.{List}
-use lib.ListN.{length}
-use Rattle.refusal.specs.Buffer.{over}
+use mathlib.Core.Bool.{Bool, true, not}
+use mathlib.Core.List.{List, [], _∷_}
+use lib.ListN.{length, take, getD}
+use Rattle.refusal.specs.Checks.{check}
+use Rattle.refusal.specs.Buffer.{over, room}
 use Rattle.refusal.specs.declared.Written.the-variants.{Length}
 use Rattle.sharding.specs.declared.Sharding.{Sharding}
+use Rattle.sharding.specs.Specification.{minishardBits, allowed, noSuchShard}
+use Rattle.sharding.specs.Place.{placeChecks}
+use Rattle.sharding.specs.Batch.{shardsOf, minishardsOf, placesChecks}
+use Rattle.sharding.specs.Before.{mostMinishardBitsBefore, allowedBefore}
+use Rattle.names.specs.Shards.{shardName, shardNameChecks}
 use Rattle.shard.specs.declared.CheckAnswer.the-variants.{Sound}
-use Rattle.shard.specs.File.{mostShardBytes, checkAnswer}
+use Rattle.shard.specs.File.{mostShardBytes, badFileLength, fileChecks, checkAnswer}
 use Rattle.shard.specs.Before.{PassedBefore}
 use Rattle.form.specs.Content.{fileForm}
 use Rattle.form.specs.Before.{fileFormBefore}
 use Rattle.settle.specs.Answers.{settleAnswer, settleLeft}
+use Rattle.card.specs.declared.Card.{Card}
+use Rattle.card.specs.declared.CardAnswer.the-variants.{Says, Refused}
+use Rattle.card.specs.Layout.{cardBytes, Ranged}
+use Rattle.card.specs.Answers.{recordChecks, readAnswer, writeAnswer, writeLeft}
+use Rattle.card.specs.Before.{recordChecksBefore, readAnswerBefore, NewCard}
 
 -- Order 2: "a shard that passed before settles to the bytes it did before".
 pub record Order2 : Type 0 where
@@ -22,3 +34,28 @@ pub record Order2 : Type 0 where
   -- and where that has room, settling writes these bytes and reports their length.
   pub settles : (spec : Sharding) (shard : ℕ) (a out : List ℕ) → PassedBefore spec shard a → length (fileFormBefore spec a) ≤ length out → length (fileFormBefore spec a) ≤ mostShardBytes
       → (settleAnswer spec shard a out ≡ Length (length (fileFormBefore spec a))) × (settleLeft spec shard a out ≡ over (fileFormBefore spec a) out)
+
+-- Order 4: "Existing shards and cards keep their bytes and meaning."
+pub record Order4 : Type 0 where
+  -- What was allowed before is allowed now. Of all that answers are said with, `allowed` alone knows the limit, and it stands in these
+  -- lists of checks: of a place, of places, of a shard's name, of every call on a shard and of a card's record. They are what they
+  -- were, so every answer is.
+  pub allows : (spec : Sharding) → allowedBefore spec ≡ true → allowed spec ≡ true
+  pub places : (spec : Sharding) → allowedBefore spec ≡ true → placeChecks spec ≡ check 1 (not (allowedBefore spec)) ∷ []
+  pub batches : (spec : Sharding) (ids shards minishards : List ℕ) → allowedBefore spec ≡ true
+      → placesChecks spec ids shards minishards ≡ check 1 (not (allowedBefore spec)) ∷ room (shardsOf spec ids) shards ∷ room (minishardsOf spec ids) minishards ∷ []
+  pub names : (spec : Sharding) (shard : ℕ) (out : List ℕ) → allowedBefore spec ≡ true
+      → shardNameChecks spec shard out ≡ check 1 (not (allowedBefore spec)) ∷ check 5 (noSuchShard spec shard) ∷ room (shardName spec shard) out ∷ []
+  pub files : (spec : Sharding) (five : Bool) (file : List ℕ) → allowedBefore spec ≡ true
+      → fileChecks spec five file ≡ check 1 (not (allowedBefore spec)) ∷ check 5 five ∷ check 6 (badFileLength spec (length file)) ∷ []
+  pub records : (c : Card) → allowedBefore (c .sharding) ≡ true → recordChecks c ≡ recordChecksBefore c
+  -- "A card with 13 to 16 is written in the same field,
+  pub field : (c : Card) → getD (cardBytes c) 11 0 ≡ minishardBits (c .sharding)
+  -- and the old reading room answers it with 1; show that it never answers otherwise."
+  pub written : (c : Card) (out : List ℕ) (n : ℕ) → Ranged c → writeAnswer c out ≡ Length n → mostMinishardBitsBefore < minishardBits (c .sharding)
+      → readAnswerBefore (take n (writeLeft c out)) ≡ Refused 1
+  pub new : (s : List ℕ) → NewCard s → readAnswerBefore s ≡ Refused 1
+  -- It answers all other bytes as they are answered now,
+  pub other : (s : List ℕ) → (NewCard s → ⊥) → readAnswerBefore s ≡ readAnswer s
+  -- and what it read is read so now.
+  pub read : (s : List ℕ) (c : Card) → readAnswerBefore s ≡ Says c → readAnswer s ≡ Says c

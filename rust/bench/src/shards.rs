@@ -112,11 +112,17 @@ fn lookups(name: &str, sample: &Sample, count: usize, bar: Option<f64>) {
     );
 }
 
-/// The whole-shard check, timed by chunk; the limit loads all indexes.
+/// The whole-shard check, timed by chunk.
 fn checks(name: &str, sample: &Sample, bar: Option<f64>) {
+    checks_by(name, sample, sample.ids.len(), bar);
+}
+
+/// The whole-shard check, timed by so many operations; the limit loads all
+/// indexes.
+fn checks_by(name: &str, sample: &Sample, operations: usize, bar: Option<f64>) {
     let measure = Measure {
         name,
-        operations: sample.ids.len(),
+        operations,
         bar,
     };
     let indexes = sample.indexes();
@@ -212,9 +218,27 @@ fn arrivals() {
     );
 }
 
+/// 2^16 minishards, nearly all of them empty.
+fn nearly_empty() {
+    const BITS: u8 = 16;
+    let sparse = sample(1, BITS, 16, 64);
+    checks_by(
+        "check, 2^16 minishards, 16 chunks, a minishard",
+        &sparse,
+        1 << BITS,
+        Some(1.3),
+    );
+    settling(
+        "settling, 2^16 minishards, 16 chunks, a KiB",
+        &sparse,
+        Some(1.3),
+    );
+}
+
 /// Prints the lines.
 pub fn run() {
     small_shards();
+    nearly_empty();
     arrivals();
     many_chunks();
     large_chunks();

@@ -8,11 +8,12 @@
 //! length of an output 3.
 
 use reference::grid::{grid_size, key_bits, key_of, Cell, Volume};
-use reference::sharding::Sharding;
+use reference::sharding::{Sharding, MOST_MINISHARD_BITS};
 use testkit::{manifests, shards, Rng};
 
-/// The longest answer for which a whole output is lent.
-pub const LONGEST_ANSWER: usize = 1 << 20;
+/// The longest answer for which a whole output is lent: twice the longest
+/// shard index, so that settled forms of every specification are.
+pub const LONGEST_ANSWER: usize = 32 << MOST_MINISHARD_BITS;
 
 /// The front of any bytes, taken number by number.
 pub struct Reader<'a> {
@@ -54,7 +55,7 @@ impl<'a> Reader<'a> {
         Sharding {
             preshift: within(preshift, 63),
             hash: within(hash, 1),
-            minishard_bits: within(minishard_bits, 12),
+            minishard_bits: within(minishard_bits, MOST_MINISHARD_BITS),
             shard_bits: within(shard_bits, 32),
         }
     }

@@ -20,7 +20,7 @@ pub const FIELD_WHOLE: u32 = 0;
 pub const FIELD_REAL: u32 = 1;
 
 impl Refusal {
-    /// Preshift above 63, hash neither identity nor murmur, minishard bits above 12, or shard bits
+    /// Preshift above 63, hash neither identity nor murmur, minishard bits above 16, or shard bits
     /// above 32.
     pub const SHARDING_NOT_ALLOWED: u8 = 1;
 

@@ -57,9 +57,9 @@ impl Sharding {
     /// ```
     /// use coronagamba::Sharding;
     ///
-    /// let most = Sharding { preshift: 63, hash: 1, minishard_bits: 12, shard_bits: 32 };
+    /// let most = Sharding { preshift: 63, hash: 1, minishard_bits: 16, shard_bits: 32 };
     /// assert_eq!(most.allowed(), Ok(()));
-    /// let more = Sharding { minishard_bits: 13, ..most };
+    /// let more = Sharding { minishard_bits: 17, ..most };
     /// assert_eq!(more.allowed().unwrap_err().number, 1);
     /// ```
     pub fn allowed(&self) -> Result<(), Refusal> {

@@ -2,7 +2,7 @@
 
 use coronagamba::Sharding;
 
-/// The limits of the scope's table, each field by itself.
+/// The limits of the table, each field by itself (order 4: 16 minishard bits).
 #[test]
 fn every_value_of_each_field() {
     for value in 0..=u8::MAX {
@@ -34,7 +34,7 @@ fn every_value_of_each_field() {
             allowed(hash),
             [Sharding::IDENTITY, Sharding::MURMUR].contains(&value)
         );
-        assert_eq!(allowed(minishard_bits), value <= 12);
+        assert_eq!(allowed(minishard_bits), value <= 16);
         assert_eq!(allowed(shard_bits), value <= 32);
     }
 }

@@ -11,7 +11,7 @@ settings, which are never assumed:
   --scale K           the number of its scale, from 0; or all of:
   --preshift N        low bits of an id that do not count, 0 to 63
   --hash NAME         identity or murmur (also: murmurhash3_x86_128)
-  --minishard-bits N  0 to 12
+  --minishard-bits N  0 to 16
   --shard-bits N      0 to 32
 "
     };
@@ -380,7 +380,7 @@ what the card says:
                       the offset:
   --preshift N        low bits of an id that do not count, 0 to 63
   --hash NAME         identity or murmur (also: murmurhash3_x86_128)
-  --minishard-bits N  0 to 12
+  --minishard-bits N  0 to 16
   --shard-bits N      0 to 32
 ",
     volume!(),

@@ -307,7 +307,7 @@ mod tests {
     fn tests_1_5_and_6_come_first() {
         let file = example();
         let bad = Sharding {
-            minishard_bits: 13,
+            minishard_bits: 17,
             ..ONE
         };
         assert_eq!(lookup(&bad, 9, 4, &[]), Err(1));
@@ -327,7 +327,7 @@ mod tests {
     fn listings_test_the_minishard_number_with_the_shard_number() {
         let file = example();
         let bad = Sharding {
-            minishard_bits: 13,
+            minishard_bits: 17,
             ..ONE
         };
         assert_eq!(list_minishard(&bad, 1, &[], 2), Err(1));

@@ -5,7 +5,7 @@ use crate::murmur::murmur3_x86_128;
 /// The most preshift that refusal 1 allows.
 pub const MOST_PRESHIFT: u8 = 63;
 /// The most minishard bits that refusal 1 allows.
-pub const MOST_MINISHARD_BITS: u8 = 12;
+pub const MOST_MINISHARD_BITS: u8 = 16;
 /// The most shard bits that refusal 1 allows.
 pub const MOST_SHARD_BITS: u8 = 32;
 /// The number of the identity hash.
@@ -140,7 +140,7 @@ mod tests {
         let most = Sharding {
             preshift: 63,
             hash: MURMUR,
-            minishard_bits: 12,
+            minishard_bits: 16,
             shard_bits: 32,
         };
         assert_eq!(most.allowed(), Ok(()));
@@ -151,7 +151,7 @@ mod tests {
             },
             Sharding { hash: 2, ..most },
             Sharding {
-                minishard_bits: 13,
+                minishard_bits: 17,
                 ..most
             },
             Sharding {

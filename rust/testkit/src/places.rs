@@ -2,7 +2,7 @@
 
 use crate::Rng;
 use reference::grid::{grid_size, key_bits, Cell, Volume};
-use reference::sharding::{Place, Sharding};
+use reference::sharding::{Place, Sharding, MOST_MINISHARD_BITS};
 
 /// A volume of any numbers: zeros and grids of up to 96 key bits occur.
 pub fn wild_volume(rng: &mut Rng) -> Volume {
@@ -103,7 +103,7 @@ pub fn sharding(rng: &mut Rng) -> Sharding {
     Sharding {
         preshift: rng.below(64) as u8 >> rng.below(7),
         hash: rng.below(2) as u8,
-        minishard_bits: rng.below(13) as u8,
+        minishard_bits: rng.below(u64::from(MOST_MINISHARD_BITS) + 1) as u8,
         shard_bits: rng.below(33) as u8,
     }
 }
@@ -122,7 +122,7 @@ pub fn wild_sharding(rng: &mut Rng) -> Sharding {
         match rng.below(4) {
             0 => sharding.preshift = near(rng, 62),
             1 => sharding.hash = near(rng, 0),
-            2 => sharding.minishard_bits = near(rng, 11),
+            2 => sharding.minishard_bits = near(rng, u64::from(MOST_MINISHARD_BITS) - 1),
             _ => sharding.shard_bits = near(rng, 31),
         }
     }

@@ -3,7 +3,7 @@
 use crate::places::{self, identity_id};
 use crate::Rng;
 use reference::endian::{put_u64, read_u64};
-use reference::sharding::{Place, Sharding, IDENTITY};
+use reference::sharding::{Place, Sharding, IDENTITY, MOST_MINISHARD_BITS};
 use reference::MOST_SHARD_BYTES;
 use std::collections::BTreeMap;
 
@@ -28,10 +28,10 @@ pub fn sharding(rng: &mut Rng) -> Sharding {
     Sharding {
         preshift: *rng.pick(&[0, 0, 0, 1, 2, 9, 30, 60, 63]),
         hash,
-        minishard_bits: if rng.once_in(60) {
-            rng.within(5, 12) as u8
-        } else {
-            rng.below(5) as u8
+        minishard_bits: match rng.below(600) {
+            0 => rng.within(13, MOST_MINISHARD_BITS.into()) as u8,
+            1..11 => rng.within(5, 12) as u8,
+            _ => rng.below(5) as u8,
         },
         shard_bits: if hash == IDENTITY {
             rng.below(33) as u8

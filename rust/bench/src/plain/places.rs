@@ -127,7 +127,7 @@ pub fn murmur_by_halves(number: u64) -> u64 {
 pub fn judged(sharding: &Sharding) -> Result<(), u8> {
     let allowed = sharding.preshift <= 63
         && sharding.hash <= 1
-        && sharding.minishard_bits <= 12
+        && sharding.minishard_bits <= 16
         && sharding.shard_bits <= 32;
     if allowed {
         Ok(())

@@ -5,7 +5,7 @@ use crate::question::{Choice, Reader, Room, Writer};
 use crate::{sides, Part};
 use coronagamba::{Chunk, Listed, Shard, Span};
 use reference::shard;
-use reference::sharding::Sharding;
+use reference::sharding::{Sharding, MOST_MINISHARD_BITS};
 use testkit::shards::{self, Sample};
 use testkit::{places, Lent, Rng};
 
@@ -189,7 +189,7 @@ fn minishard(rng: &mut Rng, sharding: &Sharding) -> Choice {
     let number = if rng.once_in(4) {
         places::minishard_number(rng, sharding)
     } else {
-        rng.below(1 << sharding.minishard_bits.min(12))
+        rng.below(1 << sharding.minishard_bits.min(MOST_MINISHARD_BITS))
     };
     Choice::draw(rng, number)
 }

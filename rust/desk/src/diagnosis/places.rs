@@ -7,6 +7,9 @@ use super::{commas, Diagnosis, Place};
 /// The most key bits of a grid.
 const MOST_KEY_BITS: u32 = 64;
 
+/// The most minishard bits of a sharding.
+pub(super) const MOST_MINISHARD_BITS: u8 = 16;
+
 /// A field of the sharding that is not allowed.
 pub(super) struct BadField {
     /// Its place among the four.
@@ -28,8 +31,8 @@ pub(super) fn bad_fields(sharding: &Sharding) -> Vec<BadField> {
         (
             "minishard bits",
             sharding.minishard_bits,
-            12,
-            "minishard bits at most 12",
+            MOST_MINISHARD_BITS,
+            "minishard bits at most 16",
         ),
         (
             "shard bits",
@@ -253,13 +256,13 @@ mod tests {
             minishard_bits,
             shard_bits,
         };
-        let told = of_sharding(&sharding(64, 0, 12, 33));
+        let told = of_sharding(&sharding(64, 0, 16, 33));
         assert_eq!(told.found, "preshift 64, shard bits 33");
         assert_eq!(told.expected, "preshift at most 63, shard bits at most 32");
         assert_eq!(told.look_at, "the settings, --preshift, --shard-bits");
-        let told = of_sharding(&sharding(63, 2, 13, 32));
-        assert_eq!(told.found, "hash number 2, minishard bits 13");
-        assert!(bad_fields(&sharding(63, 1, 12, 32)).is_empty());
+        let told = of_sharding(&sharding(63, 2, 17, 32));
+        assert_eq!(told.found, "hash number 2, minishard bits 17");
+        assert!(bad_fields(&sharding(63, 1, 16, 32)).is_empty());
     }
 
     #[test]

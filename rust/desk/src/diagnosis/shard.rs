@@ -4,6 +4,7 @@ use std::collections::HashMap;
 
 use coronagamba::{Refusal, Sharding};
 
+use super::places::MOST_MINISHARD_BITS;
 use super::{of_shard_number, of_sharding, u64_at, Diagnosis, Place};
 use crate::report::counted;
 
@@ -97,7 +98,7 @@ fn byte(place: u64, what: &str) -> Place {
 impl Seen<'_> {
     /// How many minishards there are.
     fn minishards(&self) -> u64 {
-        1 << self.sharding.minishard_bits.min(12)
+        1 << self.sharding.minishard_bits.min(MOST_MINISHARD_BITS)
     }
 
     /// The length of the shard index, from whose end all places count.

@@ -8,7 +8,7 @@ use super::Explained;
 pub const TABLE: &[Explained] = &[
     Explained {
         number: 1,
-        given: "preshift above 63, hash neither identity nor murmur, minishard bits above 12, or \
+        given: "preshift above 63, hash neither identity nor murmur, minishard bits above 16, or \
          shard bits above 32",
         cause: "A mistyped option, a card that was made for another format, or an info file with \
          a hash that this archive does not know.",

@@ -7,6 +7,7 @@ mod commands;
 mod folders;
 mod json;
 mod memory;
+mod minishards;
 mod nothing_lost;
 mod odd_files;
 mod reading;

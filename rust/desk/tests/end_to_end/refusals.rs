@@ -75,7 +75,7 @@ fn number_1_a_field_of_the_specification() {
             ..ONE
         },
         Sharding {
-            minishard_bits: 13,
+            minishard_bits: 17,
             ..ONE
         },
         Sharding {
@@ -132,7 +132,7 @@ fn refused_cards() -> Vec<(Vec<u8>, u8)> {
         (card_with(49, &[0; 12]), 14),
         (card_with(3, &[64]), 1),
         (card_with(7, &[2]), 1),
-        (card_with(11, &[13]), 1),
+        (card_with(11, &[17]), 1),
         (card_with(15, &[33]), 1),
         (card_with(19, &[0; 4]), 2),
         (card_with(34, &[0; 12]), 2),
