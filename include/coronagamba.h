@@ -222,6 +222,13 @@ typedef struct {
   uint32_t z;
 } coronagamba_cell;
 
+/* A place in voxels. */
+typedef struct {
+  int64_t x;
+  int64_t y;
+  int64_t z;
+} coronagamba_point;
+
 /* How many cells the volume has. Writes the numbers along x, y and z to
  * `grid`. Refusals: 2 where an extent is 0 */
 uint64_t coronagamba_grid_of(coronagamba_volume volume, uint32_t grid[3]);
@@ -240,6 +247,17 @@ uint64_t coronagamba_key_of(coronagamba_volume volume, coronagamba_cell cell,
 uint64_t coronagamba_keys_of(coronagamba_volume volume, const uint32_t *cells,
                              size_t count, uint64_t *keys, size_t keys_count,
                              uint64_t *length);
+
+/* The chunks that cover a box: the keys of all cells that share a voxel with
+ * it, rising, each once. The box begins at `lower` and ends at `upper`, that
+ * end excluded along each axis, in voxels, the volume's offset included. An
+ * empty or reversed box, and one outside the volume, has none. Writes the
+ * keys to the front of `keys`, and their number to `length`. Takes time by
+ * the keys that it writes and their bits, whatever the box and the grid.
+ * Refusals: 2 where an extent is 0, 3, 13 where `keys` has room for fewer */
+uint64_t coronagamba_cover(coronagamba_volume volume, coronagamba_point lower,
+                           coronagamba_point upper, uint64_t *keys,
+                           size_t count, uint64_t *length);
 
 /* The cell of a key. Writes its x, y and z to `cell`. Refusals: 2 where an
  * extent is 0, 3, 4 */

@@ -36,16 +36,19 @@ static float real_of(uint32_t bits) {
   return real;
 }
 
-/* Grid 5,3,1: cell 4,2,0 has key 24; 3,1,0 has key 7; key 20 gives 4. */
+/* Grid 5,3,1: cell 4,2,0 has key 24; 3,1,0 has key 7; key 20 gives 4. The box
+ * of cells 1 and 2 along x, 0 and 1 along y has keys 1, 3, 4 and 6. */
 static void grid(void) {
   coronagamba_volume volume = {{5, 3, 1}, {1, 1, 1}, {0, 0, 0}};
   coronagamba_volume strip = {{100, 1, 1}, {64, 1, 1}, {-64, 0, 0}};
   coronagamba_cell cell = {4, 2, 0};
   coronagamba_cell second = {1, 0, 0};
+  coronagamba_point lower = {1, 0, 0}, upper = {3, 2, 1};
   const uint32_t cells[7] = {4, 2, 0, 3, 1, 0, 5};
   uint32_t found[3] = {0, 0, 0};
   int64_t begin[3], end[3];
   uint64_t key = 0, keys[3] = {9, 9, 9}, length = 0;
+  uint64_t covering[5] = {9, 9, 9, 9, 9};
   uint8_t name[71];
   see(coronagamba_grid_of(volume, found) == 0 && found[0] == 5 && found[2] == 1,
       "grid_of");
@@ -53,6 +56,17 @@ static void grid(void) {
   see(coronagamba_keys_of(volume, cells, 7, keys, 3, &length) == 0 &&
           length == 2 && keys[0] == 24 && keys[1] == 7 && keys[2] == 9,
       "keys_of");
+  see(coronagamba_cover(volume, lower, upper, covering, 5, &length) == 0 &&
+          length == 4 && covering[0] == 1 && covering[1] == 3 &&
+          covering[2] == 4 && covering[3] == 6 && covering[4] == 9,
+      "cover");
+  see(coronagamba_cover(volume, lower, upper, keys, 3, &length) ==
+              CORONAGAMBA_REFUSED_NO_ROOM &&
+          length == 4 && keys[2] == 9,
+      "cover, too short");
+  see(coronagamba_cover(volume, upper, lower, keys, 3, &length) == 0 &&
+          length == 0,
+      "cover, reversed");
   see(coronagamba_cell_of(volume, 24, found) == 0 && found[0] == 4 &&
           found[1] == 2 && found[2] == 0,
       "cell_of");

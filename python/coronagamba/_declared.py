@@ -78,6 +78,16 @@ class Cell(ctypes.Structure):
     ]
 
 
+class Point(ctypes.Structure):
+    """A place in voxels."""
+
+    _fields_ = [
+        ("x", ctypes.c_int64),
+        ("y", ctypes.c_int64),
+        ("z", ctypes.c_int64),
+    ]
+
+
 # The structs, by their names in C.
 STRUCTS: Dict[str, Any] = {
     "coronagamba_sharding": Sharding,
@@ -85,6 +95,7 @@ STRUCTS: Dict[str, Any] = {
     "coronagamba_offset": Offset,
     "coronagamba_volume": Volume,
     "coronagamba_cell": Cell,
+    "coronagamba_point": Point,
 }
 
 # For each function, what it gives and what it takes.
@@ -129,6 +140,25 @@ FUNCTIONS: Dict[str, Tuple[Any, Tuple[Any, ...]]] = {
             Volume,
             POINTER(ctypes.c_uint32),
             ctypes.c_size_t,
+            POINTER(ctypes.c_uint64),
+            ctypes.c_size_t,
+            POINTER(ctypes.c_uint64),
+        ),
+    ),
+    # The chunks that cover a box: the keys of all cells that share a voxel
+    # with it, rising, each once. The box begins at `lower` and ends at
+    # `upper`, that end excluded along each axis, in voxels, the volume's
+    # offset included. An empty or reversed box, and one outside the volume,
+    # has none. Writes the keys to the front of `keys`, and their number to
+    # `length`. Takes time by the keys that it writes and their bits, whatever
+    # the box and the grid.
+    # Refusals: 2 where an extent is 0, 3, 13 where `keys` has room for fewer
+    "coronagamba_cover": (
+        ctypes.c_uint64,
+        (
+            Volume,
+            Point,
+            Point,
             POINTER(ctypes.c_uint64),
             ctypes.c_size_t,
             POINTER(ctypes.c_uint64),

@@ -50,6 +50,11 @@ def i32(name: str, value: Any) -> int:
     return _fitting(name, value, -(2**31), 2**31 - 1)
 
 
+def i64(name: str, value: Any) -> int:
+    """The value as a signed number of 64 bits."""
+    return _fitting(name, value, -(2**63), 2**63 - 1)
+
+
 def _three(name: str, values: Iterable[Any]) -> Tuple[Any, ...]:
     try:
         found = tuple(values)
@@ -72,3 +77,9 @@ def three_i32(name: str, values: Iterable[Any]) -> Tuple[int, int, int]:
     """Three values, along x, y and z, as signed numbers of 32 bits."""
     x, y, z = _three(name, values)
     return i32(f"{name} x", x), i32(f"{name} y", y), i32(f"{name} z", z)
+
+
+def three_i64(name: str, values: Iterable[Any]) -> Tuple[int, int, int]:
+    """Three values, along x, y and z, as signed numbers of 64 bits."""
+    x, y, z = _three(name, values)
+    return i64(f"{name} x", x), i64(f"{name} y", y), i64(f"{name} z", z)

@@ -9,7 +9,7 @@ from typing import Iterable, NamedTuple, Union
 from . import _declared
 from ._buffers import Lent, Numbers, ReadableBuffer, own, u32_triples, zeros
 from ._library import library
-from ._numbers import three_i32, three_u32, u64
+from ._numbers import three_i32, three_i64, three_u32, u64
 from .refusal import answer
 
 _ThreeU32 = c_uint32 * 3
@@ -133,6 +133,56 @@ class Volume:
                 )
             )
         return keys
+
+    def cover(
+        self,
+        lower: Iterable[int],
+        upper: Iterable[int],
+        most: int = 2**24,
+    ) -> Numbers:
+        """The keys of all cells that share a voxel with the box from `lower`
+        up to `upper`, `upper` excluded, as a rising array of code Q: none
+        where the box is empty, reversed or outside the volume. Refusals 2, 3,
+        and 13 where there are more than `most`; that is said at once, however
+        many there are.
+
+        >>> from coronagamba import Volume
+        >>> volume = Volume((100, 1, 1), (64, 1, 1), (-64, 0, 0))
+        >>> volume.cover((-1, 0, 0), (1, 1, 1)).tolist()
+        [0, 1]
+        >>> volume.cover((36, 0, 0), (99, 1, 1)).tolist()
+        []
+        """
+        most = u64("most", most)
+        begin = _declared.Point(*three_i64("lower", lower))
+        end = _declared.Point(*three_i64("upper", upper))
+        # More than `most` are refused without room for any.
+        cells = self._cells_within(begin, end)
+        room, length = cells if cells <= most else 0, c_uint64()
+        keys = zeros("Q", room)
+        answer(
+            library.coronagamba_cover(
+                self._struct(), begin, end, own(c_uint64, keys), room, byref(length)
+            )
+        )
+        return keys[: length.value]
+
+    def _cells_within(self, begin: _declared.Point, end: _declared.Point) -> int:
+        """How many cells share a voxel with a box, 0 where the volume has a
+        zero extent: the room to ask the library with, which decides."""
+        cells = 1
+        for offset, size, chunk, lower, upper in zip(
+            self.offset,
+            self.size,
+            self.chunk,
+            (begin.x, begin.y, begin.z),
+            (end.x, end.y, end.z),
+        ):
+            first, past = max(lower, offset), min(upper, offset + size)
+            if past <= first or chunk == 0:
+                return 0
+            cells *= (past - 1 - offset) // chunk - (first - offset) // chunk + 1
+        return cells
 
     def cell(self, key: int) -> Cell:
         """The cell of a key. Refusals 2, 3, 4."""

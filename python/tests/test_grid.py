@@ -146,6 +146,77 @@ class ManyKeys(unittest.TestCase):
                 CASE.keys(given)
 
 
+class Covers(unittest.TestCase):
+    def test_cells_of_a_box(self):
+        # By hand: cells 1,0 and 1,1 and 2,0 and 2,1 of grid 5,3,1.
+        found = CASE.cover((1, 0, 0), (3, 2, 1))
+        self.assertEqual(found, array("Q", [1, 3, 4, 6]))
+        self.assertEqual(found.typecode, "Q")
+        self.assertEqual(SHIFTED.cover((-1, 0, 0), (1, 1, 1)).tolist(), [0, 1])
+        self.assertEqual(SHIFTED.cover((35, 0, 0), (99, 9, 9)).tolist(), [1])
+
+    def test_boxes_without_cells(self):
+        for lower, upper in (
+            ((5, 0, 0), (5, 1, 1)),
+            ((5, 0, 0), (-5, 1, 1)),
+            ((36, 0, 0), (99, 1, 1)),
+            ((-99, 0, 0), (-64, 1, 1)),
+            ((2**63 - 1,) * 3, (-(2**63),) * 3),
+        ):
+            self.assertEqual(SHIFTED.cover(lower, upper).tolist(), [])
+
+    def test_by_each_cell(self):
+        volume = Volume((7, 5, 3), (2, 3, 1), (-3, 0, 4))
+        cells = list(itertools.product(range(4), range(2), range(3)))
+        rng = random.Random(4)
+        for _ in range(300):
+            lower = [rng.randrange(-5, 9) for _ in "xyz"]
+            upper = [rng.randrange(-5, 9) for _ in "xyz"]
+            expected = sorted(
+                key((4, 2, 3), cell)
+                for cell in cells
+                if all(
+                    max(b, l) < min(e, u)
+                    for b, e, l, u in zip(*volume.bounds(cell), lower, upper)
+                )
+            )
+            found = volume.cover(iter(lower), upper, len(expected))
+            self.assertEqual(found.tolist(), expected)
+            if expected:
+                with self.assertRaises(Refused) as caught:
+                    volume.cover(lower, upper, len(expected) - 1)
+                self.assertEqual(caught.exception.number, 13)
+
+    def test_more_keys_than_the_first_room(self):
+        volume = Volume((20, 20, 20), UNIT)
+        found = volume.cover((1, 1, 1), (20, 20, 20))
+        expected = itertools.product(range(1, 20), repeat=3)
+        self.assertEqual(
+            found.tolist(), sorted(key((20, 20, 20), at) for at in expected)
+        )
+
+    def test_a_large_grid_is_refused_at_once(self):
+        volume = Volume((2**21,) * 3, UNIT)
+        with self.assertRaises(Refused) as caught:
+            volume.cover((-(2**63),) * 3, (2**63 - 1,) * 3, 10)
+        self.assertEqual(caught.exception.number, 13)
+
+    def test_refusals_and_numbers(self):
+        for volume, number in (
+            (Volume((0, 1, 1), UNIT), 2),
+            (Volume((2**22, 2**22, 2**21), UNIT), 3),
+        ):
+            with self.assertRaises(Refused) as caught:
+                volume.cover((0, 0, 0), (0, 0, 0))
+            self.assertEqual(caught.exception.number, number)
+        with self.assertRaisesRegex(OverflowError, "^lower x must be from"):
+            CASE.cover((2**63, 0, 0), (0, 0, 0))
+        with self.assertRaisesRegex(ValueError, "^upper must be three"):
+            CASE.cover((0, 0, 0), (0, 0))
+        with self.assertRaisesRegex(OverflowError, "^most must be from"):
+            CASE.cover((0, 0, 0), (0, 0, 0), -1)
+
+
 class CellBounds(unittest.TestCase):
     def test_the_scopes_case(self):
         self.assertEqual(

@@ -15,7 +15,10 @@ KEPT = 0x55
 ALLOWED = _declared.Sharding(0, 0, 1, 0)
 FORBIDDEN = _declared.Sharding(64, 0, 0, 0)
 UNIT = _declared.Volume((1, 1, 1), (1, 1, 1), (0, 0, 0))
+ROW = _declared.Volume((3, 1, 1), (1, 1, 1), (0, 0, 0))
 NO_VOLUME = _declared.Volume()
+CORNER = _declared.Point(0, 0, 0)
+FAR = _declared.Point(2**63 - 1, 1, 1)
 CELL = _declared.Cell(0, 0, 0)
 # The first minishard is empty, the second one's entry is reversed.
 FILE = (c_uint8 * 32).from_buffer_copy(u64s(0, 0, 1, 0))
@@ -42,6 +45,8 @@ CALLS = [
     (2, "key_of", (NO_VOLUME, CELL), [U64]),
     (2, "keys_of", (NO_VOLUME, CELLS, 6), [(TWO_U64, 2), U64]),
     (13, "keys_of", (UNIT, CELLS, 6), [(c_uint64 * 1, 1), U64]),
+    (2, "cover", (NO_VOLUME, CORNER, FAR), [(TWO_U64, 2), U64]),
+    (13, "cover", (ROW, CORNER, FAR), [(TWO_U64, 2), U64]),
     (2, "cell_of", (NO_VOLUME, 0), [THREE_U32]),
     (4, "cell_of", (UNIT, 1), [THREE_U32]),
     (2, "bounds_of", (NO_VOLUME, CELL), [THREE_I64, THREE_I64]),

@@ -4,6 +4,7 @@ pub mod spans;
 pub use spans::bounds_of;
 
 // A place in voxels.
+#[repr(C)]
 pub struct Point {
     pub x: i64,
     pub y: i64,

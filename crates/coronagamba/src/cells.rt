@@ -4,6 +4,7 @@ ghost use mathlib.Core.List.{[], _∷_};
 ghost use Rattle.grid.specs.Answers.{gridAnswer, keyAnswer, cellAnswer};
 ghost use Rattle.bounds.specs.Answers.{boundsAnswer};
 ghost use Rattle.batch.specs.Batch.{cellsOf, keysAnswer, keysLeft};
+ghost use Rattle.cover.specs.Cover.{coverAnswer, coverLeft};
 ghost use Rattle.coronagamba.specs.Word.{writtenWord, lengthAfter};
 ghost use Rattle.coronagamba.specs.Cells.{gridWord, gridAfter, keyWord, keyAfter, cellWord, cellAfter, boundsWord, beginAfter, endAfter};
 use bounds::BoundsAnswer;
@@ -64,6 +65,33 @@ pub extern "C" fn coronagamba_keys_of(
     ensures length { λ _. ⌜ now (length .exit) ≡ lengthAfter (keysAnswer volume (cellsOf (now (cells .entry))) (now (keys .entry))) (now (length .entry)) ⌝ }
 {
     match batch::keys_of(volume, cells, keys) {
+        Written::Length(n) => {
+            *length = n as u64;
+            0
+        }
+        Written::Refused(number) => number as u64,
+    }
+}
+
+// The chunks that cover a box: the keys of all cells that share a voxel with it, rising, each once.
+// The box begins at `lower` and ends at `upper`, that end excluded along each axis, in voxels, the
+// volume's offset included. An empty or reversed box, and one outside the volume, has none. Writes
+// the keys to the front of `keys`, and their number to `length`. Takes time by the keys that it
+// writes and their bits, whatever the box and the grid.
+// Refusals: 2 where an extent is 0, 3, 13 where `keys` has room for fewer
+#[no_mangle]
+pub extern "C" fn coronagamba_cover(
+    volume: Volume,
+    lower: Point,
+    upper: Point,
+    keys: &mut [u64],
+    length: &mut u64,
+) -> u64
+    ensures answer { λ r. ⌜ r ≡ writtenWord (coverAnswer volume lower upper (now (keys .entry))) ⌝ }
+    ensures keys { λ _. ⌜ now (keys .exit) ≡ coverLeft volume lower upper (now (keys .entry)) ⌝ }
+    ensures length { λ _. ⌜ now (length .exit) ≡ lengthAfter (coverAnswer volume lower upper (now (keys .entry))) (now (length .entry)) ⌝ }
+{
+    match cover::cover(volume, lower, upper, keys) {
         Written::Length(n) => {
             *length = n as u64;
             0

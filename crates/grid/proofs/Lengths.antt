@@ -31,7 +31,7 @@ module _ (g r : ℕ) (top : g ≤ 2 ^ r) (below : (i : ℕ) → i < r → 2 ^ i 
   used-turns (suc n) i h = one-more n i (used-turns n (suc i) (omega arith)) (decLt i r)
 
   pub axis-bits-are : r ≤ 32 → AxisBits g r
-  axis-bits-are h = record { is = omega (arith, used-turns 32 0 h); most = h; holds = top }
+  axis-bits-are h = record { is = omega (arith, used-turns 32 0 h); most = h; holds = top; needs = below }
 
 pub no-axis-bits : (g : ℕ) → g ≡ 0 → AxisBits g 0
 no-axis-bits g e = axis-bits-are g 0 (omega arith) (λ i l. absurd (omega arith)) (omega arith)

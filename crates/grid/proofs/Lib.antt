@@ -5,5 +5,4 @@ pub mod Lengths
 pub mod Turns
 pub mod Ways
 pub mod Laws
-pub mod Halves
 pub mod Cases

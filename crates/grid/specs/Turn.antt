@@ -1,5 +1,5 @@
 -- What the inner functions' contracts say of one turn: a key that grows below, or is read and shortened, by one bit.
-use Prim.Native.Nat.{ℕ, zero, suc, _+_, _*_, _/_, _%_, _^_, _≤_}
+use Prim.Native.Nat.{ℕ, zero, suc, _+_, _*_, _/_, _%_, _^_, _≤_, _<_}
 use mathlib.Core.Bool.{Bool, true, false}
 use mathlib.Core.Path.{_≡_}
 use Rattle.grid.specs.declared.Extents.{Extents}
@@ -23,11 +23,12 @@ unfoldable pub usedTurns : ℕ → ℕ → ℕ → ℕ
 usedTurns zero i cells = 0
 usedTurns (suc n) i cells = count (used cells i) + usedTurns n (suc i) cells
 
--- an axis of so many cells gives r bits to a key: r turns use it, and none from turn r on
+-- an axis of so many cells gives r bits to a key: the r turns below r use it, and none from turn r on
 pub record AxisBits (cells r : ℕ) : Type 0 where
   pub is : r ≡ usedTurns 32 0 cells
   pub most : r ≤ 32
   pub holds : cells ≤ 2 ^ r
+  pub needs : (i : ℕ) → i < r → 2 ^ i < cells
 
 -- from turn r on no axis of the grid is used
 pub record Top (grid : Extents) (r : ℕ) : Type 0 where

@@ -2,17 +2,7 @@
 ghost use mathlib.Core.Path.{_≡_};
 ghost use Prim.Native.Nat.{_*_, _%_, _^_, _<_};
 ghost use Rattle.grid.specs.Key.{bitOf, used};
-ghost use Rattle.grid.specs.Turn.{put, low, rest, AxisBits};
-
-// How many turns use an axis of size g: the length in bits of its last coordinate.
-pub fn axis_bits(g: u32) -> u32
-    ensures { λ r. ⌜ AxisBits g r ⌝ }
-{
-    if g == 0 {
-        return 0;
-    }
-    32 - u32::leading_zeros(g - 1)
-}
+ghost use Rattle.grid.specs.Turn.{put, low, rest};
 
 // Turn i uses an axis of size g.
 pub fn uses(g: u32, i: u32) -> bool

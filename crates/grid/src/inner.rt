@@ -4,7 +4,7 @@ ghost use mathlib.Core.Bool.{false};
 ghost use Prim.Native.Nat.{_<_, _≤_};
 ghost use Rattle.grid.specs.Grid.{gridSize, gridOf, hasZero, zeroExtent, inGrid};
 ghost use Rattle.grid.specs.Key.{keyBits, tooManyBits, keyOf, cellOf};
-ghost use Rattle.grid.specs.Turn.{Top};
+ghost use Rattle.grid.specs.Turn.{AxisBits, Top};
 use crate::Cell;
 use crate::Extents;
 use crate::Volume;
@@ -71,11 +71,21 @@ pub fn inside(grid: Extents, cell: Cell) -> bool
     cell.z < grid.z
 }
 
+// How many turns use an axis of size g: the length in bits of its last coordinate.
+pub fn axis_bits(g: u32) -> u32
+    ensures { λ r. ⌜ AxisBits g r ⌝ }
+{
+    if g == 0 {
+        return 0;
+    }
+    32 - u32::leading_zeros(g - 1)
+}
+
 // How many bits the grid's keys have.
 pub fn key_bits(grid: Extents) -> u32
     ensures { λ r. ⌜ r ≡ keyBits grid ⌝ }
 {
-    axis::axis_bits(grid.x) + axis::axis_bits(grid.y) + axis::axis_bits(grid.z)
+    axis_bits(grid.x) + axis_bits(grid.y) + axis_bits(grid.z)
 }
 
 // The grid needs more than 64: refusal 3.
@@ -106,8 +116,8 @@ fn turns(grid: Extents) -> u32
     ensures { λ r. ⌜ Top grid r ⌝ }
 {
     most(
-        most(axis::axis_bits(grid.x), axis::axis_bits(grid.y)),
-        axis::axis_bits(grid.z),
+        most(axis_bits(grid.x), axis_bits(grid.y)),
+        axis_bits(grid.z),
     )
 }
 

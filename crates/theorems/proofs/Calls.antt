@@ -9,6 +9,7 @@ use Rattle.refusal.specs.declared.Written.the-variants.{Refused}
 use Rattle.refusal.proofs.Refusing.{refuses, keeping}
 use Rattle.grid.specs.declared.Volume.{Volume}
 use Rattle.grid.specs.declared.Cell.{Cell}
+use Rattle.bounds.specs.declared.Point.{Point}
 use Rattle.grid.specs.declared.GridAnswer.the-variants as G
 use Rattle.grid.specs.declared.KeyAnswer.the-variants as K
 use Rattle.grid.specs.declared.CellAnswer.the-variants as C
@@ -16,6 +17,7 @@ use Rattle.bounds.specs.declared.BoundsAnswer.the-variants as B
 use Rattle.grid.specs.Answers.{gridChecks, gridAnswer, keyChecks, keyAnswer, cellChecks, cellAnswer}
 use Rattle.bounds.specs.Answers.{boundsChecks, boundsAnswer}
 use Rattle.batch.specs.Batch.{keysChecks, keysAnswer, keysLeft}
+use Rattle.cover.specs.Cover.{coverChecks, coverAnswer, coverLeft}
 use Rattle.sharding.specs.declared.Sharding.{Sharding}
 use Rattle.sharding.specs.declared.PlaceAnswer.the-variants as P
 use Rattle.sharding.specs.Place.{placeChecks, placeAnswer}
@@ -55,6 +57,14 @@ module _ (v : Volume) where
   pub keys-kept : (cells : List Cell) (out : List ℕ) (k : ℕ) → keysAnswer v cells out ≡ Refused k → keysLeft v cells out ≡ out
   unfolding keysAnswer keysLeft
   keys-kept cells out k e = keeping Refused (keysChecks v cells out) _ _ out k (λ h. cc) e
+
+  pub cover-refuses : (lower upper : Point) (out : List ℕ) → Refuses (coverAnswer v lower upper out) Refused (coverChecks v lower upper out)
+  unfolding coverAnswer coverChecks
+  cover-refuses lower upper out = refuses Refused (λ j k e. cc) (coverChecks v lower upper out) _ refl (λ k e. cc)
+
+  pub cover-kept : (lower upper : Point) (out : List ℕ) (k : ℕ) → coverAnswer v lower upper out ≡ Refused k → coverLeft v lower upper out ≡ out
+  unfolding coverAnswer coverLeft
+  cover-kept lower upper out k e = keeping Refused (coverChecks v lower upper out) _ _ out k (λ h. cc) e
 
   pub cell-refuses : (key : ℕ) → Refuses (cellAnswer v key) C.Refused (cellChecks v key)
   unfolding cellAnswer cellChecks

@@ -19,7 +19,7 @@ use Rattle.card.proofs.Meaning.{one-meaning-one-card}
 use Rattle.document.proofs.Meaning.{meaning}
 use Rattle.nodes.proofs.Each.{node-numbers}
 use Rattle.theorems.specs.Demands.{Demand1, Demand2, Demand3}
-use Rattle.theorems.proofs.Calls.{grid-refuses, key-refuses, keys-refuses, keys-kept, cell-refuses, bounds-refuses, chunk-name-refuses, chunk-name-kept, place-refuses, places-refuses, places-kept, shard-name-refuses, shard-name-kept, card-read-refuses, card-write-refuses, card-kept, manifest-refuses, header-refuses, field-refuses, node-refuses, nodes-refuses, nodes-kept, corners-refuses}
+use Rattle.theorems.proofs.Calls.{grid-refuses, key-refuses, keys-refuses, keys-kept, cover-refuses, cover-kept, cell-refuses, bounds-refuses, chunk-name-refuses, chunk-name-kept, place-refuses, places-refuses, places-kept, shard-name-refuses, shard-name-kept, card-read-refuses, card-write-refuses, card-kept, manifest-refuses, header-refuses, field-refuses, node-refuses, nodes-refuses, nodes-kept, corners-refuses}
 
 pub demand-1 : Demand1
 demand-1 =
@@ -27,6 +27,7 @@ demand-1 =
       grid = grid-refuses;
       key = key-refuses;
       keys = keys-refuses;
+      cover = cover-refuses;
       cell = cell-refuses;
       bounds = bounds-refuses;
       place = place-refuses;
@@ -52,6 +53,7 @@ demand-1 =
       nodes = nodes-refuses;
       corners = corners-refuses;
       keysKept = keys-kept;
+      coverKept = cover-kept;
       placesKept = places-kept;
       chunkNameKept = chunk-name-kept;
       shardNameKept = shard-name-kept;

@@ -24,7 +24,8 @@ use Rattle.card.proofs.Before.{same-record, new-card-is-1, other-bytes-same, wr
 use Rattle.shard.proofs.Earlier.{earlier-sound, earlier-passes}
 use Rattle.form.proofs.Earlier.{earlier-form}
 use Rattle.settle.proofs.Demand3.{demand-3-written}
-use Rattle.theorems.specs.Orders.{Order2, Order4}
+use Rattle.cover.proofs.Laws.{listed-is, cell-listed, keys-rise, reversed-lists-none, outside-lists-none, keys-written}
+use Rattle.theorems.specs.Orders.{Order2, Order4, Order5}
 
 pub order-2 : Order2
 order-2 = record {
@@ -76,4 +77,14 @@ order-4 = record {
   new = new-card-is-1;
   other = other-bytes-same;
   read = λ s c e. sym (other-bytes-same s (λ h. says-none 1 c (sym (new-card-is-1 s h) ∙ e))) ∙ e;
+}
+
+pub order-5 : Order5
+order-5 = record {
+  listed = listed-is;
+  cells = cell-listed;
+  rising = keys-rise;
+  empty = reversed-lists-none;
+  beside = outside-lists-none;
+  written = keys-written;
 }

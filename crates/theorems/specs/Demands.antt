@@ -11,6 +11,7 @@ use Rattle.refusal.specs.declared.Written.the-variants.{Length, Refused}
 use Rattle.endian.specs.Place.{Holds}
 use Rattle.grid.specs.declared.Volume.{Volume}
 use Rattle.grid.specs.declared.Cell.{Cell}
+use Rattle.bounds.specs.declared.Point.{Point}
 use Rattle.grid.specs.declared.GridAnswer.the-variants as G
 use Rattle.grid.specs.declared.KeyAnswer.the-variants as K
 use Rattle.grid.specs.declared.CellAnswer.the-variants as C
@@ -20,6 +21,7 @@ use Rattle.grid.specs.Key.{keyBits, keyOf}
 use Rattle.grid.specs.Answers.{noCell, gridChecks, gridAnswer, keyChecks, keyAnswer, cellChecks, cellAnswer}
 use Rattle.bounds.specs.Answers.{boundsChecks, boundsAnswer}
 use Rattle.batch.specs.Batch.{keysChecks, keysAnswer, keysLeft}
+use Rattle.cover.specs.Cover.{coverChecks, coverAnswer, coverLeft}
 use Rattle.sharding.specs.declared.Sharding.{Sharding}
 use Rattle.sharding.specs.declared.PlaceAnswer.the-variants as P
 use Rattle.sharding.specs.Specification.{noSuchShard}
@@ -66,6 +68,7 @@ pub record Demand1 : Type 0 where
   pub keys : (v : Volume) (cells : List Cell) (out : List ℕ) → Refuses (keysAnswer v cells out) Refused (keysChecks v cells out)
   pub cell : (v : Volume) (k : ℕ) → Refuses (cellAnswer v k) C.Refused (cellChecks v k)
   pub bounds : (v : Volume) (c : Cell) → Refuses (boundsAnswer v c) B.Refused (boundsChecks v c)
+  pub cover : (v : Volume) (lower upper : Point) (out : List ℕ) → Refuses (coverAnswer v lower upper out) Refused (coverChecks v lower upper out)
   pub place : (spec : Sharding) (id : ℕ) → Refuses (placeAnswer spec id) P.Refused (placeChecks spec)
   pub places : (spec : Sharding) (ids shards minishards : List ℕ) → Refuses (placesAnswer spec ids shards minishards) Refused (placesChecks spec ids shards minishards)
   pub chunkName : (v : Volume) (c : Cell) (out : List ℕ) → Refuses (chunkNameAnswer v c out) Refused (chunkNameChecks v c out)
@@ -91,6 +94,7 @@ pub record Demand1 : Type 0 where
   pub corners : (s : List ℕ) (l i : ℕ) → Refuses (cornersAnswer s l i) Cs.Refused (cornersChecks s l i)
   -- And it changes no byte of a buffer that was lent.
   pub keysKept : (v : Volume) (cells : List Cell) (out : List ℕ) (k : ℕ) → keysAnswer v cells out ≡ Refused k → keysLeft v cells out ≡ out
+  pub coverKept : (v : Volume) (lower upper : Point) (out : List ℕ) (k : ℕ) → coverAnswer v lower upper out ≡ Refused k → coverLeft v lower upper out ≡ out
   pub placesKept : (spec : Sharding) (ids shards minishards : List ℕ) (k : ℕ) → placesAnswer spec ids shards minishards ≡ Refused k
       → (shardsLeft spec ids shards minishards ≡ shards) × (minishardsLeft spec ids shards minishards ≡ minishards)
   pub chunkNameKept : (v : Volume) (c : Cell) (out : List ℕ) (k : ℕ) → chunkNameAnswer v c out ≡ Refused k → chunkNameLeft v c out ≡ out

@@ -1,12 +1,22 @@
 -- What the orders promise (02), beyond the demands, which hold as they did.
 use Prim.Native.Nat.{ℕ, _<_, _≤_}
 use mathlib.Core.Path.{_≡_}
-use mathlib.Core.Bool.{Bool, true, not}
-use mathlib.Core.List.{List, [], _∷_}
+use mathlib.Core.Bool.{Bool, true, false, not}
+use mathlib.Core.Logic.{_↔_}
+use mathlib.Core.List.{List, [], _∷_, List·Memᴰ}
 use lib.ListN.{length, take, getD}
 use Rattle.refusal.specs.Checks.{check}
 use Rattle.refusal.specs.Buffer.{over, room}
 use Rattle.refusal.specs.declared.Written.the-variants.{Length}
+use Rattle.grid.specs.declared.Cell.{Cell}
+use Rattle.bounds.specs.declared.Point.{Point}
+use Rattle.grid.specs.declared.Volume.{Volume}
+use Rattle.grid.specs.declared.KeyAnswer.the-variants.{Key}
+use Rattle.grid.specs.Grid.{gridOf, zeroExtent, InU32}
+use Rattle.grid.specs.Key.{tooManyBits, cellOf, isKey}
+use Rattle.grid.specs.Answers.{keyAnswer}
+use Rattle.cover.specs.Cover.{coverKeys, coverAnswer, coverLeft}
+use Rattle.cover.specs.Meaning.{SharesVoxel, RisingFrom, reversed, outside}
 use Rattle.sharding.specs.declared.Sharding.{Sharding}
 use Rattle.sharding.specs.Specification.{minishardBits, allowed, noSuchShard}
 use Rattle.sharding.specs.Place.{placeChecks}
@@ -59,3 +69,22 @@ pub record Order4 : Type 0 where
   pub other : (s : List ℕ) → (NewCard s → ⊥) → readAnswerBefore s ≡ readAnswer s
   -- and what it read is read so now.
   pub read : (s : List ℕ) (c : Card) → readAnswerBefore s ≡ Says c → readAnswer s ≡ Says c
+
+-- Order 5: "List the keys of all grid cells that share a voxel with the box, each once, in rising key order."
+pub record Order5 : Type 0 where
+  -- A number is listed exactly when it is a key of the grid and there is a voxel in that key's cell and in the box;
+  pub listed : (v : Volume) (lower upper : Point) (k : ℕ)
+      → List·Memᴰ k (coverKeys v lower upper) ↔ ((isKey (gridOf v) k ≡ true) × SharesVoxel v lower upper (cellOf (gridOf v) k))
+  -- the same of each cell and the key that it is answered with.
+  pub cells : (v : Volume) (lower upper : Point) (c : Cell) (k : ℕ) → InU32 (v .size) → keyAnswer v c ≡ Key k
+      → List·Memᴰ k (coverKeys v lower upper) ↔ SharesVoxel v lower upper c
+  -- Each is above the one before it, so none stands twice.
+  pub rising : (v : Volume) (lower upper : Point) → RisingFrom 0 (coverKeys v lower upper)
+  -- "an empty or reversed one, or one outside the volume, lists none".
+  pub empty : (v : Volume) (lower upper : Point) → reversed lower upper ≡ true → coverKeys v lower upper ≡ []
+  pub beside : (v : Volume) (lower upper : Point) → outside v lower upper ≡ true → coverKeys v lower upper ≡ []
+  -- Where nothing is refused, the keys stand at the front of the output, which is as it was past them, and "the count returned is the
+  -- number of keys".
+  pub written : (v : Volume) (lower upper : Point) (out : List ℕ) → zeroExtent v ≡ false → tooManyBits (gridOf v) ≡ false
+      → length (coverKeys v lower upper) ≤ length out
+      → (coverAnswer v lower upper out ≡ Length (length (coverKeys v lower upper))) × (coverLeft v lower upper out ≡ over (coverKeys v lower upper) out)

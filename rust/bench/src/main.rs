@@ -5,7 +5,7 @@
 //! runs, its median and its middle half, and, where the memory sets one, the
 //! limit. Both sides do the same work with the same tests, and must give the
 //! same answers. Words on the command line choose the measures whose group has
-//! one of them: key, place, shard, card, info, manifest, locate, desk.
+//! one of them: key, cover, place, shard, card, info, manifest, locate, desk.
 
 mod cards;
 mod clock;
@@ -18,8 +18,9 @@ mod runner;
 mod shards;
 
 /// The groups of measures, by the word that chooses them.
-const GROUPS: [(&str, fn()); 8] = [
+const GROUPS: [(&str, fn()); 9] = [
     ("key", places::run_keys),
+    ("cover", places::run_covers),
     ("place", places::run_places),
     ("shard", shards::run),
     ("card", cards::run),

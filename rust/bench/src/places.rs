@@ -2,7 +2,7 @@
 
 use crate::runner::{numbers, Measure};
 use bench::plain::places as plain;
-use coronagamba::{Cell, Place, Sharding, Volume};
+use coronagamba::{Bounds, Cell, Place, Sharding, Volume};
 use std::hint::black_box;
 
 /// A volume in chunks of 64 with this grid.
@@ -50,6 +50,73 @@ fn keys(name: &str, grid: [u32; 3]) {
         || {
             assert!(plain::keys(&volume, &cells, &mut theirs).is_ok());
             theirs.iter().fold(0, |all, key| all ^ key)
+        },
+    );
+}
+
+/// The keys of a box of so many cells that begins in this cell, some voxels
+/// past the cell's own begin.
+fn covering(name: &str, grid: [u32; 3], first: [u32; 3], cells: [u32; 3]) {
+    let volume = black_box(volume(grid));
+    let voxel = |axis: usize, cell: u32, past: i64| 64 * i64::from(first[axis] + cell) + past;
+    let within = Bounds {
+        begin: [0, 1, 2].map(|axis| voxel(axis, 0, 17)).into(),
+        end: [0, 1, 2]
+            .map(|axis| voxel(axis, cells[axis] - 1, 40))
+            .into(),
+    };
+    let count = cells.iter().product::<u32>() as usize;
+    let (mut ours, mut theirs) = (vec![0; count], vec![0; count]);
+    let rounds = (1 << 19) / count.min(1 << 19);
+    Measure {
+        name: &format!("cover, {name}, a key"),
+        operations: rounds * count,
+        bar: Some(1.0),
+    }
+    .run(
+        || {
+            (0..rounds).fold(0, |all, _| {
+                assert_eq!(volume.write_cover(black_box(within), &mut ours), Ok(count));
+                all ^ ours[count - 1] ^ ours[count / 2]
+            })
+        },
+        || {
+            (0..rounds).fold(0, |all, _| {
+                let written = plain::cover(&volume, black_box(within), &mut theirs);
+                assert_eq!(written, Ok(count));
+                all ^ theirs[count - 1] ^ theirs[count / 2]
+            })
+        },
+    );
+    assert_eq!(ours, theirs, "{name}");
+}
+
+/// A box of all cells of a grid with room for ten keys, which is refused.
+fn refusing(name: &str, grid: [u32; 3]) {
+    let volume = black_box(volume(grid));
+    let within = Bounds {
+        begin: [i64::MIN; 3].into(),
+        end: [i64::MAX; 3].into(),
+    };
+    let (mut ours, mut theirs) = ([0; 10], [0; 10]);
+    let calls = 100_000;
+    Measure {
+        name: &format!("cover, {name}, room for 10: refused"),
+        operations: calls,
+        bar: None,
+    }
+    .run(
+        || {
+            (0..calls).fold(0, |all, _| {
+                let answer = volume.write_cover(black_box(within), &mut ours);
+                all + answer.map_or_else(|refusal| u64::from(refusal.number), |_| 0)
+            })
+        },
+        || {
+            (0..calls).fold(0, |all, _| {
+                let answer = plain::cover(&volume, black_box(within), &mut theirs);
+                all + answer.map_or_else(u64::from, |_| 0)
+            })
         },
     );
 }
@@ -148,6 +215,22 @@ pub fn run_keys() {
     keys("grid 101 104 127 (21 bits)", [101, 104, 127]);
     keys("grid 65000 3000 20 (33 bits)", [65_000, 3_000, 20]);
     keys("three axes of 21 bits (63 bits)", [2_000_000; 3]);
+}
+
+/// Prints the lines of boxes.
+pub fn run_covers() {
+    let published = [101, 104, 127];
+    let large = [2_000_000; 3];
+    let far = [333_333, 55_555, 99_999];
+    covering("16 x 16 x 16 of 21 bits", published, [3, 5, 9], [16; 3]);
+    covering("64 x 64 x 64 of 21 bits", published, [3, 5, 9], [64; 3]);
+    covering("16 x 16 x 16 of 63 bits", large, far, [16; 3]);
+    covering("64 x 64 x 64 of 63 bits", large, far, [64; 3]);
+    covering("64 x 64 x 1 of 21 bits", published, [3, 5, 9], [64, 64, 1]);
+    covering("1 x 64 x 64 of 21 bits", published, [3, 5, 9], [1, 64, 64]);
+    covering("4096 x 1 x 1 of 63 bits", large, far, [4096, 1, 1]);
+    covering("1 x 1 x 4096 of 63 bits", large, far, [1, 1, 4096]);
+    refusing("the whole of 63 bits", large);
 }
 
 /// Prints the lines of places.

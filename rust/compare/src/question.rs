@@ -4,8 +4,8 @@
 //! What a question is made of is mostly preceded by a byte that says how it is
 //! meant: as it stands, or as a choice among what the other numbers or the file
 //! allow, so that any bytes ask deep questions as well. With that byte, a
-//! specification takes 5 bytes, a volume 37, a cell 13, a number 9 and the
-//! length of an output 3.
+//! specification takes 5 bytes, a volume 37, a cell 13, a corner of a box 25, a
+//! number 9 and the length of an output 3.
 
 use reference::grid::{grid_size, key_bits, key_of, Cell, Volume};
 use reference::sharding::{Sharding, MOST_MINISHARD_BITS};
@@ -82,6 +82,13 @@ impl<'a> Reader<'a> {
         std::iter::from_fn(move || (!self.rest.is_empty()).then(|| self.spot()))
     }
 
+    pub fn corner(&mut self) -> Corner {
+        Corner {
+            kind: self.byte(),
+            voxel: std::array::from_fn(|_| self.number() as i64),
+        }
+    }
+
     pub fn choice(&mut self) -> Choice {
         Choice {
             kind: self.byte(),
@@ -145,6 +152,13 @@ impl Writer {
         self.byte(spot.kind).words(spot.cell)
     }
 
+    pub fn corner(self, Corner { kind, voxel }: Corner) -> Self {
+        let begun = self.byte(kind);
+        voxel
+            .into_iter()
+            .fold(begun, |writer, number| writer.number(number as u64))
+    }
+
     pub fn choice(self, choice: Choice) -> Self {
         self.byte(choice.kind).number(choice.number)
     }
@@ -198,6 +212,69 @@ impl Spot {
             1 => self.cell[axis] % grid[axis],
             2 => grid[axis] - 1,
             _ => grid[axis],
+        })
+    }
+}
+
+/// A corner of a box, to be chosen on each axis.
+#[derive(Clone, Copy)]
+pub struct Corner {
+    kind: u8,
+    voxel: [i64; 3],
+}
+
+impl Corner {
+    /// These voxels, as they stand.
+    pub fn plain(voxel: [i64; 3]) -> Self {
+        Corner { kind: 0, voxel }
+    }
+
+    /// Any numbers, or places in or near the volume.
+    pub fn draw(rng: &mut Rng) -> Self {
+        let mut kind = 0;
+        for _ in 0..3 {
+            kind = kind << 2 | rng.pick(&[0, 1, 1, 1, 2, 2, 3]);
+        }
+        Corner {
+            kind,
+            voxel: std::array::from_fn(|_| rng.edge_u64() as i64),
+        }
+    }
+
+    /// The far corner of a box that has this one: a few cells further on each
+    /// axis, or a few voxels.
+    pub fn beyond(&self, rng: &mut Rng, volume: &Volume) -> Self {
+        let near = self.voxel(volume);
+        Corner::plain(std::array::from_fn(|axis| {
+            let chunk = u64::from(volume.chunk[axis]);
+            let by = match rng.below(3) {
+                0 => rng.below(4),
+                1 => chunk * rng.below(6),
+                _ => rng.below(8 * chunk + 1),
+            };
+            near[axis].saturating_add(by as i64)
+        }))
+    }
+
+    /// On each axis the number as it stands, a place in the volume or one
+    /// voxel beside it, such a place in its first cells, or one a few voxels
+    /// from where a cell begins.
+    pub fn voxel(&self, volume: &Volume) -> [i64; 3] {
+        std::array::from_fn(|axis| {
+            let number = self.voxel[axis];
+            let offset = i64::from(volume.offset[axis]);
+            let (size, chunk) = (volume.size[axis], volume.chunk[axis].max(1));
+            let within = |limit: u64| (number as u64 % limit) as i64;
+            let few = u64::from(chunk).saturating_mul(5).min(size.into());
+            match self.kind >> (2 * axis) & 3 {
+                0 => number,
+                1 => offset - 1 + within(u64::from(size) + 3),
+                2 => offset - 1 + within(few + 3),
+                _ => {
+                    let cell = within(u64::from(size / chunk) + 1);
+                    offset + cell * i64::from(chunk) + number.rem_euclid(5) - 2
+                }
+            }
         })
     }
 }
@@ -361,10 +438,12 @@ mod tests {
         for _ in 0..10_000 {
             let (sharding, volume) = (places::wild_sharding(&mut rng), places::volume(&mut rng));
             let (cell, number) = (places::cell(&mut rng, &volume), rng.edge_u64());
+            let voxel = [number as i64, rng.edge_u64() as i64, i64::MIN];
             let bytes = Writer::new()
                 .sharding(&sharding)
                 .volume(&volume)
                 .spot(Spot { kind: 0, cell })
+                .corner(Corner::plain(voxel))
                 .choice(Choice::plain(number))
                 .room(Room {
                     kind: 1,
@@ -372,11 +451,12 @@ mod tests {
                 })
                 .rest(b"file")
                 .finish();
-            assert_eq!(bytes.len(), 5 + 37 + 13 + 9 + 3 + 4);
+            assert_eq!(bytes.len(), 5 + 37 + 13 + 25 + 9 + 3 + 4);
             let mut reader = Reader::new(&bytes);
             assert_eq!(reader.sharding(), sharding);
             assert_eq!(reader.volume(), volume);
             assert_eq!(reader.spot().cell(&volume), cell);
+            assert_eq!(reader.corner().voxel(&volume), voxel);
             assert_eq!(reader.choice().key(&volume), number);
             assert_eq!(reader.room().length(9), 9);
             assert_eq!(reader.rest(), b"file");

@@ -48,6 +48,7 @@ pub struct Cell {
 }
 
 /// A voxel in global coordinates.
+#[repr(C)]
 #[derive(Clone, Copy, Debug, Default, PartialEq, Eq, Hash)]
 pub struct Point {
     /// Along x.
@@ -80,7 +81,8 @@ from_numbers!(Offset, i32);
 from_numbers!(Cell, u32);
 from_numbers!(Point, i64);
 
-/// The voxels of a cell: from `begin` up to `end`, `end` excluded.
+/// The voxels of a cell, or of any box: from `begin` up to `end`, `end`
+/// excluded.
 #[derive(Clone, Copy, Debug, Default, PartialEq, Eq, Hash)]
 pub struct Bounds {
     /// The first voxel.
@@ -185,6 +187,93 @@ impl Volume {
                 *self,
                 cells.as_ptr().cast(),
                 3 * cells.len(),
+                keys.as_mut_ptr(),
+                keys.len(),
+                length,
+            )
+        })
+    }
+
+    /// The keys of all cells that share a voxel with a box, rising, each once:
+    /// none where the box is empty, reversed or outside the volume. Refusal 2
+    /// where an extent is zero, 3, or 13 where there are more than `most`;
+    /// that is said at once, however many there are.
+    ///
+    /// ```
+    /// use coronagamba::{Bounds, Volume};
+    ///
+    /// let volume = Volume::new([100, 1, 1], [64, 1, 1], [-64, 0, 0]);
+    /// let within = |from, to| Bounds {
+    ///     begin: [from, 0, 0].into(),
+    ///     end: [to, 1, 1].into(),
+    /// };
+    /// assert_eq!(volume.cover(within(-1, 1), 10)?, [0, 1]);
+    /// assert_eq!(volume.cover(within(0, i64::MAX), 10)?, [1]);
+    /// assert_eq!(volume.cover(within(36, 99), 10)?, []);
+    /// assert_eq!(volume.cover(within(-1, 1), 1).unwrap_err().number, 13);
+    /// # Ok::<(), coronagamba::Refusal>(())
+    /// ```
+    pub fn cover(&self, within: Bounds, most: usize) -> Result<Vec<u64>, Refusal> {
+        // More than `most` are refused without room for any.
+        let room = match usize::try_from(self.cells_within(within)) {
+            Ok(cells) if cells <= most => cells,
+            _ => 0,
+        };
+        let mut keys = vec![0; room];
+        let count = self.write_cover(within, &mut keys)?;
+        keys.truncate(count);
+        Ok(keys)
+    }
+
+    /// How many cells share a voxel with a box, 0 where the volume has a zero
+    /// extent: the room to ask the library with, which decides.
+    fn cells_within(&self, within: Bounds) -> u128 {
+        let Volume {
+            size,
+            chunk,
+            offset,
+        } = *self;
+        let Bounds { begin, end } = within;
+        let axis = |offset: i32, size: u32, chunk: u32, lower: i64, upper: i64| {
+            let (offset, size) = (i64::from(offset), i64::from(size));
+            let (from, to) = (lower.max(offset), upper.min(offset + size));
+            if to <= from || chunk == 0 {
+                return 0;
+            }
+            let cell = |voxel: i64| (voxel - offset) / i64::from(chunk);
+            (cell(to - 1) - cell(from) + 1) as u128
+        };
+        axis(offset.x, size.x, chunk.x, begin.x, end.x)
+            * axis(offset.y, size.y, chunk.y, begin.y, end.y)
+            * axis(offset.z, size.z, chunk.z, begin.z, end.z)
+    }
+
+    /// Writes the keys of all cells that share a voxel with a box to the front
+    /// of `keys`, and gives how many these are. Refusals as of
+    /// [`cover`](Volume::cover), 13 where `keys` has room for fewer; it is then
+    /// as it was.
+    ///
+    /// ```
+    /// use coronagamba::{Bounds, Volume};
+    ///
+    /// let volume = Volume::new([5, 3, 1], [1, 1, 1], [0, 0, 0]);
+    /// let within = Bounds {
+    ///     begin: [1, 0, 0].into(),
+    ///     end: [3, 2, 1].into(),
+    /// };
+    /// let mut keys = [9; 5];
+    /// assert_eq!(volume.write_cover(within, &mut keys)?, 4);
+    /// assert_eq!(keys, [1, 3, 4, 6, 9]);
+    /// # Ok::<(), coronagamba::Refusal>(())
+    /// ```
+    pub fn write_cover(&self, within: Bounds, keys: &mut [u64]) -> Result<usize, Refusal> {
+        // SAFETY: pointer and count are those of one live slice, lent to this
+        // call alone with the result.
+        written(|length| unsafe {
+            ffi::coronagamba_cover(
+                *self,
+                within.begin,
+                within.end,
                 keys.as_mut_ptr(),
                 keys.len(),
                 length,

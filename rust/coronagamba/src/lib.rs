@@ -10,6 +10,7 @@
 #![warn(clippy::undocumented_unsafe_blocks)]
 
 mod card;
+mod cover;
 mod ffi;
 mod grid;
 pub mod manifest;
@@ -22,6 +23,7 @@ mod sharding;
 mod version;
 
 pub use card::Card;
+pub use cover::Cover;
 pub use grid::{Bounds, Cell, Extents, Offset, Point, Volume};
 pub use manifest::Manifest;
 pub use refusal::Refusal;

@@ -1,6 +1,6 @@
 //! How much stack a call needs: what the header says is enough.
 
-use coronagamba::{Card, Manifest, Shard, Sharding, Volume};
+use coronagamba::{Bounds, Card, Manifest, Shard, Sharding, Volume};
 use std::thread;
 
 /// The bytes that coronagamba.h names; the thread's own needs come out of them
@@ -84,6 +84,13 @@ fn calls() {
     assert_eq!(volume.cell(key), Ok(cell));
     assert_eq!(volume.keys(&[cell; 9]), Ok(vec![key; 9]));
     assert!(volume.chunk_name(cell).is_ok());
+    // The search for the cells of a box goes as deep as there are key bits.
+    let whole = Volume::new([1 << 22, 1 << 21, 1 << 21], [1; 3], [0; 3]);
+    let middle = Bounds {
+        begin: [(1 << 21) - 1, (1 << 20) - 1, (1 << 20) - 1].into(),
+        end: [(1 << 21) + 1, (1 << 20) + 1, (1 << 20) + 1].into(),
+    };
+    assert_eq!(whole.cover(middle, 8).map(|keys| keys.len()), Ok(8));
     assert!(SHARDING.places(&[1, 2, 3]).is_ok() && SHARDING.shard_name(0).is_ok());
     let card = Card {
         sharding: SHARDING,

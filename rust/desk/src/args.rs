@@ -254,6 +254,8 @@ pub fn triple<T: FromStr>(word: &OsStr, what: &str, wanted: &str) -> Result<[T; 
 pub const U32: &str = "a number from 0 to 4294967295";
 /// The numbers that fit a voxel offset.
 pub const I32: &str = "a number from -2147483648 to 2147483647";
+/// The numbers that fit a place in voxels.
+pub const I64: &str = "a number from -9223372036854775808 to 9223372036854775807";
 /// The numbers that fit a field of the sharding.
 pub const U8: &str = "a number from 0 to 255";
 
@@ -384,6 +386,10 @@ mod tests {
             assert_eq!(unsigned(word), None, "{word}");
         }
         assert_eq!(signed("-,1,2"), None);
+        let long = |word: &str| triple::<i64>(OsStr::new(word), "FROM", I64).ok();
+        let ends = "-9223372036854775808,9223372036854775807,0";
+        assert_eq!(long(ends), Some([i64::MIN, i64::MAX, 0]));
+        assert_eq!(long("9223372036854775808,0,0"), None);
         assert_eq!(signed("-2147483649,0,0"), None);
     }
 

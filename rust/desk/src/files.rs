@@ -48,6 +48,12 @@ pub fn length_to_read(path: &Path) -> u64 {
     fs::metadata(path).map_or(0, |about| about.len().min(MOST_BYTES))
 }
 
+/// Whether there is nothing under this name, not even a link that leads
+/// nowhere.
+pub fn is_missing(path: &Path) -> bool {
+    matches!(fs::symlink_metadata(path), Err(error) if error.kind() == io::ErrorKind::NotFound)
+}
+
 /// Whether two paths lead to one file or folder, through whatever links. A
 /// path that leads nowhere is one with no other.
 pub fn one_place(first: &Path, second: &Path) -> bool {

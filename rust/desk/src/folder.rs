@@ -115,7 +115,7 @@ fn names(folder: &Path) -> (Vec<OsString>, u64, io::Result<()>) {
 }
 
 /// One of a folder's shards. Only files are read: a pipe would be waited for.
-fn entry(sharding: &Sharding, folder: &Path, name: OsString) -> Input {
+pub fn entry(sharding: &Sharding, folder: &Path, name: OsString) -> Input {
     let path = folder.join(&name);
     let number = match fs::metadata(&path) {
         Err(error) => Err(Trouble::Fault(Fault::system(&path, "read", error))),

@@ -64,6 +64,7 @@ shards
 cells
   locate     the key, shard file and minishard of a cell
   cell       the cell of a key and its voxels
+  cover      the chunks that share a voxel with a box
   name       the name of an unsharded chunk, or of a shard file
 cards and manifests
   card       make, show and check deposit cards
@@ -316,6 +317,59 @@ number; 3 the settings cannot be read.
 
 example:
   coronagamba cell 21 0x15 --card demo/deposit.card
+",
+);
+
+/// `cover`.
+pub const COVER: &str = concat!(
+    "\
+Lists the chunks that share a voxel with a box: key, cell, shard file and
+minishard of each, by rising key. From a deposit, copies each of them to a
+file of its own.
+
+usage: coronagamba cover FROM TO [OPTIONS]
+       coronagamba cover FROM TO --deposit DIR --out DIR2 [OPTIONS]
+
+FROM and TO are X,Y,Z in voxels, the volume's offset included; TO is excluded
+on each axis. A box that is empty, reversed or outside the volume has no
+chunk, which standard error says. The time taken goes by the chunks listed,
+not by the size of the box or of the volume. Whether a chunk is there, 'get'
+tells.
+
+With --deposit, DIR2 gets a file for each chunk that DIR has, under the name
+of an unsharded chunk. A line for each chunk of the box, by shard and rising
+key: key, cell, name, and what became of it; a last line counts them. A file
+is written beside its place and gets its name only when it is whole; one that
+is there with the same bytes is left. A chunk that its shard does not list is
+'absent', one whose shard file DIR lacks has 'no shard'; neither is a fault.
+Only the minishards asked for are judged. A refused or unreadable one is told,
+and the run goes on. None of the inputs is ever an output.
+
+",
+    sharding!(),
+    volume!(),
+    "
+options:
+  --count             tell how many chunks there are, and list none
+  --shards            list the shard files alone, each once, by number
+  --most N            refuse a box of more chunks; 16777216 where none is given
+  --deposit DIR       copy the chunks from the shards of this folder
+  --out DIR2          the folder that they are copied to; a missing one is made
+  --force             overwrite existing files that hold other bytes
+  --jobs N            how many shards are read at once; two for each core
+                      otherwise, since each waits for the disk
+",
+    json!(),
+    "
+exit status: 0 listed, or all that is there is copied; 1 refused: more chunks
+than --most, settings that are not allowed, or a chunk's minishard; 2 wrong
+use, or an output exists with other bytes; 3 a file cannot be read or written.
+
+example:
+  coronagamba cover 0,128,64 65,192,128 --card demo/deposit.card
+  coronagamba cover -64,0,0 64,260,1 --shards --card demo/deposit.card
+  coronagamba cover 0,0,0 65,99,99 --deposit demo/copy-a --out chunks \\
+    --card demo/deposit.card
 ",
 );
 

@@ -5,7 +5,7 @@
 use std::ffi::OsStr;
 use std::path::Path;
 
-use coronagamba::{Refusal, Sharding};
+use coronagamba::{Cell, Refusal, Sharding, Volume};
 
 use crate::args::Args;
 use crate::fault::Fault;
@@ -26,6 +26,24 @@ pub fn shard_number(sharding: &Sharding, name: &OsStr) -> Option<u64> {
     let number = u64::from_str_radix(digits, 16).ok()?;
     let own = sharding.shard_name(number).ok()?;
     (own == name).then_some(number)
+}
+
+/// The cell whose chunk has this name, stored without shards. The name begins
+/// each axis with a voxel of the cell; the library names the cell again.
+pub fn cell_of_chunk(volume: &Volume, name: &OsStr) -> Option<Cell> {
+    let name = name.to_str()?;
+    let offset = <[i32; 3]>::from(volume.offset).map(i64::from);
+    let chunk = <[u32; 3]>::from(volume.chunk).map(i64::from);
+    let mut cell = [0; 3];
+    for (axis, ends) in name.splitn(3, '_').enumerate() {
+        // The first character may be a minus.
+        let dash = ends.get(1..)?.find('-')? + 1;
+        let begin: i64 = ends[..dash].parse().ok()?;
+        let voxels = begin.checked_sub(offset[axis])?;
+        cell[axis] = u32::try_from(voxels.checked_div(chunk[axis])?).ok()?;
+    }
+    let cell = Cell::from(cell);
+    (volume.chunk_name(cell).ok()? == name).then_some(cell)
 }
 
 /// The name of some shard, to show what names look like: that of shard 10, or
@@ -117,6 +135,44 @@ mod tests {
         assert_eq!(shard_number(&sharding(4), &odd), None);
         assert!(ends_as_shard(&odd));
         assert!(!ends_as_shard(OsStr::new("a.shard.part")));
+    }
+
+    #[test]
+    fn names_of_chunks() {
+        let volume = Volume::new([100, 200, 9], [64, 64, 4], [-128, 0, -6]);
+        let read = |name: &str| cell_of_chunk(&volume, OsStr::new(name));
+        for x in 0..2 {
+            for y in 0..4 {
+                for z in 0..3 {
+                    let cell = Cell { x, y, z };
+                    let name = volume.chunk_name(cell).unwrap();
+                    assert_eq!(read(&name), Some(cell), "{name}");
+                    assert_eq!(read(&format!("{name}_")), None);
+                    assert_eq!(read(&name[1..]), None);
+                }
+            }
+        }
+        assert_eq!(read("-128--64_0-64_-6--2"), Some(Cell::default()));
+        for name in [
+            "",
+            "-",
+            "_",
+            "__",
+            "1_2_3",
+            "é-1_0-64_-6--2",
+            "-127--64_0-64_-6--2",
+            "-128--64_0-64",
+            "-192--128_0-64_-6--2",
+            "-128--64_0-64_-6--2.gz",
+            "9223372036854775807-9_0-64_-6--2",
+            "-28--27_0-64_-6--2",
+        ] {
+            assert_eq!(read(name), None, "{name}");
+        }
+        assert_eq!(
+            cell_of_chunk(&Volume::default(), OsStr::new("0-0_0-0_0-0")),
+            None
+        );
     }
 
     #[test]

@@ -81,6 +81,22 @@ pub fn remove_stale_parts_of(output: &Path, inputs: &Inputs) {
     remove_stale_parts(folder_of(output), inputs, wanted);
 }
 
+/// Makes an output folder where it is missing. `reason` says why it must be
+/// one.
+pub fn make_folder(out: &Path, reason: &str) -> Result<(), Fault> {
+    match fs::create_dir(out) {
+        Ok(()) => sync_folder_of(out),
+        Err(error) if error.kind() == io::ErrorKind::AlreadyExists => match out.is_dir() {
+            true => Ok(()),
+            false => Err(Fault::wrong_use(format!(
+                "{}: is no folder, and {reason}",
+                shown(out)
+            ))),
+        },
+        Err(error) => Err(Fault::system(out, "made", error)),
+    }
+}
+
 /// Makes a name in a folder last.
 pub fn sync_folder_of(path: &Path) -> Result<(), Fault> {
     sync_folder(folder_of(path)).map_err(|error| Fault::system(path, "made to last", error))

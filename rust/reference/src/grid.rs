@@ -128,6 +128,48 @@ pub fn bounds_of(volume: &Volume, cell: Cell) -> Result<Bounds, u8> {
     })
 }
 
+/// The cells of an axis that have a voxel of the box, first and one past the
+/// last: those of the first and of the last voxel that both have.
+fn covering(volume: &Volume, axis: usize, lower: i64, upper: i64) -> (u64, u64) {
+    let offset = i128::from(volume.offset[axis]);
+    let first = offset.max(lower.into());
+    let end = (offset + i128::from(volume.size[axis])).min(upper.into());
+    if end <= first {
+        return (0, 0);
+    }
+    let cell_of = |voxel: i128| ((voxel - offset) / i128::from(volume.chunk[axis])) as u64;
+    (cell_of(first), cell_of(end - 1) + 1)
+}
+
+/// The keys of all cells that have a voxel of the box from `lower` up to
+/// `upper`, rising, or 2, then 3, then 13 where there are more than `room`.
+pub fn cover(
+    volume: &Volume,
+    lower: [i64; 3],
+    upper: [i64; 3],
+    room: usize,
+) -> Result<Vec<u64>, u8> {
+    let grid = grid_size(volume)?;
+    if key_bits(grid) > 64 {
+        return Err(3);
+    }
+    let [x, y, z] = [0, 1, 2].map(|axis| covering(volume, axis, lower[axis], upper[axis]));
+    let wide = |(from, to): (u64, u64)| u128::from(to - from);
+    if wide(x) * wide(y) * wide(z) > room as u128 {
+        return Err(13);
+    }
+    let mut keys = Vec::new();
+    for z in z.0..z.1 {
+        for y in y.0..y.1 {
+            for x in x.0..x.1 {
+                keys.push(key_of(volume, [x as u32, y as u32, z as u32])?);
+            }
+        }
+    }
+    keys.sort_unstable();
+    Ok(keys)
+}
+
 #[cfg(test)]
 mod tests {
     use super::*;
@@ -198,6 +240,50 @@ mod tests {
         };
         assert_eq!(grid_size(&volume), Ok([101, 104, 127]));
         assert_eq!(key_bits([101, 104, 127]), 21);
+    }
+
+    /// Which cells have a voxel of the box, cell by cell and voxel by voxel.
+    fn by_voxels(volume: &Volume, lower: [i64; 3], upper: [i64; 3]) -> Vec<u64> {
+        let grid = grid_size(volume).unwrap();
+        let mut keys = Vec::new();
+        for key in 0..1 << key_bits(grid) {
+            let Ok(cell) = cell_of(volume, key) else {
+                continue;
+            };
+            let bounds = bounds_of(volume, cell).unwrap();
+            let shares = |axis: usize| {
+                let mut voxels = bounds.begin[axis]..bounds.end[axis];
+                voxels.any(|at| (lower[axis].into()..upper[axis].into()).contains(&at))
+            };
+            if (0..3).all(shares) {
+                keys.push(key);
+            }
+        }
+        keys
+    }
+
+    #[test]
+    fn boxes_and_their_cells() {
+        let volume = Volume {
+            size: [5, 3, 4],
+            chunk: [2, 1, 3],
+            offset: [-3, 1, 0],
+        };
+        let near = || -5..7;
+        for (x, to) in near().flat_map(|x| near().map(move |to| (x, to))) {
+            for (y, z) in near().flat_map(|y| near().map(move |z| (y, z))) {
+                for (lower, upper) in [([x, y, 0], [to, 4, z]), ([x, 2, y], [to, z, 3])] {
+                    let expected = by_voxels(&volume, lower, upper);
+                    assert_eq!(cover(&volume, lower, upper, 24), Ok(expected));
+                }
+            }
+        }
+        let (least, most) = ([i64::MIN; 3], [i64::MAX; 3]);
+        let all = by_voxels(&volume, [-3, 1, 0], [2, 4, 4]);
+        assert_eq!(all.len(), 3 * 3 * 2);
+        assert_eq!(cover(&volume, least, most, 18), Ok(all));
+        assert_eq!(cover(&volume, least, most, 17), Err(13));
+        assert_eq!(cover(&volume, most, least, 0), Ok(Vec::new()));
     }
 
     #[test]

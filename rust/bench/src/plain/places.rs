@@ -1,7 +1,7 @@
 //! Keys and places of ids in plain Rust, with the same tests in the same order.
 //! What is short is marked for inlining, as it would be in its caller's crate.
 
-use coronagamba::{Cell, Sharding, Volume};
+use coronagamba::{Bounds, Cell, Sharding, Volume};
 
 /// The grid size, or 2.
 #[inline]
@@ -82,6 +82,56 @@ fn by_halves(a: u32, b: u32) -> u32 {
     let (upper_too, lower_too) = (b >> 16, b & 0xffff);
     let middle = (upper * lower_too).wrapping_add(lower * upper_too);
     (lower * lower_too).wrapping_add(middle << 16)
+}
+
+/// The cells of an axis that share a voxel with a box, first and one past the
+/// last.
+#[inline]
+fn span(offset: i32, size: u32, chunk: u32, lower: i64, upper: i64) -> (u32, u32) {
+    let (begin, size, chunk) = (i64::from(offset), i64::from(size), i64::from(chunk));
+    let first = lower.max(begin);
+    let end = upper.min(begin + size);
+    if end <= first {
+        return (0, 0);
+    }
+    let cell = |voxel: i64| ((voxel - begin) / chunk) as u32;
+    (cell(first), cell(end - 1) + 1)
+}
+
+/// The keys of the cells that share a voxel with a box, rising, or 2, 3 or 13:
+/// a loop over these cells, and a sort.
+pub fn cover(volume: &Volume, within: Bounds, keys: &mut [u64]) -> Result<usize, u8> {
+    let bits = grid(volume)?.map(bits);
+    if bits.iter().sum::<u32>() > 64 {
+        return Err(3);
+    }
+    let (
+        Volume {
+            size,
+            chunk,
+            offset,
+        },
+        Bounds { begin, end },
+    ) = (*volume, within);
+    let x = span(offset.x, size.x, chunk.x, begin.x, end.x);
+    let y = span(offset.y, size.y, chunk.y, begin.y, end.y);
+    let z = span(offset.z, size.z, chunk.z, begin.z, end.z);
+    let wide = |(from, to): (u32, u32)| u128::from(to - from);
+    let count = wide(x) * wide(y) * wide(z);
+    let keys = usize::try_from(count)
+        .ok()
+        .and_then(|count| keys.get_mut(..count))
+        .ok_or(13)?;
+    let mut rest = keys.iter_mut();
+    for z in z.0..z.1 {
+        for y in y.0..y.1 {
+            for (x, key) in (x.0..x.1).zip(&mut rest) {
+                *key = key_in(bits, Cell { x, y, z });
+            }
+        }
+    }
+    keys.sort_unstable();
+    Ok(keys.len())
 }
 
 /// Spreads every bit of `h` over all of them.

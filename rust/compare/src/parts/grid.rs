@@ -1,9 +1,9 @@
 //! Grid sizes, keys, cells and bounds.
 
 use crate::agree::{same, same_writing};
-use crate::question::{Choice, Reader, Room, Spot, Writer};
+use crate::question::{Choice, Corner, Reader, Room, Spot, Writer};
 use crate::{sides, Part};
-use coronagamba::{Bounds, Cell, Extents};
+use coronagamba::{Bounds, Cell, Extents, Point};
 use reference::grid;
 use testkit::{places, Lent, Rng};
 
@@ -32,6 +32,15 @@ pub const KEYS: Part = Part {
     meets: &[0, 2, 3, 13],
     compare: compare_keys,
     sample: sample_keys,
+};
+
+/// The keys of the cells that share a voxel with a box.
+pub const COVER: Part = Part {
+    name: "cover",
+    about: "the keys of the cells that share a voxel with a box",
+    meets: &[0, 2, 3, 13],
+    compare: compare_cover,
+    sample: sample_cover,
 };
 
 /// The cell of a key.
@@ -121,6 +130,56 @@ fn compare_keys(bytes: &[u8]) -> u8 {
     met
 }
 
+/// The most keys of a cover that are looked at one by one.
+const MOST_KEYS: usize = 1 << 10;
+
+/// Whether a cell's voxels and a box have one in common.
+fn share(cell: Bounds, boxed: Bounds) -> bool {
+    let numbers = |point: Point| <[i64; 3]>::from(point);
+    let [begin, end] = [cell.begin, cell.end].map(numbers);
+    let [lower, upper] = [boxed.begin, boxed.end].map(numbers);
+    (0..3).all(|axis| begin[axis].max(lower[axis]) < end[axis].min(upper[axis]))
+}
+
+fn compare_cover(bytes: &[u8]) -> u8 {
+    let mut reader = Reader::new(bytes);
+    let (volume, room) = (reader.volume(), reader.room());
+    let [lower, upper] = [reader.corner(), reader.corner()].map(|corner| corner.voxel(&volume));
+    let library = sides::volume(&volume);
+    let boxed = Bounds {
+        begin: lower.into(),
+        end: upper.into(),
+    };
+    let needed = match grid::cover(&volume, lower, upper, MOST_KEYS) {
+        Ok(keys) => keys.len(),
+        Err(_) => MOST_KEYS,
+    };
+    let length = room.length(needed);
+    let met = same_writing(
+        format_args!("keys of {lower:?}..{upper:?} in {volume:?}, room for {length}"),
+        &Lent::numbers(&mut Rng::new(length as u64), length),
+        |out| library.write_cover(boxed, out),
+        |out| {
+            let keys = grid::cover(&volume, lower, upper, out.len())?;
+            out[..keys.len()].copy_from_slice(&keys);
+            Ok(keys.len())
+        },
+    );
+    let keys = library.cover(boxed, length);
+    assert_eq!(keys.is_ok(), met == 0, "the keys as a list in {volume:?}");
+    for pair in keys.iter().flat_map(|keys| keys.windows(2)) {
+        assert!(pair[0] < pair[1], "{pair:?} do not rise in {volume:?}");
+    }
+    for key in keys.iter().flatten() {
+        let cell = library.cell(*key).and_then(|cell| library.bounds(cell));
+        assert!(
+            cell.is_ok_and(|cell| share(cell, boxed)),
+            "key {key} of {boxed:?} in {volume:?}"
+        );
+    }
+    met
+}
+
 fn compare_cell(bytes: &[u8]) -> u8 {
     let mut reader = Reader::new(bytes);
     let volume = reader.volume();
@@ -182,6 +241,22 @@ fn sample_keys(rng: &mut Rng) -> Vec<u8> {
         });
     }
     writer.finish()
+}
+
+fn sample_cover(rng: &mut Rng) -> Vec<u8> {
+    let volume = places::volume(rng);
+    let (room, lower) = (Room::draw(rng), Corner::draw(rng));
+    let upper = if rng.once_in(3) {
+        lower.beyond(rng, &volume)
+    } else {
+        Corner::draw(rng)
+    };
+    Writer::new()
+        .volume(&volume)
+        .room(room)
+        .corner(lower)
+        .corner(upper)
+        .finish()
 }
 
 fn sample_cell(rng: &mut Rng) -> Vec<u8> {

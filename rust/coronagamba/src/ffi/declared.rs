@@ -2,7 +2,7 @@
 //!
 //! Made by ./interface: change the export crate or rust/interface, then run it.
 
-use crate::{Cell, Extents, Offset, Sharding, Volume};
+use crate::{Cell, Extents, Offset, Point, Sharding, Volume};
 use std::mem::{align_of, offset_of, size_of};
 
 // The crate's structs have the fields and the layout that C gives them.
@@ -71,6 +71,17 @@ const _: () = {
     assert!(size_of::<Cell>() == 12);
     assert!(align_of::<Cell>() == 4);
 };
+const _: fn(Point) = |given| {
+    let Point { x, y, z } = given;
+    let _: (i64, i64, i64) = (x, y, z);
+};
+const _: () = {
+    assert!(offset_of!(Point, x) == 0);
+    assert!(offset_of!(Point, y) == 8);
+    assert!(offset_of!(Point, z) == 16);
+    assert!(size_of::<Point>() == 24);
+    assert!(align_of::<Point>() == 8);
+};
 
 extern "C" {
     /// The version of the library that is linked or loaded: patch + 2^16 * minor + 2^32 * major. It
@@ -101,6 +112,22 @@ extern "C" {
         count: usize,
         keys: *mut u64,
         keys_count: usize,
+        length: *mut u64,
+    ) -> u64;
+
+    /// The chunks that cover a box: the keys of all cells that share a voxel with it, rising, each
+    /// once. The box begins at `lower` and ends at `upper`, that end excluded along each axis, in
+    /// voxels, the volume's offset included. An empty or reversed box, and one outside the volume,
+    /// has none. Writes the keys to the front of `keys`, and their number to `length`. Takes time
+    /// by the keys that it writes and their bits, whatever the box and the grid.
+    ///
+    /// Refusals: 2 where an extent is 0, 3, 13 where `keys` has room for fewer
+    pub fn coronagamba_cover(
+        volume: Volume,
+        lower: Point,
+        upper: Point,
+        keys: *mut u64,
+        count: usize,
         length: *mut u64,
     ) -> u64;
 

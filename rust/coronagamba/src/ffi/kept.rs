@@ -3,7 +3,7 @@
 //! it was, whatever it was.
 
 use super::*;
-use crate::{Cell, Sharding, Volume};
+use crate::{Cell, Point, Sharding, Volume};
 use std::collections::BTreeSet;
 use std::iter::once;
 
@@ -105,6 +105,7 @@ fn grid() -> Vec<Case<'static>> {
     let (empty, row) = (volume([0, 1, 1]), volume([5, 3, 1]));
     let large = volume([1 << 22, 1 << 22, 1 << 21]);
     let (first, outside) = (Cell::from([0; 3]), Cell::from([5, 0, 0]));
+    let (corner, far) = (Point::default(), Point::from([i64::MAX; 3]));
     const CELLS: &[u32] = &[0, 0, 0, 4, 2, 0];
     const ONE_OUTSIDE: &[u32] = &[4, 2, 0, 5, 0, 0];
     Vec::from(cases! { lent:
@@ -116,6 +117,9 @@ fn grid() -> Vec<Case<'static>> {
         2 => coronagamba_keys_of(row, ONE_OUTSIDE.as_ptr(), 6, lent.many(2), 2, lent.one());
         3 => coronagamba_keys_of(large, CELLS.as_ptr(), 6, lent.many(2), 2, lent.one());
         13 => coronagamba_keys_of(row, CELLS.as_ptr(), 6, lent.many(1), 1, lent.one());
+        2 => coronagamba_cover(empty, corner, corner, lent.many(2), 2, lent.one());
+        3 => coronagamba_cover(large, corner, corner, lent.many(2), 2, lent.one());
+        13 => coronagamba_cover(row, corner, far, lent.many(14), 14, lent.one());
         2 => coronagamba_cell_of(empty, 0, lent.one());
         3 => coronagamba_cell_of(large, 0, lent.one());
         4 => coronagamba_cell_of(row, 20, lent.one());

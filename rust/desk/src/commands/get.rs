@@ -1,7 +1,5 @@
 //! `get`: the bytes of one chunk.
 
-use std::fs;
-use std::io::ErrorKind;
 use std::path::{Path, PathBuf};
 
 use coronagamba::{Shard, Sharding};
@@ -10,7 +8,7 @@ use super::{cell_of, Command};
 use crate::args::{flag, number, value, Args};
 use crate::diagnosis;
 use crate::fault::{Fault, Refused, Status};
-use crate::files::{read_whole, Inputs};
+use crate::files::{is_missing, read_whole, Inputs};
 use crate::help;
 use crate::naming::number_of_file;
 use crate::output::{remove_stale_parts_of, write_new};
@@ -102,12 +100,6 @@ fn shard_file(
     let number = sharding.place(id).map_err(refused)?.shard;
     let name = sharding.shard_name(number).map_err(refused)?;
     Ok((path.join(name), number))
-}
-
-/// Whether there is nothing under this name, not even a link that leads
-/// nowhere.
-fn is_missing(path: &Path) -> bool {
-    matches!(fs::symlink_metadata(path), Err(error) if error.kind() == ErrorKind::NotFound)
 }
 
 /// Tells that a deposit lacks an id's shard: to whoever asks for a chunk this

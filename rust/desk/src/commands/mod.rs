@@ -14,6 +14,7 @@ use crate::report::{refusal_members, Report};
 mod card;
 mod cell;
 mod check;
+mod cover;
 mod explain;
 mod get;
 mod list;
@@ -39,7 +40,7 @@ pub struct Command {
 }
 
 /// All commands, in the order of the help.
-pub static COMMANDS: [Command; 16] = [
+pub static COMMANDS: [Command; 17] = [
     check::COMMAND,
     settle::COMMAND,
     same::COMMAND,
@@ -47,6 +48,7 @@ pub static COMMANDS: [Command; 16] = [
     list::COMMAND,
     locate::COMMAND,
     cell::COMMAND,
+    cover::COMMAND,
     name::COMMAND,
     card::MAKE,
     card::SHOW,

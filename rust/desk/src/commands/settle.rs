@@ -1,7 +1,5 @@
 //! `settle`.
 
-use std::fs;
-use std::io;
 use std::path::{Path, PathBuf};
 
 use coronagamba::{Shard, Sharding};
@@ -121,7 +119,7 @@ impl Task {
         out: &Path,
         report: &mut Report,
     ) -> Result<Summary, Fault> {
-        make_folder(out)?;
+        output::make_folder(out, "a folder is settled into a folder")?;
         let is_shard = |name: &_| shard_number(&self.sharding, name).is_some();
         output::remove_stale_parts(out, &self.inputs, is_shard);
         let job = |input: Input| Job {
@@ -200,21 +198,6 @@ impl Task {
                 return Ok(length as usize);
             }
         }
-    }
-}
-
-/// Makes the output folder where it is missing.
-fn make_folder(out: &Path) -> Result<(), Fault> {
-    match fs::create_dir(out) {
-        Ok(()) => output::sync_folder_of(out),
-        Err(error) if error.kind() == io::ErrorKind::AlreadyExists => match is_folder(out) {
-            true => Ok(()),
-            false => Err(Fault::wrong_use(format!(
-                "{}: is no folder, and a folder is settled into a folder",
-                shown(out)
-            ))),
-        },
-        Err(error) => Err(Fault::system(out, "made", error)),
     }
 }
 

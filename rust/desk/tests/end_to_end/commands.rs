@@ -6,7 +6,7 @@ use std::os::unix::fs::symlink;
 use std::process::Command;
 
 /// All commands, with those that have members.
-const COMMANDS: [&str; 18] = [
+const COMMANDS: [&str; 19] = [
     "check",
     "settle",
     "same",
@@ -14,6 +14,7 @@ const COMMANDS: [&str; 18] = [
     "list",
     "locate",
     "cell",
+    "cover",
     "name",
     "card",
     "card make",
@@ -96,6 +97,13 @@ fn statuses() -> Vec<(String, i32)> {
         ("cell 18446744073709551615", 1),
         ("cell", 2),
         ("cell x", 2),
+        ("cover 0,0,0 1,1,1", 0),
+        ("cover 1,1,1 0,0,0", 0),
+        ("cover -64,0,0 236,260,200 --most 99", 1),
+        ("cover 0,0,0", 2),
+        ("cover 0,0,0 1,1", 2),
+        ("cover 0,0,0 1,1,1 --count --shards", 2),
+        ("cover 0,0,0 9223372036854775808,1,1", 2),
         ("name 0,0,0", 0),
         ("name --shard 7", 0),
         ("name 0,0,4", 1),
@@ -138,6 +146,8 @@ fn statuses() -> Vec<(String, i32)> {
         ("list demo/copy-a/0.shard --info demo/info --scale 0", 0),
         ("locate 1,2,1 --info demo/info --scale 0", 0),
         ("cell 21 --info demo/info --scale 0", 0),
+        ("cover 0,0,0 9,9,9 --info demo/info --scale 0", 0),
+        ("cover 0,0,0 9,9,9 --card nothing", 3),
         ("name 1,2,1 --info demo/info --scale 0", 0),
         ("name --shard 5 --info demo/info --scale 0", 0),
         ("card make --info demo/info --scale 0 --out info.card", 0),
@@ -248,6 +258,7 @@ fn a_card_and_the_same_settings_in_words_give_the_same_answers() {
         "list demo/copy-b/3.shard",
         "locate 1,2,1 4,3,2",
         "cell 21",
+        "cover 0,0,0 99,99,99",
         "name 0,0,0",
         "name --shard 5",
     ] {

@@ -4,6 +4,7 @@
 
 mod answers;
 mod commands;
+mod copies;
 mod folders;
 mod json;
 mod memory;

@@ -3,11 +3,13 @@
 use crate::json::Json;
 use crate::shards::options;
 use crate::support::{Folder, Run};
-use reference::grid::{bounds_of, cell_of, grid_size, key_bits, key_of, Cell, Volume};
+use reference::card::{to_bytes, Card};
+use reference::grid::{bounds_of, cell_of, cover, grid_size, key_bits, key_of, Cell, Volume};
 use reference::manifest;
 use reference::names::{chunk_name, shard_name};
 use reference::shard;
 use reference::sharding::Sharding;
+use std::collections::BTreeSet;
 use testkit::places::{cell, key, volume};
 use testkit::shards::{sound, Sample};
 use testkit::{manifests, places, Rng};
@@ -119,6 +121,93 @@ fn cells_keys_and_names() {
             &cells,
         );
     }
+}
+
+/// What `cover` prints for a key.
+fn covering(sharding: &Sharding, volume: &Volume, key: u64) -> Result<String, u8> {
+    let cell = cell_of(volume, key)?;
+    let place = sharding.place(key);
+    let file = shard_name(sharding, place.shard)?;
+    Ok(format!("{key} {} {file} {}", triple(cell), place.minishard))
+}
+
+#[test]
+fn chunks_that_cover_a_box() {
+    let rng = &mut Rng::new(7);
+    let folder = Folder::new();
+    for _ in 0..40 {
+        let (sharding, volume) = (places::sharding(rng), places::volume_of_bits(rng, 4));
+        let card = Card { sharding, volume };
+        folder.write("card", to_bytes(&card).expect("an allowed card"));
+        let corner = |rng: &mut Rng| -> [i64; 3] {
+            std::array::from_fn(|axis| {
+                let by = rng.below(u64::from(volume.size[axis]) + 2);
+                i64::from(volume.offset[axis]) - 1 + by as i64
+            })
+        };
+        let (lower, upper) = (corner(rng), corner(rng));
+        let words = [lower, upper].map(|[x, y, z]| format!("{x},{y},{z}"));
+        let line = format!("cover {} --card card", words.join(" "));
+        let keys = cover(&volume, lower, upper, 1 << 12).expect("a few keys");
+        let lines: Result<Vec<String>, u8> = keys
+            .iter()
+            .map(|key| covering(&sharding, &volume, *key))
+            .collect();
+        let run = folder.run_line(&line);
+        assert_eq!(run.expect_status(0).lines(), lines.expect("cells"), "{run}");
+        assert_eq!(run.stderr.is_empty(), !keys.is_empty(), "{run}");
+        let count = folder.run_line(&format!("{line} --count"));
+        assert_eq!(count.expect_status(0).lines(), [keys.len().to_string()]);
+        let shards: BTreeSet<u64> = keys.iter().map(|key| sharding.place(*key).shard).collect();
+        let files = shards.iter().map(|shard| shard_name(&sharding, *shard));
+        let files: Result<Vec<String>, u8> = files.collect();
+        let told = folder.run_line(&format!("{line} --shards"));
+        assert_eq!(told.expect_status(0).lines(), files.expect("names"));
+        let exact = folder.run_line(&format!("{line} --most {}", keys.len()));
+        assert_eq!(exact.text(), run.text());
+        if let Some(short) = keys.len().checked_sub(1) {
+            let refused = folder.run_line(&format!("{line} --most {short}"));
+            refused.expect_status(1);
+            assert!(refused.text().is_empty(), "{refused}");
+            let told = format!("more than {short} chunks share a voxel");
+            assert!(refused.stderr.contains(&told), "{refused}");
+        }
+    }
+}
+
+#[test]
+fn a_box_in_json_and_without_chunks() {
+    let folder = Folder::with_sample();
+    let card = "--card demo/deposit.card";
+    let run = folder.run_line(&format!("cover 0,128,64 65,192,128 {card} --json"));
+    let first = run.expect_status(0).lines()[0];
+    assert_eq!(
+        first,
+        "{\"key\":21,\"result\":\"covers\",\"cell\":[1,2,1],\"shard\":5,\
+         \"file\":\"5.shard\",\"minishard\":0}"
+    );
+    assert_eq!(run.lines().len(), 2, "{run}");
+    let shards = folder.run_line(&format!("cover 0,128,64 65,192,128 {card} --shards --json"));
+    let whole = "{\"shard\":5,\"result\":\"covers\",\"file\":\"5.shard\"}";
+    assert!(shards.lines().contains(&whole), "{shards}");
+    let count = folder.run_line(&format!("cover 0,128,64 65,192,128 {card} --count --json"));
+    assert_eq!(count.lines(), ["{\"result\":\"counted\",\"chunks\":2}"]);
+    for (corners, why) in [
+        ("5,5,5 5,9,9", "the box has no voxel"),
+        ("5,5,5 9,9,-9", "the box has no voxel"),
+        ("236,0,0 999,9,9", "the box lies outside the volume"),
+        ("-999,0,0 -64,9,9", "the box lies outside the volume"),
+    ] {
+        let run = folder.run_line(&format!("cover {corners} {card}"));
+        assert!(run.expect_status(0).text().is_empty(), "{run}");
+        assert!(run.stderr.contains(why), "{run}");
+        let json = folder.run_line(&format!("cover {corners} {card} --json"));
+        assert!(json.expect_status(0).text().is_empty() && json.stderr.is_empty());
+    }
+    // The whole of the numbers is the whole volume: 5 x 5 x 4 chunks.
+    let ends = format!("{0},{0},{0} {1},{1},{1}", i64::MIN, i64::MAX);
+    let all = folder.run_line(&format!("cover {ends} --count {card}"));
+    assert_eq!(all.expect_status(0).lines(), ["100"]);
 }
 
 /// The lines of a listing.

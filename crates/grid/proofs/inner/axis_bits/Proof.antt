@@ -1,10 +1,10 @@
--- `grid::axis::axis_bits` meets its contract.
+-- `grid::inner::axis_bits` meets its contract.
 use lib.Count.{leading-le}
 use native.Mathlib.Omega.{arith}
 use borrow.Author.Needs.{needs}
 use Rattle.grid.proofs.Lengths.{no-axis-bits, axis-bits-found}
-use Rattle.grid.proofs.axis.axis_bits.Statement.{statement}
-use Rattle.grid.proofs.axis.axis_bits.Tie as tie
+use Rattle.grid.proofs.inner.axis_bits.Statement.{statement}
+use Rattle.grid.proofs.inner.axis_bits.Tie as tie
 
 returns : tie.Need-returns
 returns c = no-axis-bits _ (search needs)

@@ -1,0 +1,12 @@
+pub mod Tests
+pub mod Lists
+pub mod Places
+pub mod HighBit
+pub mod Frames
+pub mod Cuts
+pub mod Wholes
+pub mod Voxels
+pub mod Ways
+pub mod Entry
+pub mod Laws
+pub mod Cases

@@ -1,0 +1,8 @@
+-- `cover::walk::search` meets its contract.
+use Rattle.cover.proofs.Ways.{searching}
+use Rattle.cover.proofs.walk.search.Statement.{statement}
+use Rattle.cover.proofs.walk.search.Tie as tie
+
+pub search-spec : {M : Type 1} → statement M
+search-spec =
+    tie.close (tie.spec (λ c κs. search searching) (λ c. search searching) (λ c κs. search searching) (λ c. search searching) (λ c. search searching))

@@ -1,0 +1,56 @@
+// Which chunks cover a box of voxels.
+ghost use mathlib.Core.Path.{_≡_};
+ghost use Rattle.cover.specs.Cover.{coverAnswer, coverLeft};
+use bounds::Point;
+use grid::Volume;
+use refusal::Written;
+
+mod parts;
+mod spans;
+mod walk;
+
+// Along one axis: 2 to the bits cells, of which those from `from` up to `to` are marked.
+pub struct Along {
+    pub bits: u32,
+    pub from: u32,
+    pub to: u32,
+}
+
+// A part of the grid that some high key bits leave, its cells counted from 0.
+pub struct Part {
+    pub x: Along,
+    pub y: Along,
+    pub z: Along,
+}
+
+// Half of a part, and whether no cell of it is marked.
+pub struct Half {
+    pub part: Part,
+    pub misses: bool,
+}
+
+pub struct Halves {
+    pub low: Half,
+    pub high: Half,
+}
+
+// The keys of all cells that share a voxel with the box from `lower` up to `upper`, rising, into `out`, and how many:
+// 2 where an extent is 0, 3 where the grid needs more than 64 key bits, 13 where the keys do not fit.
+pub fn cover(volume: Volume, lower: Point, upper: Point, out: &mut [u64]) -> Written
+    ensures answer { λ r. ⌜ r ≡ coverAnswer volume lower upper (now (out .entry)) ⌝ }
+    ensures out { λ _. ⌜ now (out .exit) ≡ coverLeft volume lower upper (now (out .entry)) ⌝ }
+{
+    if grid::inner::zero_extent(volume) {
+        return Written::Refused(2);
+    }
+    if 64 < grid::inner::volume_key_bits(volume) {
+        return Written::Refused(3);
+    }
+    let whole = spans::whole(volume, lower, upper);
+    let face = parts::face(whole);
+    let deep = parts::depth(whole);
+    if parts::exceeds(face, deep, out.len() as u64) {
+        return Written::Refused(13);
+    }
+    Written::Length(walk::search(whole, out))
+}

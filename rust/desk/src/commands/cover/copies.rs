@@ -1,0 +1,394 @@
+//! The chunks of a box, each copied from a deposit to a file of its own. Each
+//! shard is read once.
+
+use std::collections::BTreeMap;
+use std::fs;
+use std::path::{Path, PathBuf};
+use std::sync::Arc;
+
+use coronagamba::{Cell, Refusal, Shard, Sharding, Volume};
+
+use crate::args::{flag, value, Args, Opt};
+use crate::commands::cell_text;
+use crate::diagnosis;
+use crate::fault::{Fault, Refused, Status};
+use crate::files::{is_missing, length_to_read, one_place, read_into, Inputs};
+use crate::folder::{entry, Trouble};
+use crate::json::Object;
+use crate::memory::Room;
+use crate::naming::cell_of_chunk;
+use crate::output::{self, Placed};
+use crate::report::{complaint, counted, refusal_members, shown, Report};
+use crate::round::{self, and, Outcome};
+use crate::settings;
+
+/// The options of copies.
+pub const OPTIONS: &[Opt] = &[
+    value(DEPOSIT),
+    value("--out"),
+    flag("--force"),
+    value("--jobs"),
+];
+
+const DEPOSIT: &str = "--deposit";
+
+/// Where chunks are copied from and to; `None` where they are only listed.
+pub fn asked(args: &Args) -> Result<Option<(&Path, &Path)>, Fault> {
+    let Some(deposit) = args.value(DEPOSIT) else {
+        let needless = OPTIONS.iter().find(|option| args.flag(option.name));
+        return match needless {
+            None => Ok(None),
+            Some(option) => Err(Fault::wrong_use(format!(
+                "{}: is for chunks that are copied, and {DEPOSIT} is missing",
+                option.name
+            ))),
+        };
+    };
+    let (deposit, out) = (Path::new(deposit), Path::new(args.needed("--out")?));
+    let about = fs::metadata(deposit).map_err(|error| Fault::system(deposit, "read", error))?;
+    let wrong = match (about.is_dir(), one_place(deposit, out)) {
+        (false, _) => "is no folder, and a deposit is one",
+        (true, true) => "is the deposit itself; chunks are copied to another folder",
+        (true, false) => return Ok(Some((deposit, out))),
+    };
+    Err(Fault::wrong_use(format!("{}: {wrong}", shown(deposit))))
+}
+
+/// Copies the chunks of these keys.
+pub fn copy(
+    args: &Args,
+    report: &mut Report,
+    (sharding, volume): (Sharding, Volume),
+    keys: &[u64],
+    (deposit, out): (&Path, &Path),
+) -> Result<(), Fault> {
+    // One works while the other waits for its output to reach the disk.
+    let workers = round::workers(args, 2)?;
+    let jobs = jobs(&sharding, keys, deposit).map_err(|refusal| {
+        let diagnosis = diagnosis::of_sharding(&sharding);
+        Refused::asked("settings", refusal, diagnosis)
+    })?;
+    output::make_folder(out, "chunks are copied into a folder")?;
+    let paths = jobs.iter().map(|job| job.path.as_path());
+    let task = Task {
+        sharding,
+        volume,
+        out,
+        force: args.flag("--force"),
+        inputs: Inputs::of(paths.chain(settings::files(args))),
+    };
+    let is_chunk = |name: &_| cell_of_chunk(&volume, name).is_some();
+    output::remove_stale_parts(out, &task.inputs, is_chunk);
+    let mut summary = Summary::default();
+    let work = |room: &mut Room, job| task.work(room, job);
+    let tell = |outcome, report: &mut Report| summary.tell(outcome, report);
+    round::go(workers, "read", jobs, work, tell, report)?;
+    summary.print(report)
+}
+
+/// A shard and the keys that are asked of it, rising.
+struct Job {
+    path: PathBuf,
+    number: u64,
+    keys: Vec<u64>,
+}
+
+/// The shards that have these keys, by number.
+fn jobs(sharding: &Sharding, keys: &[u64], deposit: &Path) -> Result<Vec<Job>, Refusal> {
+    let mut shards: BTreeMap<u64, Vec<u64>> = BTreeMap::new();
+    for (place, key) in sharding.places(keys)?.iter().zip(keys) {
+        shards.entry(place.shard).or_default().push(*key);
+    }
+    let job = |(number, keys)| {
+        Ok(Job {
+            path: deposit.join(sharding.shard_name(number)?),
+            number,
+            keys,
+        })
+    };
+    shards.into_iter().map(job).collect()
+}
+
+/// What came of a shard.
+struct Read {
+    /// Why it could not be read.
+    fault: Option<Fault>,
+    chunks: Vec<Copied>,
+}
+
+/// What came of a chunk.
+struct Copied {
+    key: u64,
+    cell: Cell,
+    out: PathBuf,
+    end: End,
+}
+
+enum End {
+    /// Its bytes, so many, are in the folder, or others under its name.
+    Placed(Placed, u64),
+    /// Its shard does not list it.
+    Absent,
+    /// The deposit has no such shard.
+    NoShard,
+    /// The library refused it: the first of its minishard, or a later one.
+    Refused(Arc<Refused>, bool),
+    /// Its shard could not be read.
+    NotRead,
+    /// It could not be written.
+    NotWritten(Fault),
+}
+
+/// What all shards are read with.
+struct Task<'a> {
+    sharding: Sharding,
+    volume: Volume,
+    out: &'a Path,
+    force: bool,
+    inputs: Inputs,
+}
+
+impl Task<'_> {
+    fn work(&self, room: &mut Room, job: Job) -> Outcome<Read> {
+        room.file.clear();
+        let (fault, chunks) = match self.read(room, &job) {
+            Ok(true) => (None, self.copies(&job, &room.file)),
+            Ok(false) => (None, self.all(&job, || End::NoShard)),
+            Err(fault) => (Some(fault), self.all(&job, || End::NotRead)),
+        };
+        Outcome {
+            refused: chunks
+                .iter()
+                .any(|copy| matches!(copy.end, End::Refused(..))),
+            read: room.file.len() as u64,
+            path: job.path,
+            verdict: Read { fault, chunks },
+        }
+    }
+
+    /// Reads the shard; `false` where the deposit has none.
+    fn read(&self, room: &mut Room, job: &Job) -> Result<bool, Fault> {
+        if is_missing(&job.path) {
+            return Ok(false);
+        }
+        let name = job.path.file_name().unwrap_or_default().to_os_string();
+        let folder = job.path.parent().unwrap_or(Path::new(""));
+        if let Err(Trouble::Fault(fault)) = entry(&self.sharding, folder, name).number {
+            return Err(fault);
+        }
+        let read = |room: &mut Room| {
+            room.wait_for([length_to_read(&job.path), 0, 0]);
+            read_into(&job.path, &mut room.file)
+        };
+        room.attempt(read, round::lacks_memory).map(|()| true)
+    }
+
+    /// All chunks of a shard, which came to one end.
+    fn all(&self, job: &Job, end: impl Fn() -> End) -> Vec<Copied> {
+        job.keys.iter().map(|key| self.named(*key, end())).collect()
+    }
+
+    /// Copies the chunks of a shard. A fault in a minishard is looked for once,
+    /// however many chunks it keeps back.
+    fn copies(&self, job: &Job, file: &[u8]) -> Vec<Copied> {
+        let shard = Shard::open(self.sharding, job.number, file);
+        let mut known: BTreeMap<(u8, u64), Arc<Refused>> = BTreeMap::new();
+        let mut copies = Vec::with_capacity(job.keys.len());
+        for key in &job.keys {
+            let mut copy = self.named(*key, End::Absent);
+            copy.end = match shard.chunk(*key) {
+                Ok(bytes) => self.place(&copy.out, bytes),
+                Err(refusal) if refusal.number == 12 => End::Absent,
+                Err(refusal) => {
+                    let at = (refusal.number, self.minishard_of(*key, refusal));
+                    let first = !known.contains_key(&at);
+                    let refused = known
+                        .entry(at)
+                        .or_insert_with(|| Arc::new(self.refused(job, file, *key, refusal)));
+                    End::Refused(Arc::clone(refused), first)
+                }
+            };
+            copies.push(copy);
+        }
+        copies
+    }
+
+    /// The minishard that a refusal is about; 0 where it is about the file.
+    fn minishard_of(&self, key: u64, refusal: Refusal) -> u64 {
+        match (refusal.number, self.sharding.place(key)) {
+            (7.., Ok(place)) => place.minishard,
+            _ => 0,
+        }
+    }
+
+    fn refused(&self, job: &Job, file: &[u8], key: u64, refusal: Refusal) -> Refused {
+        let diagnosis = diagnosis::of_lookup(&self.sharding, job.number, file, key, refusal);
+        Refused::file(&job.path, refusal, diagnosis)
+    }
+
+    fn place(&self, out: &Path, bytes: &[u8]) -> End {
+        match output::place(out, self.force, bytes, &self.inputs) {
+            Ok(placed) => End::Placed(placed, bytes.len() as u64),
+            Err(fault) => End::NotWritten(fault),
+        }
+    }
+
+    /// A chunk with its cell and the path of its file.
+    fn named(&self, key: u64, end: End) -> Copied {
+        let cell = self.volume.cell(key);
+        let cell = cell.expect("a listed key is that of a cell");
+        let name = self.volume.chunk_name(cell);
+        Copied {
+            key,
+            cell,
+            out: self.out.join(name.expect("a cell has a name")),
+            end,
+        }
+    }
+}
+
+/// Counts over all chunks.
+#[derive(Default)]
+struct Summary {
+    written: u64,
+    already_there: u64,
+    other_bytes: u64,
+    absent: u64,
+    no_shard: u64,
+    refused: u64,
+    failed: u64,
+}
+
+impl Summary {
+    fn tell(&mut self, outcome: Outcome<Read>, report: &mut Report) -> Result<(), Fault> {
+        let Outcome { path, verdict, .. } = outcome;
+        if let Some(fault) = &verdict.fault {
+            round::tell_fault(Object::new().path(&path), fault, report)?;
+        }
+        let there = |copy: &Copied| !matches!(copy.end, End::NoShard);
+        if !report.json() && !verdict.chunks.iter().any(there) {
+            report.flush()?;
+            tell_no_shard(&path, verdict.chunks.len() as u64);
+        }
+        for copy in verdict.chunks {
+            self.count(&copy.end, report);
+            copy.tell(&path, report)?;
+        }
+        Ok(())
+    }
+
+    fn count(&mut self, end: &End, report: &mut Report) {
+        let (count, status) = match end {
+            End::Placed(Placed::Written, _) => (&mut self.written, Status::Yes),
+            End::Placed(Placed::AlreadyThere, _) => (&mut self.already_there, Status::Yes),
+            End::Placed(Placed::OtherBytes, _) => (&mut self.other_bytes, Status::Use),
+            End::Absent => (&mut self.absent, Status::Yes),
+            End::NoShard => (&mut self.no_shard, Status::Yes),
+            End::Refused(..) => (&mut self.refused, Status::No),
+            End::NotRead => (&mut self.failed, Status::System),
+            End::NotWritten(fault) => (&mut self.failed, fault.status()),
+        };
+        *count += 1;
+        report.note(status);
+    }
+
+    fn total(&self) -> u64 {
+        let there = self.written + self.already_there + self.other_bytes;
+        there + self.absent + self.no_shard + self.refused + self.failed
+    }
+
+    /// `100 chunks: 96 written, 4 absent`
+    fn print(&self, report: &mut Report) -> Result<(), Fault> {
+        if report.json() {
+            return report.object(
+                Object::new()
+                    .text("result", "summary")
+                    .number("chunks", self.total())
+                    .number("written", self.written)
+                    .number("already_there", self.already_there)
+                    .number("other_bytes", self.other_bytes)
+                    .number("absent", self.absent)
+                    .number("no_shard", self.no_shard)
+                    .number("refused", self.refused)
+                    .number("not_copied", self.failed),
+            );
+        }
+        report.line(format_args!(
+            "{}: {} written{}{}{}{}{}{}",
+            counted(self.total(), "chunk"),
+            self.written,
+            and(self.already_there, "already there"),
+            and(self.other_bytes, "there with other bytes"),
+            and(self.absent, "absent"),
+            and(self.no_shard, "of shards that are not there"),
+            and(self.refused, "refused"),
+            and(self.failed, "not read or not written"),
+        ))
+    }
+}
+
+/// Tells that a deposit lacks a shard. That is no fault, since no chunk may
+/// belong to it; but one that was lost should not go unnoticed.
+fn tell_no_shard(path: &Path, chunks: u64) {
+    complaint(format_args!(
+        "{}: is not there; {} of the box would stand in it",
+        shown(path),
+        counted(chunks, "chunk")
+    ));
+}
+
+impl Copied {
+    /// The line of a chunk. Standard error says in full what is the matter,
+    /// once for each minishard.
+    fn tell(self, shard: &Path, report: &mut Report) -> Result<(), Fault> {
+        if report.json() {
+            if let End::NotWritten(fault @ Fault::Use { .. }) = &self.end {
+                report.complain(fault)?;
+            }
+            return report.object(self.object(shard));
+        }
+        let name = self.out.file_name().unwrap_or_default();
+        let name = shown(Path::new(name));
+        let (key, cell) = (self.key, cell_text(self.cell));
+        let end = self.end.text();
+        report.line(format_args!("{key} {cell} {name} {end}"))?;
+        match self.end {
+            End::Refused(refused, true) => report.complain(&Refused::clone(&refused).into()),
+            End::NotWritten(fault) => report.complain(&fault),
+            _ => Ok(()),
+        }
+    }
+
+    fn object(&self, shard: &Path) -> Object {
+        let object = Object::new()
+            .number("key", self.key)
+            .numbers("cell", [self.cell.x, self.cell.y, self.cell.z])
+            .path(shard)
+            .named_path("out", &self.out);
+        match &self.end {
+            End::Refused(refused, _) => refusal_members(object, refused),
+            End::Placed(_, bytes) => object
+                .text("result", &self.end.text())
+                .number("bytes", *bytes),
+            End::NotWritten(fault) => object
+                .text("result", "error")
+                .text("error", &fault.to_string()),
+            end => object.text("result", &end.text()),
+        }
+    }
+}
+
+impl End {
+    fn text(&self) -> String {
+        match self {
+            End::Placed(Placed::Written, _) => "written".into(),
+            End::Placed(Placed::AlreadyThere, _) => "already there".into(),
+            End::Placed(Placed::OtherBytes, _) => "exists with other bytes".into(),
+            End::Absent => "absent".into(),
+            End::NoShard => "no shard".into(),
+            End::Refused(refused, _) => format!("refused {}", refused.refusal.number),
+            End::NotRead => "not read".into(),
+            End::NotWritten(_) => "not written".into(),
+        }
+    }
+}
