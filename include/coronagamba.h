@@ -27,11 +27,19 @@
  *
  *   uint64_t word = coronagamba_check(sharding, 0, file, count);
  *   if (CORONAGAMBA_NUMBER(word) == CORONAGAMBA_REFUSED_INDEX_ENTRY &&
- *       CORONAGAMBA_HAS_MINISHARD(word))
- *     report(CORONAGAMBA_MINISHARD(word));
+ *       CORONAGAMBA_HAS_POSITION(word))
+ *     look_at(file + CORONAGAMBA_POSITION(word));
  *
- * What names a minishard: coronagamba_check with 7, 8, 9, 10 and 11. No
- * function names a position.
+ * What names a minishard: coronagamba_check with 7 to 11. What names a
+ * position: coronagamba_check, coronagamba_lookup, coronagamba_listed_count,
+ * coronagamba_listing, coronagamba_settled_length and coronagamba_settle with 7
+ * to 11.
+ *
+ * A position is a byte of the shard, counted from its start. With 7 and 8 the
+ * minishard's entry in the shard index begins there, 16 bytes: start and end.
+ * With 9 and 10 it is the id step of the first entry that offends, with 11 the
+ * start step of that entry, 8 bytes each; of an id that stands twice the later
+ * entry offends. The bytes are always within the shard.
  *
  * A comment below ends with the refusals that its function can give, in the
  * order in which they are tested.
@@ -71,9 +79,9 @@
  * number, the library that is linked or loaded belongs to another header:
  * structs and answers may differ. */
 #define CORONAGAMBA_VERSION_MAJOR 0
-#define CORONAGAMBA_VERSION_MINOR 2
+#define CORONAGAMBA_VERSION_MINOR 3
 #define CORONAGAMBA_VERSION_PATCH 0
-#define CORONAGAMBA_VERSION_STRING "0.2.0"
+#define CORONAGAMBA_VERSION_STRING "0.3.0"
 #define CORONAGAMBA_VERSION                      \
   ((uint64_t)CORONAGAMBA_VERSION_PATCH +         \
    ((uint64_t)CORONAGAMBA_VERSION_MINOR << 16) + \
@@ -316,20 +324,20 @@ uint64_t coronagamba_shard_name(coronagamba_sharding sharding, uint64_t shard,
 /* Where the chunk of an id lies in the shard's file. Writes where it begins,
  * counted from the file's first byte, to `start`, and its number of bytes to
  * `length`. Of the minishards it judges the id's own alone. Refusals: 1, 5,
- * 6, 7 to 11 of the id's minishard, 12 */
+ * 6, 7 to 11 of the id's minishard with the position, 12 */
 uint64_t coronagamba_lookup(coronagamba_sharding sharding, uint64_t shard,
                             const uint8_t *file, size_t count, uint64_t id,
                             uint64_t *start, uint64_t *length);
 
 /* Whether the whole shard is sound. Writes nothing. Where a minishard has a
- * fault, the answer word names the first such minishard. Refusals: 1, 5, 6,
- * 7 to 11 with the minishard */
+ * fault, the answer word names the first such minishard and the position.
+ * Refusals: 1, 5, 6, 7 to 11 with the minishard and the position */
 uint64_t coronagamba_check(coronagamba_sharding sharding, uint64_t shard,
                            const uint8_t *file, size_t count);
 
 /* How many chunks a minishard lists. Writes the number to `chunks`.
  * Refusals: 1, 5 (also for a minishard that is not there), 6, 7 to 11 of
- * that minishard */
+ * that minishard with the position */
 uint64_t coronagamba_listed_count(coronagamba_sharding sharding, uint64_t shard,
                                   const uint8_t *file, size_t count,
                                   uint64_t minishard, uint64_t *chunks);
@@ -338,24 +346,25 @@ uint64_t coronagamba_listed_count(coronagamba_sharding sharding, uint64_t shard,
  * for each to the front of `out`: id, start counted from the file's first
  * byte, length in bytes. Writes how many numbers these are, three times what
  * coronagamba_listed_count gives, to `length`. Refusals: 1, 5 (also for a
- * minishard that is not there), 6, 7 to 11 of that minishard, 13 where `out`
- * has room for fewer */
+ * minishard that is not there), 6, 7 to 11 of that minishard with the
+ * position, 13 where `out` has room for fewer */
 uint64_t coronagamba_listing(coronagamba_sharding sharding, uint64_t shard,
                              const uint8_t *file, size_t count,
                              uint64_t minishard, uint64_t *out,
                              size_t out_count, uint64_t *length);
 
 /* How many bytes a shard's settled form has. Writes the number to `length`.
- * Refusals: 1, 5, 6, 7 to 11 of the first faulty minishard, 13 where the
- * form would pass 1 GiB */
+ * Refusals: 1, 5, 6, 7 to 11 of the first faulty minishard with the
+ * position, 13 where the form would pass 1 GiB */
 uint64_t coronagamba_settled_length(coronagamba_sharding sharding,
                                     uint64_t shard, const uint8_t *file,
                                     size_t count, uint64_t *length);
 
 /* A shard's settled form. Writes it to the front of `out`, which needs the
  * room that coronagamba_settled_length tells, and its number of bytes to
- * `length`. Refusals: 1, 5, 6, 7 to 11 of the first faulty minishard, 13
- * where `out` is shorter than the form or the form would pass 1 GiB */
+ * `length`. Refusals: 1, 5, 6, 7 to 11 of the first faulty minishard with
+ * the position, 13 where `out` is shorter than the form or the form would
+ * pass 1 GiB */
 uint64_t coronagamba_settle(coronagamba_sharding sharding, uint64_t shard,
                             const uint8_t *file, size_t count, uint8_t *out,
                             size_t out_count, uint64_t *length);

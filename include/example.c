@@ -134,22 +134,42 @@ static void shards(void) {
   see(coronagamba_settle(sharding, 0, file, 85, out, 90, &length) == 0 &&
           length == 85 && memcmp(out, file, 85) == 0,
       "settle");
-  /* The second minishard's entry, now with its start behind its end. */
+  /* The second minishard's entry, now with its start behind its end. The
+   * position is where it begins: 16 bytes for each minishard before it. */
   file[16] = 1;
   word = coronagamba_check(sharding, 0, file, 85);
   see(CORONAGAMBA_NUMBER(word) == CORONAGAMBA_REFUSED_INDEX_ENTRY &&
           CORONAGAMBA_HAS_MINISHARD(word) && CORONAGAMBA_MINISHARD(word) == 1 &&
-          !CORONAGAMBA_HAS_POSITION(word),
+          CORONAGAMBA_HAS_POSITION(word) && CORONAGAMBA_POSITION(word) == 16,
       "check, a fault in minishard 1");
-  /* The first one's too: minishard 0 is told from none. */
+  /* The others pass the position on, and no minishard. */
+  word = coronagamba_settled_length(sharding, 0, file, 85, &length);
+  see(CORONAGAMBA_NUMBER(word) == CORONAGAMBA_REFUSED_INDEX_ENTRY &&
+          !CORONAGAMBA_HAS_MINISHARD(word) && CORONAGAMBA_HAS_POSITION(word) &&
+          CORONAGAMBA_POSITION(word) == 16,
+      "settled_length, a fault in minishard 1");
+  /* The first one's too: minishard 0 and byte 0 are told from none. */
   file[0] = 54;
   word = coronagamba_check(sharding, 0, file, 85);
-  see(CORONAGAMBA_HAS_MINISHARD(word) && CORONAGAMBA_MINISHARD(word) == 0,
+  see(CORONAGAMBA_HAS_MINISHARD(word) && CORONAGAMBA_MINISHARD(word) == 0 &&
+          CORONAGAMBA_HAS_POSITION(word) && CORONAGAMBA_POSITION(word) == 0,
       "check, a fault in minishard 0");
   word = coronagamba_check(sharding, 1, file, 85);
   see(word == CORONAGAMBA_REFUSED_NO_SUCH_SHARD &&
-          !CORONAGAMBA_HAS_MINISHARD(word),
+          !CORONAGAMBA_HAS_MINISHARD(word) && !CORONAGAMBA_HAS_POSITION(word),
       "check, no such shard");
+  /* Sound entries again, and a second id step of 0: id 4 stands twice. The
+   * position is that step, the second number of the index at byte 37; reading
+   * the file there gives it. */
+  file[0] = 5;
+  file[16] = 0;
+  put(file + 45, 0, 8);
+  word = coronagamba_lookup(sharding, 0, file, 85, 10, &start, &length);
+  see(CORONAGAMBA_NUMBER(word) == CORONAGAMBA_REFUSED_ID_TWICE &&
+          CORONAGAMBA_HAS_POSITION(word) && CORONAGAMBA_POSITION(word) == 45 &&
+          memcmp(file + CORONAGAMBA_POSITION(word), "\0\0\0\0\0\0\0", 8) ==
+              0,
+      "lookup, an id that stands twice");
 }
 
 static void cards(void) {

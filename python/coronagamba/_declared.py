@@ -9,8 +9,8 @@ import ctypes
 from ctypes import POINTER
 from typing import Any, Dict, Tuple
 
-VERSION = (0, 2, 0)
-__version__ = "0.2.0"
+VERSION = (0, 3, 0)
+__version__ = "0.3.0"
 
 # a sharding's hash that leaves an id as it is
 HASH_IDENTITY = 0
@@ -245,7 +245,7 @@ FUNCTIONS: Dict[str, Tuple[Any, Tuple[Any, ...]]] = {
     # Where the chunk of an id lies in the shard's file. Writes where it
     # begins, counted from the file's first byte, to `start`, and its number of
     # bytes to `length`. Of the minishards it judges the id's own alone.
-    # Refusals: 1, 5, 6, 7 to 11 of the id's minishard, 12
+    # Refusals: 1, 5, 6, 7 to 11 of the id's minishard with the position, 12
     "coronagamba_lookup": (
         ctypes.c_uint64,
         (
@@ -259,8 +259,8 @@ FUNCTIONS: Dict[str, Tuple[Any, Tuple[Any, ...]]] = {
         ),
     ),
     # Whether the whole shard is sound. Writes nothing. Where a minishard has a
-    # fault, the answer word names the first such minishard.
-    # Refusals: 1, 5, 6, 7 to 11 with the minishard
+    # fault, the answer word names the first such minishard and the position.
+    # Refusals: 1, 5, 6, 7 to 11 with the minishard and the position
     "coronagamba_check": (
         ctypes.c_uint64,
         (
@@ -272,7 +272,7 @@ FUNCTIONS: Dict[str, Tuple[Any, Tuple[Any, ...]]] = {
     ),
     # How many chunks a minishard lists. Writes the number to `chunks`.
     # Refusals: 1, 5 (also for a minishard that is not there), 6, 7 to 11 of
-    # that minishard
+    # that minishard with the position
     "coronagamba_listed_count": (
         ctypes.c_uint64,
         (
@@ -289,7 +289,7 @@ FUNCTIONS: Dict[str, Tuple[Any, Tuple[Any, ...]]] = {
     # byte, length in bytes. Writes how many numbers these are, three times
     # what coronagamba_listed_count gives, to `length`.
     # Refusals: 1, 5 (also for a minishard that is not there), 6, 7 to 11 of
-    # that minishard, 13 where `out` has room for fewer
+    # that minishard with the position, 13 where `out` has room for fewer
     "coronagamba_listing": (
         ctypes.c_uint64,
         (
@@ -304,8 +304,8 @@ FUNCTIONS: Dict[str, Tuple[Any, Tuple[Any, ...]]] = {
         ),
     ),
     # How many bytes a shard's settled form has. Writes the number to `length`.
-    # Refusals: 1, 5, 6, 7 to 11 of the first faulty minishard, 13 where the
-    # form would pass 1 GiB
+    # Refusals: 1, 5, 6, 7 to 11 of the first faulty minishard with the
+    # position, 13 where the form would pass 1 GiB
     "coronagamba_settled_length": (
         ctypes.c_uint64,
         (
@@ -319,8 +319,9 @@ FUNCTIONS: Dict[str, Tuple[Any, Tuple[Any, ...]]] = {
     # A shard's settled form. Writes it to the front of `out`, which needs the
     # room that coronagamba_settled_length tells, and its number of bytes to
     # `length`.
-    # Refusals: 1, 5, 6, 7 to 11 of the first faulty minishard, 13 where `out`
-    # is shorter than the form or the form would pass 1 GiB
+    # Refusals: 1, 5, 6, 7 to 11 of the first faulty minishard with the
+    # position, 13 where `out` is shorter than the form or the form would pass
+    # 1 GiB
     "coronagamba_settle": (
         ctypes.c_uint64,
         (

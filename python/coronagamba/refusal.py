@@ -8,8 +8,14 @@ from ._refusals import SENTENCES, Numbers
 
 class Refused(Numbers, Exception):
     """A call was refused: a number from the archive's table, as in
-    `Refused.NOT_LISTED`, and, from the whole-shard check, the minishard with
-    the fault.
+    `Refused.NOT_LISTED`; with 7 to 11 the position, which is the byte to look
+    at, counted from the start of the shard; and, from the whole-shard check,
+    the minishard with the fault.
+
+    With 7 and 8 the minishard's entry in the shard index begins at the
+    position, 16 bytes; with 9 and 10 the id step of the first entry that
+    offends, with 11 its start step, 8 bytes each. Of an id that stands twice
+    it is the later entry.
 
     >>> from coronagamba import IDENTITY, Refused, Sharding
     >>> try:
@@ -19,10 +25,16 @@ class Refused(Numbers, Exception):
     1 The sharding specification has a field that is not allowed.
     """
 
-    def __init__(self, number: int, minishard: Optional[int] = None) -> None:
-        super().__init__(number, minishard)
+    def __init__(
+        self,
+        number: int,
+        minishard: Optional[int] = None,
+        position: Optional[int] = None,
+    ) -> None:
+        super().__init__(number, minishard, position)
         self.number = number
         self.minishard = minishard
+        self.position = position
 
     @property
     def sentence(self) -> str:
@@ -31,9 +43,12 @@ class Refused(Numbers, Exception):
 
     def __str__(self) -> str:
         told = f"refused {self.number}: {self.sentence}"
-        if self.minishard is None:
-            return told
-        return f"{told} The fault is in minishard {self.minishard}."
+        places = []
+        if self.minishard is not None:
+            places.append(f"in minishard {self.minishard}")
+        if self.position is not None:
+            places.append(f"at byte {self.position}")
+        return f"{told} The fault is {', '.join(places)}." if places else told
 
 
 class Absent(Refused, KeyError):
@@ -52,9 +67,8 @@ class Absent(Refused, KeyError):
 def answer(word: int) -> None:
     """Raises the refusal of an answer word, where it is one. The low byte is
     the number. The next 24 bits are 0 where the word names no minishard, else
-    one more than it; the last 32 do the same for a position, which no call
-    names yet."""
+    one more than it; the last 32 do the same for a position."""
     if word:
-        number, minishard = word & 0xFF, word >> 8 & 0xFFFFFF
+        number, parts = word & 0xFF, (word >> 8 & 0xFFFFFF, word >> 32)
         refused = Absent if number == Refused.NOT_LISTED else Refused
-        raise refused(number, minishard - 1 if minishard else None)
+        raise refused(number, *(part - 1 if part else None for part in parts))

@@ -76,7 +76,7 @@ class Shard(Held):
 
     def lookup(self, id: int) -> Span:
         """The place of an id's chunk. Refusals 1, 5, 6, 7 to 11 of the id's
-        minishard, and 12, which is `Absent`."""
+        minishard with a position, and 12, which is `Absent`."""
         start, length = c_uint64(), c_uint64()
         with self._lent() as lent:
             answer(
@@ -97,13 +97,14 @@ class Shard(Held):
 
     def check(self) -> None:
         """Passes exactly the sound shards. Refusals 1, 5, 6, and 7 to 11 with
-        the first minishard that has a fault."""
+        the first minishard that has a fault, and a position."""
         with self._lent() as lent:
             answer(library.coronagamba_check(*self._arguments(lent)))
 
     def listed_count(self, minishard: int) -> int:
         """How many chunks a minishard lists. Refusals 1, 5 (also for a
-        minishard that is not there), 6, 7 to 11 of that minishard."""
+        minishard that is not there), 6, 7 to 11 of that minishard with a
+        position."""
         chunks = c_uint64()
         with self._lent() as lent:
             answer(
@@ -136,8 +137,8 @@ class Shard(Held):
         ]
 
     def settled_length(self) -> int:
-        """The length of the settled form. Refusals 1, 5, 6, 7 to 11, and 13
-        where it would pass 1 GiB."""
+        """The length of the settled form. Refusals 1, 5, 6, 7 to 11 with a
+        position, and 13 where it would pass 1 GiB."""
         length = c_uint64()
         with self._lent() as lent:
             answer(
@@ -155,9 +156,9 @@ class Shard(Held):
 
     def settle(self, out: WriteableBuffer) -> int:
         """Writes the settled form to the front of `out` and gives its length.
-        Refusals 1, 5, 6, 7 to 11, and 13 where `out` is too short or the form
-        would pass 1 GiB. `out` and the shard's bytes must have no memory in
-        common."""
+        Refusals 1, 5, 6, 7 to 11 with a position, and 13 where `out` is too
+        short or the form would pass 1 GiB. `out` and the shard's bytes must
+        have no memory in common."""
         length = c_uint64()
         with self._lent() as lent, Lent("out", out, True) as room:
             if room.overlaps(lent):

@@ -38,7 +38,9 @@ U64 = c_uint64
 THREE_U32 = c_uint32 * 3
 THREE_I64 = c_int64 * 3
 TWO_U64 = c_uint64 * 2
-# A refusing call: its number, the function, what it is given in front, and
+# The word of a fault in the second entry of the shard index.
+SECOND = 7 + (16 + 1 << 32)
+# A refusing call: its word, the function, what it is given in front, and
 # the types of what it could write, with a count where it asks for one.
 CALLS = [
     (2, "grid_of", (NO_VOLUME,), [THREE_U32]),
@@ -68,12 +70,12 @@ CALLS = [
     (1, "shard_name", (FORBIDDEN, 0), [(c_uint8 * 20, 20), U64]),
     (5, "shard_name", (ALLOWED, 1), [(c_uint8 * 20, 20), U64]),
     (13, "shard_name", (ALLOWED, 0), [(c_uint8 * 6, 6), U64]),
-    (7, "lookup", SHARD + (1,), [U64, U64]),
+    (SECOND, "lookup", SHARD + (1,), [U64, U64]),
     (12, "lookup", SHARD + (2,), [U64, U64]),
-    (7, "listed_count", SHARD + (1,), [U64]),
-    (7, "listing", SHARD + (1,), [(c_uint64 * 3, 3), U64]),
-    (7, "settled_length", SHARD, [U64]),
-    (7, "settle", SHARD, [(c_uint8 * 40, 40), U64]),
+    (SECOND, "listed_count", SHARD + (1,), [U64]),
+    (SECOND, "listing", SHARD + (1,), [(c_uint64 * 3, 3), U64]),
+    (SECOND, "settled_length", SHARD, [U64]),
+    (SECOND, "settle", SHARD, [(c_uint8 * 40, 40), U64]),
     (
         14,
         "card_read",
@@ -104,8 +106,8 @@ CALLS = [
 
 class Kept(unittest.TestCase):
     def test_a_refusal_leaves_all_as_it_was(self):
-        for number, name, front, outputs in CALLS:
-            with self.subTest(number=number, name=name):
+        for word, name, front, outputs in CALLS:
+            with self.subTest(word=word, name=name):
                 values, arguments = [], list(front)
                 for output in outputs:
                     if isinstance(output, tuple):
@@ -116,7 +118,7 @@ class Kept(unittest.TestCase):
                         values.append(filled(output))
                         arguments.append(byref(values[-1]))
                 call = getattr(library, f"coronagamba_{name}")
-                self.assertEqual(call(*arguments), number)
+                self.assertEqual(call(*arguments), word)
                 for value in values:
                     self.assertEqual(set(bytes(value)), {KEPT})
 
@@ -126,5 +128,5 @@ class Kept(unittest.TestCase):
         tried |= {f"coronagamba_{name}" for name in without}
         self.assertEqual(tried, set(_declared.FUNCTIONS))
 
-    def test_the_checks_word_carries_the_minishard(self):
-        self.assertEqual(library.coronagamba_check(*SHARD), 7 + 256 * 2)
+    def test_the_checks_word_carries_the_minishard_too(self):
+        self.assertEqual(library.coronagamba_check(*SHARD), SECOND + 256 * 2)

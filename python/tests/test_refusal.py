@@ -185,32 +185,77 @@ class EveryNumber(unittest.TestCase):
         self.assertEqual(caught.exception.number, 3)
 
 
+def second(entry, table):
+    """A shard of two minishards: the first is empty, the second has this entry
+    and this index behind five bytes, from byte 37 on."""
+    return u64s(0, 0, *entry) + b"abcde" + u64s(*table)
+
+
+# A shard whose second minishard has the fault of this number, and the byte to
+# look at. Ids 5, 11 and 7 have their id steps at bytes 37, 45 and 53, their
+# start steps at bytes 61, 69 and 77.
+FAULTY = [
+    (7, 16, second((77, 5), [])),
+    (7, 16, second((5, 78), [5, 6, 2**64 - 4, 0, 0, 0, 1, 1, 1])),
+    (8, 16, second((5, 76), [5, 6, 2**64 - 4, 0, 0, 0, 1, 1, 1])),
+    (9, 45, second((5, 77), [5, 0, 2, 0, 0, 0, 1, 1, 1])),
+    (9, 53, second((5, 77), [5, 6, 2**64 - 6, 0, 0, 0, 1, 1, 1])),
+    (9, 53, second((5, 77), [5, 6, 0, 0, 0, 0, 1, 1, 1])),
+    (10, 37, second((5, 77), [4, 6, 2, 0, 0, 0, 1, 1, 1])),
+    (10, 53, second((5, 77), [5, 6, 1, 0, 0, 0, 1, 1, 999])),
+    (11, 61, second((5, 77), [5, 6, 2, 0, 0, 0, 999, 1, 1])),
+    (11, 77, second((5, 77), [5, 6, 2, 0, 0, 0, 1, 1, 999])),
+    (11, 69, second((5, 77), [5, 6, 2, 0, 999, 0, 1, 1, 1])),
+]
+
+
+class Places(unittest.TestCase):
+    def assert_refused(self, call, *expected):
+        with self.assertRaises(Refused) as caught:
+            call()
+        refusal = caught.exception
+        self.assertEqual(refusal.args, expected)
+        told = refusal.number, refusal.minishard, refusal.position
+        self.assertEqual(told, expected)
+
+    def test_the_check_names_minishard_and_position(self):
+        for number, byte, file in FAULTY:
+            with self.subTest(number=number, byte=byte):
+                shard = Shard(TWO, 0, file)
+                self.assert_refused(shard.check, number, 1, byte)
+
+    def test_the_others_pass_the_position_on(self):
+        for number, byte, file in FAULTY:
+            shard = Shard(TWO, 0, file)
+            for call in (
+                lambda: shard.lookup(5),
+                lambda: shard.chunk(1),
+                lambda: shard.listed_count(1),
+                lambda: shard.listing(1),
+                shard.settled_length,
+                shard.settled,
+                lambda: shard.settle(bytearray(200)),
+            ):
+                with self.subTest(number=number, byte=byte):
+                    self.assert_refused(call, number, None, byte)
+            # The first minishard has no fault.
+            self.assertEqual(shard.listed_count(0), 0)
+
+    def test_minishard_0_and_byte_0_are_told_from_none(self):
+        shard = Shard(TWO, 0, u64s(1, 0, 1, 0))
+        self.assert_refused(shard.check, 7, 0, 0)
+        self.assert_refused(lambda: shard.lookup(0), 7, None, 0)
+
+    def test_the_other_numbers_name_no_place(self):
+        self.assert_refused(Shard(TWO, 0, b"").check, 6, None, None)
+        self.assert_refused(Shard(TWO, 1, bytes(32)).check, 5, None, None)
+        shard = Shard(TWO, 0, bytes(32))
+        self.assert_refused(lambda: shard.lookup(3), 12, None, None)
+        short = bytearray(31)
+        self.assert_refused(lambda: shard.settle(short), 13, None, None)
+
+
 class Exceptions(unittest.TestCase):
-    def test_only_the_check_names_a_minishard(self):
-        # The first minishard is empty, the second one's entry is reversed.
-        reversed_second = Shard(TWO, 0, u64s(0, 0, 1, 0))
-        with self.assertRaises(Refused) as caught:
-            reversed_second.check()
-        self.assertEqual(caught.exception.args, (7, 1))
-        self.assertEqual(caught.exception.minishard, 1)
-        for call in (
-            lambda: reversed_second.lookup(1),
-            lambda: reversed_second.listing(1),
-            reversed_second.settled_length,
-        ):
-            with self.assertRaises(Refused) as caught:
-                call()
-            self.assertEqual(caught.exception.args, (7, None))
-
-    def test_the_check_names_minishard_0_too(self):
-        with self.assertRaises(Refused) as caught:
-            Shard(TWO, 0, u64s(1, 0, 1, 0)).check()
-        self.assertEqual(caught.exception.args, (7, 0))
-
-    def test_the_check_names_no_minishard_for_the_others(self):
-        with self.assertRaises(Refused) as caught:
-            Shard(TWO, 0, b"").check()
-        self.assertEqual(caught.exception.args, (6, None))
 
     def test_absent_is_a_key_error(self):
         with self.assertRaises(KeyError) as caught:
@@ -224,19 +269,24 @@ class Exceptions(unittest.TestCase):
         self.assertEqual(len(sentences), len(SENTENCES))
         self.assertNotIn(Refused(0).sentence, sentences)
 
-    def test_the_minishard_is_shown(self):
-        self.assertEqual(
-            str(Refused(11, 3)),
-            "refused 11: A chunk ends past the file. "
-            "The fault is in minishard 3.",
-        )
+    def test_the_place_is_shown(self):
+        sentence = "refused 11: A chunk ends past the file."
+        for minishard, position, place in (
+            (None, None, ""),
+            (3, None, " The fault is in minishard 3."),
+            (None, 0, " The fault is at byte 0."),
+            (0, 460, " The fault is in minishard 0, at byte 460."),
+        ):
+            refusal = Refused(11, minishard, position)
+            self.assertEqual(str(refusal), sentence + place)
 
     def test_exceptions_can_cross_processes(self):
-        for refusal in (Refused(7, 3), Absent(12)):
+        for refusal in (Refused(7, 3, 48), Refused(9, None, 0), Absent(12)):
             copy = pickle.loads(pickle.dumps(refusal))
             self.assertIs(type(copy), type(refusal))
             self.assertEqual(copy.args, refusal.args)
             self.assertEqual(copy.minishard, refusal.minishard)
+            self.assertEqual(copy.position, refusal.position)
 
     def test_numbers_have_names(self):
         self.assertEqual(Refused.NOT_LISTED, 12)
@@ -249,12 +299,14 @@ class Exceptions(unittest.TestCase):
     def test_answer_words(self):
         answer(0)
         for word, expected in (
-            (13, (13, None)),
-            (7 + 256, (7, 0)),
-            (11 + 256 * 4096, (11, 4095)),
-            (9 + 256 * 65536, (9, 65535)),
-            (9 + 256 * 4 + (77 << 32), (9, 3)),
-            (6 + (77 << 32), (6, None)),
+            (13, (13, None, None)),
+            (7 + 256, (7, 0, None)),
+            (11 + 256 * 4096, (11, 4095, None)),
+            (9 + 256 * 65536, (9, 65535, None)),
+            (9 + 256 * 4 + (77 << 32), (9, 3, 76)),
+            (7 + (1 << 32), (7, None, 0)),
+            (11 + (1 << 62), (11, None, 2**30 - 1)),
+            (2**64 - 1, (255, 2**24 - 2, 2**32 - 2)),
         ):
             with self.assertRaises(Refused) as caught:
                 answer(word)

@@ -129,10 +129,10 @@ class Soundness(unittest.TestCase):
         self.assertEqual(shard.chunk(10), b"cde")
         with self.assertRaises(Refused) as caught:
             shard.check()
-        self.assertEqual(caught.exception.args, (7, 1))
+        self.assertEqual(caught.exception.args, (7, 1, 16))
         with self.assertRaises(Refused) as caught:
             shard.lookup(7)
-        self.assertEqual(caught.exception.args, (7, None))
+        self.assertEqual(caught.exception.args, (7, None, 16))
 
     def test_the_longest_file(self):
         with mmap.mmap(-1, 2**30) as longest:

@@ -2,4 +2,5 @@ pub mod Checked
 pub mod Patterned
 pub mod Told
 pub mod Writing
+pub mod Answered
 pub mod Word

@@ -4,33 +4,50 @@ use mathlib.Core.Option.{none, some}
 use Rattle.shard.specs.declared.CheckAnswer.{CheckAnswer}
 use Rattle.shard.specs.declared.CheckAnswer.the-variants.{Sound, Faulty, Refused as CheckRefused}
 use Rattle.lookup.specs.declared.LookupAnswer.{LookupAnswer}
-use Rattle.lookup.specs.declared.LookupAnswer.the-variants.{Found, Refused as NotFound}
+use Rattle.lookup.specs.declared.LookupAnswer.the-variants.{Found, Refused as NotFound, Faulty as FaultFound}
 use Rattle.listing.specs.declared.CountAnswer.{CountAnswer}
-use Rattle.listing.specs.declared.CountAnswer.the-variants.{Count, Refused as NoCount}
+use Rattle.listing.specs.declared.CountAnswer.the-variants.{Count, Refused as NoCount, Faulty as FaultCounted}
+use Rattle.settle.specs.declared.SettleAnswer.{SettleAnswer}
+use Rattle.settle.specs.declared.SettleAnswer.the-variants.{Length, Refused as NotSettled, Faulty as FaultSettled}
 use Rattle.coronagamba.specs.Word.{word}
 
--- the check names the faulty minishard, and no position
+-- the check names the faulty minishard and the position; the other calls give the position alone
 abbrev pub checkWord : CheckAnswer → ℕ
 checkWord Sound = 0
 checkWord (CheckRefused k) = k
-checkWord (Faulty k m) = word k (some m) none
+checkWord (Faulty k m p) = word k (some m) (some p)
 
 abbrev pub lookupWord : LookupAnswer → ℕ
 lookupWord (Found start n) = 0
 lookupWord (NotFound k) = k
+lookupWord (FaultFound k p) = word k none (some p)
 
 abbrev pub startAfter : LookupAnswer → ℕ → ℕ
 startAfter (Found start n) before = start
 startAfter (NotFound k) before = before
+startAfter (FaultFound k p) before = before
 
 abbrev pub sizeAfter : LookupAnswer → ℕ → ℕ
 sizeAfter (Found start n) before = n
 sizeAfter (NotFound k) before = before
+sizeAfter (FaultFound k p) before = before
 
 abbrev pub countWord : CountAnswer → ℕ
 countWord (Count n) = 0
 countWord (NoCount k) = k
+countWord (FaultCounted k p) = word k none (some p)
 
 abbrev pub countAfter : CountAnswer → ℕ → ℕ
 countAfter (Count n) before = n
 countAfter (NoCount k) before = before
+countAfter (FaultCounted k p) before = before
+
+abbrev pub settleWord : SettleAnswer → ℕ
+settleWord (Length n) = 0
+settleWord (NotSettled k) = k
+settleWord (FaultSettled k p) = word k none (some p)
+
+abbrev pub formAfter : SettleAnswer → ℕ → ℕ
+formAfter (Length n) before = n
+formAfter (NotSettled k) before = before
+formAfter (FaultSettled k p) before = before

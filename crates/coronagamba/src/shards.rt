@@ -6,18 +6,34 @@ ghost use Rattle.shard.specs.File.{checkAnswer};
 ghost use Rattle.lookup.specs.Find.{lookupAnswer};
 ghost use Rattle.listing.specs.Listing.{countAnswer, listingAnswer, listingLeft};
 ghost use Rattle.settle.specs.Answers.{lengthAnswer, settleAnswer, settleLeft};
-ghost use Rattle.coronagamba.specs.Word.{word, writtenWord, lengthAfter};
-ghost use Rattle.coronagamba.specs.Shards.{checkWord, lookupWord, startAfter, sizeAfter, countWord, countAfter};
+ghost use Rattle.coronagamba.specs.Word.{word};
+ghost use Rattle.coronagamba.specs.Shards.{checkWord, lookupWord, startAfter, sizeAfter, countWord, countAfter, settleWord, formAfter};
 use listing::CountAnswer;
 use lookup::LookupAnswer;
-use refusal::Written;
+use settle::SettleAnswer;
 use shard::CheckAnswer;
 use sharding::Sharding;
+
+// The word has 32 bits for the position and one.
+fn position_word(refusal: u8, position: u64) -> u64
+    requires { ⌜ position + 1 < 4294967296 ⌝ }
+    ensures { λ r. ⌜ r ≡ word refusal none (some position) ⌝ }
+{
+    refusal as u64 + 4294967296 * (position + 1)
+}
+
+// It has 24 bits for the minishard and one.
+fn fault_word(refusal: u8, minishard: u64, position: u64) -> u64
+    requires { ⌜ (minishard + 1 < 16777216) × (position + 1 < 4294967296) ⌝ }
+    ensures { λ r. ⌜ r ≡ word refusal (some minishard) (some position) ⌝ }
+{
+    refusal as u64 + 256 * (minishard + 1) + 4294967296 * (position + 1)
+}
 
 // Where the chunk of an id lies in the shard's file. Writes where it begins, counted from the
 // file's first byte, to `start`, and its number of bytes to `length`. Of the minishards it judges
 // the id's own alone.
-// Refusals: 1, 5, 6, 7 to 11 of the id's minishard, 12
+// Refusals: 1, 5, 6, 7 to 11 of the id's minishard with the position, 12
 #[no_mangle]
 pub extern "C" fn coronagamba_lookup(
     sharding: Sharding,
@@ -41,20 +57,16 @@ pub extern "C" fn coronagamba_lookup(
             0
         }
         LookupAnswer::Refused(refusal) => refusal as u64,
+        LookupAnswer::Faulty {
+            number: refusal,
+            position,
+        } => position_word(refusal, position),
     }
 }
 
-// The word has 24 bits for the minishard and one.
-fn fault_word(refusal: u8, minishard: u64) -> u64
-    requires { ⌜ minishard + 1 < 16777216 ⌝ }
-    ensures { λ r. ⌜ r ≡ word refusal (some minishard) none ⌝ }
-{
-    refusal as u64 + 256 * (minishard + 1)
-}
-
 // Whether the whole shard is sound. Writes nothing. Where a minishard has a fault, the answer word
-// names the first such minishard.
-// Refusals: 1, 5, 6, 7 to 11 with the minishard
+// names the first such minishard and the position.
+// Refusals: 1, 5, 6, 7 to 11 with the minishard and the position
 #[no_mangle]
 pub extern "C" fn coronagamba_check(sharding: Sharding, shard: u64, file: &[u8]) -> u64
     ensures answer { λ r. ⌜ r ≡ checkWord (checkAnswer sharding shard (now (file .entry))) ⌝ }
@@ -65,12 +77,14 @@ pub extern "C" fn coronagamba_check(sharding: Sharding, shard: u64, file: &[u8])
         CheckAnswer::Faulty {
             number: refusal,
             minishard,
-        } => fault_word(refusal, minishard),
+            position,
+        } => fault_word(refusal, minishard, position),
     }
 }
 
 // How many chunks a minishard lists. Writes the number to `chunks`.
-// Refusals: 1, 5 (also for a minishard that is not there), 6, 7 to 11 of that minishard
+// Refusals: 1, 5 (also for a minishard that is not there), 6, 7 to 11 of that minishard with the
+// position
 #[no_mangle]
 pub extern "C" fn coronagamba_listed_count(
     sharding: Sharding,
@@ -88,14 +102,18 @@ pub extern "C" fn coronagamba_listed_count(
             0
         }
         CountAnswer::Refused(refusal) => refusal as u64,
+        CountAnswer::Faulty {
+            number: refusal,
+            position,
+        } => position_word(refusal, position),
     }
 }
 
 // The chunks that a minishard lists, in stored order. Writes three numbers for each to the front of
 // `out`: id, start counted from the file's first byte, length in bytes. Writes how many numbers
 // these are, three times what coronagamba_listed_count gives, to `length`.
-// Refusals: 1, 5 (also for a minishard that is not there), 6, 7 to 11 of that minishard, 13 where
-// `out` has room for fewer
+// Refusals: 1, 5 (also for a minishard that is not there), 6, 7 to 11 of that minishard with the
+// position, 13 where `out` has room for fewer
 #[no_mangle]
 pub extern "C" fn coronagamba_listing(
     sharding: Sharding,
@@ -115,11 +133,16 @@ pub extern "C" fn coronagamba_listing(
             0
         }
         CountAnswer::Refused(refusal) => refusal as u64,
+        CountAnswer::Faulty {
+            number: refusal,
+            position,
+        } => position_word(refusal, position),
     }
 }
 
 // How many bytes a shard's settled form has. Writes the number to `length`.
-// Refusals: 1, 5, 6, 7 to 11 of the first faulty minishard, 13 where the form would pass 1 GiB
+// Refusals: 1, 5, 6, 7 to 11 of the first faulty minishard with the position, 13 where the form
+// would pass 1 GiB
 #[no_mangle]
 pub extern "C" fn coronagamba_settled_length(
     sharding: Sharding,
@@ -127,22 +150,26 @@ pub extern "C" fn coronagamba_settled_length(
     file: &[u8],
     length: &mut u64,
 ) -> u64
-    ensures answer { λ r. ⌜ r ≡ writtenWord (lengthAnswer sharding shard (now (file .entry))) ⌝ }
-    ensures length { λ _. ⌜ now (length .exit) ≡ lengthAfter (lengthAnswer sharding shard (now (file .entry))) (now (length .entry)) ⌝ }
+    ensures answer { λ r. ⌜ r ≡ settleWord (lengthAnswer sharding shard (now (file .entry))) ⌝ }
+    ensures length { λ _. ⌜ now (length .exit) ≡ formAfter (lengthAnswer sharding shard (now (file .entry))) (now (length .entry)) ⌝ }
 {
     match settle::settled_length(sharding, shard, file) {
-        Written::Length(n) => {
+        SettleAnswer::Length(n) => {
             *length = n as u64;
             0
         }
-        Written::Refused(refusal) => refusal as u64,
+        SettleAnswer::Refused(refusal) => refusal as u64,
+        SettleAnswer::Faulty {
+            number: refusal,
+            position,
+        } => position_word(refusal, position),
     }
 }
 
 // A shard's settled form. Writes it to the front of `out`, which needs the room that
 // coronagamba_settled_length tells, and its number of bytes to `length`.
-// Refusals: 1, 5, 6, 7 to 11 of the first faulty minishard, 13 where `out` is shorter than the form
-// or the form would pass 1 GiB
+// Refusals: 1, 5, 6, 7 to 11 of the first faulty minishard with the position, 13 where `out` is
+// shorter than the form or the form would pass 1 GiB
 #[no_mangle]
 pub extern "C" fn coronagamba_settle(
     sharding: Sharding,
@@ -151,15 +178,19 @@ pub extern "C" fn coronagamba_settle(
     out: &mut [u8],
     length: &mut u64,
 ) -> u64
-    ensures answer { λ r. ⌜ r ≡ writtenWord (settleAnswer sharding shard (now (file .entry)) (now (out .entry))) ⌝ }
+    ensures answer { λ r. ⌜ r ≡ settleWord (settleAnswer sharding shard (now (file .entry)) (now (out .entry))) ⌝ }
     ensures out { λ _. ⌜ now (out .exit) ≡ settleLeft sharding shard (now (file .entry)) (now (out .entry)) ⌝ }
-    ensures length { λ _. ⌜ now (length .exit) ≡ lengthAfter (settleAnswer sharding shard (now (file .entry)) (now (out .entry))) (now (length .entry)) ⌝ }
+    ensures length { λ _. ⌜ now (length .exit) ≡ formAfter (settleAnswer sharding shard (now (file .entry)) (now (out .entry))) (now (length .entry)) ⌝ }
 {
     match settle::settle(sharding, shard, file, out) {
-        Written::Length(n) => {
+        SettleAnswer::Length(n) => {
             *length = n as u64;
             0
         }
-        Written::Refused(refusal) => refusal as u64,
+        SettleAnswer::Refused(refusal) => refusal as u64,
+        SettleAnswer::Faulty {
+            number: refusal,
+            position,
+        } => position_word(refusal, position),
     }
 }

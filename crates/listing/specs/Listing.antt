@@ -1,11 +1,11 @@
 -- The listing of a minishard, in stored order: three numbers for each entry (01, 'From id to shard' and 'Refusal numbers': 1, 5, 6, then 7 to 11
--- of that minishard, then 13).
+-- of that minishard, with their position, then 13).
 use Prim.Native.Nat.{ℕ, zero, suc, _+_}
 use mathlib.Core.Bool.{_||_}
 use mathlib.Core.List.{List, [], _∷_, _++_}
 use lib.Dec.{leb}
 use lib.ListN.{length}
-use Rattle.refusal.specs.Checks.{Check, answered, left}
+use Rattle.refusal.specs.Checks.{Check, answeredAt, left}
 use Rattle.refusal.specs.Buffer.{room, over}
 use Rattle.sharding.specs.declared.Sharding.{Sharding}
 use Rattle.sharding.specs.Specification.{minishardCount, noSuchShard}
@@ -13,7 +13,7 @@ use Rattle.shard.specs.Index.{entryStart, entryEnd, entryCount, idSteps, startS
 use Rattle.shard.specs.Checks.{minishardChecks}
 use Rattle.shard.specs.File.{indexPart, dataPart, fileChecks}
 use Rattle.listing.specs.declared.CountAnswer.{CountAnswer}
-use Rattle.listing.specs.declared.CountAnswer.the-variants.{Count, Refused}
+use Rattle.listing.specs.declared.CountAnswer.the-variants.{Count, Refused, Faulty}
 
 -- k entries from entry i on, of the n at s in a file whose shard index has `base` bytes: id, place in the file, length
 unfoldable pub entriesFrom : ℕ → List ℕ → ℕ → ℕ → ℕ → ℕ → List ℕ
@@ -37,6 +37,10 @@ listingOf spec file m = listingIn (indexPart spec file) (dataPart spec file) m
 abbrev pub listedCount : Sharding → List ℕ → ℕ → ℕ
 listedCount spec file m = entryCount (entryStart (indexPart spec file) m) (entryEnd (indexPart spec file) m)
 
+-- in a shard of two parts
+unfoldable pub countIn : Sharding → ℕ → List ℕ → List ℕ → ℕ → CountAnswer
+countIn spec shard index d m = answeredAt Refused Faulty (minishardChecks spec shard index d m) (Count (entryCount (entryStart index m) (entryEnd index m)))
+
 -- 5 also for a minishard number that is not below 2^minishard_bits: ours, beyond 01
 unfoldable pub countChecks : Sharding → ℕ → List ℕ → ℕ → List Check
 countChecks spec shard file m =
@@ -44,7 +48,7 @@ countChecks spec shard file m =
     ++ minishardChecks spec shard (indexPart spec file) (dataPart spec file) m
 
 unfoldable pub countAnswer : Sharding → ℕ → List ℕ → ℕ → CountAnswer
-countAnswer spec shard file m = answered Refused (countChecks spec shard file m) (Count (listedCount spec file m))
+countAnswer spec shard file m = answeredAt Refused Faulty (countChecks spec shard file m) (Count (listedCount spec file m))
 
 -- ---- the listing in lent numbers
 
@@ -53,7 +57,7 @@ listingChecks spec shard file m out = countChecks spec shard file m ++ (room (li
 
 -- how many numbers were written
 unfoldable pub listingAnswer : Sharding → ℕ → List ℕ → ℕ → List ℕ → CountAnswer
-listingAnswer spec shard file m out = answered Refused (listingChecks spec shard file m out) (Count (length (listingOf spec file m)))
+listingAnswer spec shard file m out = answeredAt Refused Faulty (listingChecks spec shard file m out) (Count (length (listingOf spec file m)))
 
 -- what the numbers then are
 unfoldable pub listingLeft : Sharding → ℕ → List ℕ → ℕ → List ℕ → List ℕ

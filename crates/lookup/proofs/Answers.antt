@@ -1,7 +1,7 @@
 -- What each way out of a lookup shows.
 use Prim.Native.Nat.{ℕ, _<_, _≤_}
 use mathlib.Core.List.{List, [], _∷_}
-use mathlib.Core.Path.{_≡_, sym, subst, _∙_}
+use mathlib.Core.Path.{_≡_, refl, sym, subst, _∙_}
 use mathlib.Core.Bool.{Bool, true, false, not, _||_}
 use native.Mathlib.Nat.{sub-self, not-suc-le-zero}
 use lib.ListN.{length, take}
@@ -10,7 +10,7 @@ use borrow.Author.Tests.{le-leb, lt-leb, eq-eqb, ne-eqb}
 use Rattle.refusal.specs.Choice.{pick}
 use Rattle.refusal.specs.Checks.{unless, answered}
 use Rattle.refusal.proofs.Tests.{told-no, told-yes}
-use Rattle.refusal.proofs.Refusing.{answered-both}
+use Rattle.refusal.proofs.Positions.{at-both, at-plain}
 use Rattle.sharding.specs.declared.Sharding.{Sharding}
 use Rattle.sharding.specs.Specification.{allowed, shardCount, noSuchShard}
 use Rattle.sharding.specs.Place.{shardOf, minishardOf}
@@ -19,32 +19,34 @@ use Rattle.shard.specs.Index.{entryStart, entryEnd, entryCount}
 use Rattle.shard.specs.Faults.{faultOf}
 use Rattle.shard.specs.Checks.{minishardChecks}
 use Rattle.shard.specs.File.{mostShardBytes, indexLength, indexPart, dataPart, badFileLength, fileChecks}
-use Rattle.shard.proofs.Numbers.{unless-some, unless-none, minishard-in, minishard-number, file-in, file-picks}
+use Rattle.shard.proofs.Numbers.{unless-some, unless-none, minishard-in, minishard-answer, file-in, file-picks, file-answer}
 use Rattle.shard.proofs.Split.{restOf, rest-whole, length-short, length-long, length-good}
 use Rattle.lookup.specs.declared.LookupAnswer.{LookupAnswer}
-use Rattle.lookup.specs.declared.LookupAnswer.the-variants.{Refused}
-use Rattle.lookup.specs.Find.{unlisted, foundIn, chosenChecks, chosenChunk, lookupIn, lookupChecks, lookupAnswer}
+use Rattle.lookup.specs.declared.LookupAnswer.the-variants.{Refused, Faulty}
+use Rattle.lookup.specs.Find.{unlisted, chunkOf, foundIn, chosenChecks, chosenChunk, lookupIn, lookupChecks, lookupAnswer}
 use Rattle.lookup.proofs.Seek.{found-none}
 
 -- ---- over two parts
 
--- the number of the minishard's fault refuses; without one it is searched
+-- the minishard's fault refuses, with its number and position; without one it is searched
 pub in-parts : (spec : Sharding) (shard : ℕ) (x d : List ℕ) (id : ℕ) → lookupIn spec shard x d id
-    ≡ unless Refused (faultOf spec shard x d (minishardOf spec id) .number)
+    ≡ unless (λ k. Faulty k (faultOf spec shard x d (minishardOf spec id) .position)) (faultOf spec shard x d (minishardOf spec id) .number)
     (foundIn (length x) d (entryStart x (minishardOf spec id)) (entryCount (entryStart x (minishardOf spec id)) (entryEnd x (minishardOf spec id))) id)
 unfolding lookupIn chosenChecks chosenChunk foundIn
 in-parts spec shard x d id =
     let m = minishardOf spec id in
     let s = entryStart x m in
-    answered-both Refused (minishardChecks spec shard x d m) (unlisted d s (entryCount s (entryEnd x m)) id ∷ []) _ (minishard-in spec shard x d m)
-    ∙ rw (minishard-number spec shard x d m)
+    let last = unlisted d s (entryCount s (entryEnd x m)) id in
+    at-both Refused Faulty (minishardChecks spec shard x d m) (last ∷ []) _ (minishard-in spec shard x d m)
+    ∙ minishard-answer spec shard x d Refused Faulty m _
+    ∙ rw (at-plain Refused Faulty (last ∷ []) (chunkOf (length x) d s (entryCount s (entryEnd x m)) id) (refl, tt))
 
 module _ (spec : Sharding) (shard id : ℕ) (x d : List ℕ) {m : ℕ} {r : Fault} (o : m ≡ minishardOf spec id) (p : r ≡ faultOf spec shard x d m) where
-  pub in-fault : (r .number ≡ 0 → ⊥) → Refused (r .number) ≡ lookupIn spec shard x d id
-  in-fault n = rw (in-parts spec shard x d id, ← o, ← p) (unless-some Refused _ _ n)
+  pub in-fault : (r .number ≡ 0 → ⊥) → Faulty (r .number) (r .position) ≡ lookupIn spec shard x d id
+  in-fault n = rw (in-parts spec shard x d id, ← o, ← p) (unless-some (λ k. Faulty k (r .position)) _ _ n)
 
   pub in-found : {a : LookupAnswer} {s e : ℕ} → s ≡ entryStart x m → e ≡ entryEnd x m → r .number ≡ 0 → a ≡ foundIn (length x) d s (entryCount s e) id → a ≡ lookupIn spec shard x d id
-  in-found u v z f = rw (in-parts spec shard x d id, ← o, ← p, ← u, ← v) (f ∙ unless-none Refused _ _ z)
+  in-found u v z f = rw (in-parts spec shard x d id, ← o, ← p, ← u, ← v) (f ∙ unless-none (λ k. Faulty k (r .position)) _ _ z)
 
   pub in-empty : {s e : ℕ} → s ≡ entryStart x m → e ≡ entryEnd x m → r .number ≡ 0 → s ≡ e → Refused 12 ≡ lookupIn spec shard x d id
   in-empty {s} {e} u v z q =
@@ -63,8 +65,9 @@ module _ (spec : Sharding) (shard : ℕ) (file : List ℕ) (id : ℕ) where
       ≡ answered Refused (fileChecks spec (noSuchShard spec shard || not (eqb (shardOf spec id) shard)) file) (lookupIn spec shard (indexPart spec file) (dataPart spec file) id)
   unfolding lookupAnswer lookupChecks lookupIn
   answer-files =
-      answered-both Refused (fileChecks spec (noSuchShard spec shard || not (eqb (shardOf spec id) shard)) file) (chosenChecks spec shard (indexPart spec file) (dataPart spec file) id)
+      at-both Refused Faulty (fileChecks spec (noSuchShard spec shard || not (eqb (shardOf spec id) shard)) file) (chosenChecks spec shard (indexPart spec file) (dataPart spec file) id)
       (chosenChunk spec (indexPart spec file) (dataPart spec file) id) (file-in spec (noSuchShard spec shard || not (eqb (shardOf spec id) shard)) file)
+      ∙ file-answer spec (noSuchShard spec shard || not (eqb (shardOf spec id) shard)) file Refused Faulty _
 
   answer-picks : lookupAnswer spec shard file id
       ≡ pick (not (allowed spec)) (Refused 1)

@@ -21,7 +21,7 @@ use Rattle.shard.specs.Faults.{badEntry, badId, foreignAt, outside, entryTests,
 use Rattle.shard.specs.File.{indexLength, indexPart, dataPart, fileChecks}
 use Rattle.shard.proofs.Tests.{Agree, same-any, same-first, same-tests}
 use Rattle.lookup.specs.declared.LookupAnswer.{LookupAnswer}
-use Rattle.lookup.specs.declared.LookupAnswer.the-variants.{Found, Refused}
+use Rattle.lookup.specs.declared.LookupAnswer.the-variants.{Found, Refused, Faulty}
 use Rattle.lookup.specs.Find.{isId, chunkOf, foundIn, lookupIn, lookupAnswer, partBytes}
 use Rattle.lookup.specs.Lookups.{AgreeFor, AgreeInChunk, SameAnswer}
 use Rattle.lookup.proofs.Seek.{found-picks}
@@ -91,15 +91,16 @@ module _ (a b : List ℕ) (s e : ℕ) (size : length a ≡ length b) (bytes : ta
   unfolding entryTests
   agree spec shard m = (
     refl,
+    refl,
     same-bad _ _ _ same-ids,
-    (refl, same-foreign _ _ _ same-ids spec shard m, (refl, same-outside _ _ _ _ _ same-starts same-sizes size, tt)),
+    (refl, refl, same-foreign _ _ _ same-ids spec shard m, (refl, refl, same-outside _ _ _ _ _ same-starts same-sizes size, tt)),
   )
 
-  same-fault : (spec : Sharding) (shard m : ℕ) → faultAt spec shard m a s e ≡ faultAt spec shard m b s e
+  same-fault : (spec : Sharding) (shard m base : ℕ) → faultAt spec shard m base a s e ≡ faultAt spec shard m base b s e
   unfolding faultAt badEntry
-  same-fault spec shard m =
+  same-fault spec shard m base =
       let n = entryCount s e in
-      rw (size, same-tests n (entryTests spec shard m a s n) (entryTests spec shard m b s n) (agree spec shard m))
+      rw (size, same-tests (base + s) n (entryTests spec shard m a s n) (entryTests spec shard m b s n) (agree spec shard m))
 
   same-chunk : (base i : ℕ) (t : Bool) → (t ≡ true → i < entryCount s e)
       → pick (not t) (Refused 12) (Found (base + startAt (startSteps a s (entryCount s e)) (sizes a s (entryCount s e)) i) (sizes a s (entryCount s e) i))
@@ -121,7 +122,7 @@ same-in : (spec : Sharding) (shard : ℕ) (x y a b : List ℕ) (id : ℕ) {s e :
     → take (e - s) (drop s a) ≡ take (e - s) (drop s b) → lookupIn spec shard x a id ≡ lookupIn spec shard y b id
 unfolding faultOf
 same-in spec shard x y a b id {s} {e} p q u v u′ v′ w =
-    rw (in-parts spec shard x a id, in-parts spec shard y b id, p, u, v, u′, v′, same-fault a b s e q w spec shard (minishardOf spec id), same-found a b s e q w (length y) id)
+    rw (in-parts spec shard x a id, in-parts spec shard y b id, p, u, v, u′, v′, same-fault a b s e q w spec shard (minishardOf spec id) (length y), same-found a b s e q w (length y) id)
 
 -- ---- files
 
@@ -164,6 +165,7 @@ module _ (spec : Sharding) (shard id : ℕ) (a b : List ℕ) (agree : AgreeFor s
       go : (r : LookupAnswer) → lookupAnswer spec shard b id ≡ r → partBytes r a ≡ partBytes r b
       go (Found start n) e = chunk start n e
       go (Refused n) e = refl
+      go (Faulty n p) e = refl
 
   -- a lookup depends only on these
   pub lookup-depends-only-on-these : SameAnswer spec shard id a b

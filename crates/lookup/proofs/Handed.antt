@@ -14,25 +14,27 @@ use Rattle.sharding.specs.declared.Sharding.{Sharding}
 use Rattle.sharding.specs.Specification.{noSuchShard}
 use Rattle.sharding.specs.Place.{shardOf, minishardOf}
 use Rattle.shard.specs.Index.{entryStart, entryEnd, entryCount}
+use Rattle.shard.specs.Faults.{faultOf}
 use Rattle.shard.specs.File.{mostShardBytes, indexLength, indexPart, dataPart}
 use Rattle.shard.proofs.Judged.{passes-minishard}
 use Rattle.shard.proofs.Numbers.{file-called}
 use Rattle.lookup.specs.declared.LookupAnswer.{LookupAnswer}
-use Rattle.lookup.specs.declared.LookupAnswer.the-variants.{Found, Refused}
+use Rattle.lookup.specs.declared.LookupAnswer.the-variants.{Found, Refused, Faulty}
 use Rattle.lookup.specs.Find.{lookupIn, lookupAnswer, partStart, partBytes}
 use Rattle.lookup.proofs.Seek.{found-within}
 use Rattle.lookup.proofs.Answers.{in-parts, answer-files}
 
-unless-found : (n : ℕ) (x : LookupAnswer) {a k : ℕ} → unless Refused n x ≡ Found a k → (n ≡ 0) × (x ≡ Found a k)
+-- what is found is no refusal r
+unless-found : (r : ℕ → LookupAnswer) (n : ℕ) (x : LookupAnswer) {a k : ℕ} → ((j : ℕ) → r j ≡ Found a k → _≡_ {A = ℕ} 0 1) → unless r n x ≡ Found a k → (n ≡ 0) × (x ≡ Found a k)
 unfolding unless
-unless-found zero x e = (refl, e)
-unless-found (suc n) x e = let z : _≡_ {A = ℕ} 0 1 = cc in absurd (omega arith)
+unless-found r zero x never e = (refl, e)
+unless-found r (suc n) x never e = let z = never (suc n) e in absurd (omega arith)
 
 -- over two parts
 in-within : (spec : Sharding) (shard : ℕ) (x d : List ℕ) (id a k : ℕ) → lookupIn spec shard x d id ≡ Found a k → a + k ≤ length x + length d
 in-within spec shard x d id a k e =
     let m = minishardOf spec id in
-    let q = unless-found _ _ (sym (in-parts spec shard x d id) ∙ e) in
+    let q = unless-found (λ k. Faulty k (faultOf spec shard x d m .position)) _ _ (λ j f. cc) (sym (in-parts spec shard x d id) ∙ e) in
     found-within (length x) d (entryStart x m) (entryCount (entryStart x m) (entryEnd x m)) id a k (passes-minishard spec shard x d m (q .0) .inside) (q .1)
 
 -- in a file, which then has an allowed length
@@ -42,7 +44,7 @@ record Within (file : List ℕ) (a k : ℕ) : Type 0 where
 
 answer-within : (spec : Sharding) (shard : ℕ) (file : List ℕ) (id a k : ℕ) → lookupAnswer spec shard file id ≡ Found a k → Within file a k
 answer-within spec shard file id a k e =
-    let q = unless-found _ _ (sym (answer-files spec shard file id) ∙ e) in
+    let q = unless-found Refused _ _ (λ j f. cc) (sym (answer-files spec shard file id) ∙ e) in
     let c = file-called spec (noSuchShard spec shard || not (eqb (shardOf spec id) shard)) file (q .0) in
     let w = in-within spec shard (indexPart spec file) (dataPart spec file) id a k (q .1) in
     record { short = c .short; inside = omega (arith, length-take-le (indexLength spec) file (c .held), length-drop (indexLength spec) file) }
@@ -71,3 +73,10 @@ module _ (spec : Sharding) (shard : ℕ) (file : List ℕ) (id : ℕ) {r : Looku
 
     pub none-place : (at : ℕ) → 0 + at ≡ at + partStart (lookupAnswer spec shard file id)
     none-place at = rw (← p, q) (omega arith)
+
+  module _ {n position : ℕ} (q : r ≡ Faulty n position) where
+    pub fault-bytes : [] ≡ partBytes (lookupAnswer spec shard file id) file
+    fault-bytes = rw (← p, q)
+
+    pub fault-place : (at : ℕ) → 0 + at ≡ at + partStart (lookupAnswer spec shard file id)
+    fault-place at = rw (← p, q) (omega arith)

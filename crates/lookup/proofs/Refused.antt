@@ -4,16 +4,16 @@ use mathlib.Core.List.{List}
 use mathlib.Core.Bool.{not, _||_}
 use native.Mathlib.Omega.{arith}
 use lib.Dec.{eqb}
-use Rattle.refusal.specs.Checks.{Refuses}
+use Rattle.refusal.specs.Checks.{RefusesAt}
 use Rattle.refusal.proofs.Picks.{AllIn, all-in-both}
-use Rattle.refusal.proofs.Refusing.{refusing}
+use Rattle.refusal.proofs.Positions.{refusing-at}
 use Rattle.sharding.specs.declared.Sharding.{Sharding}
 use Rattle.sharding.specs.Specification.{noSuchShard}
 use Rattle.sharding.specs.Place.{shardOf, minishardOf}
 use Rattle.shard.specs.Checks.{minishardChecks}
 use Rattle.shard.specs.File.{indexPart, dataPart, fileChecks}
 use Rattle.shard.proofs.Numbers.{minishard-in, file-in}
-use Rattle.lookup.specs.declared.LookupAnswer.the-variants.{Refused}
+use Rattle.lookup.specs.declared.LookupAnswer.the-variants.{Refused, Faulty}
 use Rattle.lookup.specs.Find.{chunkOf, chosenChecks, chosenChunk, lookupChecks, lookupAnswer}
 
 chosen-in : (spec : Sharding) (shard : ℕ) (x d : List ℕ) (id : ℕ) → AllIn (chosenChecks spec shard x d id)
@@ -28,6 +28,6 @@ module _ (spec : Sharding) (shard : ℕ) (file : List ℕ) (id : ℕ) where
       all-in-both (fileChecks spec (noSuchShard spec shard || not (eqb (shardOf spec id) shard)) file) _
       (file-in spec (noSuchShard spec shard || not (eqb (shardOf spec id) shard)) file) (chosen-in spec shard (indexPart spec file) (dataPart spec file) id)
 
-  pub lookup-refuses : Refuses (lookupAnswer spec shard file id) Refused (lookupChecks spec shard file id)
+  pub lookup-refuses : RefusesAt (lookupAnswer spec shard file id) Refused Faulty (lookupChecks spec shard file id)
   unfolding lookupAnswer chosenChunk chunkOf
-  lookup-refuses = refusing Refused (λ j k e. cc) (lookupChecks spec shard file id) _ lookup-in (λ k e. cc)
+  lookup-refuses = refusing-at Refused Faulty (λ j k e. cc) (λ j k p q e. (cc, cc)) (λ j k p e. cc) (lookupChecks spec shard file id) _ (λ k e. cc) (λ k p e. cc) lookup-in

@@ -1,5 +1,5 @@
 -- What a lookup answers of a sound minishard: the bytes that it lists, and 12 for what it does not list.
-use Prim.Native.Nat.{ℕ, zero, suc, _+_, _<_, _≤_}
+use Prim.Native.Nat.{ℕ, zero, suc, _+_, _<_}
 use mathlib.Core.List.{List}
 use mathlib.Core.Logic.{_↔_}
 use mathlib.Core.Path.{_≡_, refl, sym, subst, _∙_, ap}
@@ -21,10 +21,10 @@ use Rattle.shard.specs.Index.{entryStart, entryEnd, entryCount, idSteps, startS
 use Rattle.shard.specs.File.{indexLength, indexPart, dataPart}
 use Rattle.shard.specs.Sound.{SoundMinishard}
 use Rattle.shard.specs.Lists.{ListsAt, ListsIn}
-use Rattle.shard.proofs.Judged.{passes-minishard, minishard-passes, fault-most}
+use Rattle.shard.proofs.Judged.{passes-minishard, minishard-passes}
 use Rattle.shard.proofs.Numbers.{unless-none, Called, called-file}
 use Rattle.lookup.specs.declared.LookupAnswer.{LookupAnswer}
-use Rattle.lookup.specs.declared.LookupAnswer.the-variants.{Found, Refused}
+use Rattle.lookup.specs.declared.LookupAnswer.the-variants.{Found, Refused, Faulty}
 use Rattle.lookup.specs.Find.{isId, foundIn, lookupIn, lookupAnswer, partBytes}
 use Rattle.lookup.specs.Lookups.{Asked, chunkStart, HandsOut}
 use Rattle.lookup.proofs.Seek.{found-first, found-none, none-found}
@@ -49,10 +49,10 @@ found-at base d s n id i r l e = found-first base d s n id i l (eq-eqb _ _ e) (f
 
 -- ---- in a shard of two parts
 
-unless-12 : (k : ℕ) (a : LookupAnswer) → k ≤ 11 → unless Refused k a ≡ Refused 12 → (k ≡ 0) × (a ≡ Refused 12)
+unless-12 : (k p : ℕ) (a : LookupAnswer) → unless (λ j. Faulty j p) k a ≡ Refused 12 → (k ≡ 0) × (a ≡ Refused 12)
 unfolding unless
-unless-12 zero a l e = (refl, e)
-unless-12 (suc k) a l e = let z : suc k ≡ 12 = cc in absurd (omega arith)
+unless-12 zero p a e = (refl, e)
+unless-12 (suc k) p a e = let z : _≡_ {A = ℕ} 0 1 = cc in absurd (omega arith)
 
 module _ (spec : Sharding) (shard : ℕ) (x d : List ℕ) (id : ℕ) where
   abbrev m : ℕ
@@ -60,7 +60,7 @@ module _ (spec : Sharding) (shard : ℕ) (x d : List ℕ) (id : ℕ) where
 
   -- a sound minishard is searched
   in-sound : SoundMinishard spec shard x d m → lookupIn spec shard x d id ≡ foundIn (length x) d (entryStart x m) (entryCount (entryStart x m) (entryEnd x m)) id
-  in-sound g = in-parts spec shard x d id ∙ sym (unless-none Refused _ _ (ap (λ (f : Fault). f .number) (minishard-passes spec shard x d m g)))
+  in-sound g = in-parts spec shard x d id ∙ sym (unless-none _ _ _ (ap (λ (f : Fault). f .number) (minishard-passes spec shard x d m g)))
 
   in-listed : SoundMinishard spec shard x d m → (i : ℕ) {bytes : List ℕ} → ListsAt x d m i id bytes
       → lookupIn spec shard x d id ≡ Found (length x + chunkStart x d m i) (sizes d (entryStart x m) (entryCount (entryStart x m) (entryEnd x m)) i)
@@ -71,7 +71,7 @@ module _ (spec : Sharding) (shard : ℕ) (x d : List ℕ) (id : ℕ) where
 
   in-12 : lookupIn spec shard x d id ≡ Refused 12 → SoundMinishard spec shard x d m × ((bytes : List ℕ) → ListsIn x d m id bytes → ⊥)
   in-12 e =
-      let q = unless-12 _ _ (fault-most spec shard x d m) (sym (in-parts spec shard x d id) ∙ e) in (
+      let q = unless-12 _ _ _ (sym (in-parts spec shard x d id) ∙ e) in (
         passes-minishard spec shard x d m (q .0),
         λ bytes t. none-found _ _ _ _ _ (q .1) (t .entry) (t .lists .among) (t .lists .named),
       )

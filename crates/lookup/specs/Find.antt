@@ -1,10 +1,10 @@
--- Lookup (01, 'From id to shard' and 'Refusal numbers': 1, 5, 6, then 7 to 11 of the chosen minishard, then 12).
+-- Lookup (01, 'From id to shard' and 'Refusal numbers': 1, 5, 6, then 7 to 11 of the chosen minishard, with their position, then 12).
 use Prim.Native.Nat.{ℕ, _+_}
 use mathlib.Core.Bool.{Bool, not, _||_}
 use mathlib.Core.List.{List, [], _∷_, _++_}
 use lib.Dec.{eqb}
 use lib.ListN.{length, take, drop}
-use Rattle.refusal.specs.Checks.{Check, check, answered}
+use Rattle.refusal.specs.Checks.{Check, check, answered, answeredAt}
 use Rattle.endian.specs.Range.{anyBelow, first}
 use Rattle.sharding.specs.declared.Sharding.{Sharding}
 use Rattle.sharding.specs.Specification.{noSuchShard}
@@ -13,7 +13,7 @@ use Rattle.shard.specs.Index.{entryStart, entryEnd, entryCount, idSteps, startS
 use Rattle.shard.specs.Checks.{minishardChecks}
 use Rattle.shard.specs.File.{indexPart, dataPart, fileChecks}
 use Rattle.lookup.specs.declared.LookupAnswer.{LookupAnswer}
-use Rattle.lookup.specs.declared.LookupAnswer.the-variants.{Found, Refused}
+use Rattle.lookup.specs.declared.LookupAnswer.the-variants.{Found, Refused, Faulty}
 
 -- ---- in a minishard index of n entries at s
 
@@ -51,7 +51,7 @@ chosenChunk spec index d id =
     chunkOf (length index) d s (entryCount s (entryEnd index m)) id
 
 unfoldable pub lookupIn : Sharding → ℕ → List ℕ → List ℕ → ℕ → LookupAnswer
-lookupIn spec shard index d id = answered Refused (chosenChecks spec shard index d id) (chosenChunk spec index d id)
+lookupIn spec shard index d id = answeredAt Refused Faulty (chosenChecks spec shard index d id) (chosenChunk spec index d id)
 
 -- ---- in a file
 
@@ -62,13 +62,15 @@ lookupChecks spec shard file id =
 
 unfoldable pub lookupAnswer : Sharding → ℕ → List ℕ → ℕ → LookupAnswer
 lookupAnswer spec shard file id =
-    answered Refused (lookupChecks spec shard file id) (chosenChunk spec (indexPart spec file) (dataPart spec file) id)
+    answeredAt Refused Faulty (lookupChecks spec shard file id) (chosenChunk spec (indexPart spec file) (dataPart spec file) id)
 
 -- the part handed out: the chunk's bytes, or, refused, the empty part at the file's start
 abbrev pub partStart : LookupAnswer → ℕ
 partStart (Found start n) = start
 partStart (Refused number) = 0
+partStart (Faulty number position) = 0
 
 abbrev pub partBytes : LookupAnswer → List ℕ → List ℕ
 partBytes (Found start n) file = take n (drop start file)
 partBytes (Refused number) file = []
+partBytes (Faulty number position) file = []

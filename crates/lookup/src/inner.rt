@@ -51,9 +51,11 @@ pub fn lookup_in(spec: Sharding, shard: u64, index: &[u8], data: &[u8], id: u64)
 {
     let m = minishard_of(spec, id);
     let fault = judge(spec, shard, index, data, m);
-    let number = fault.number;
-    if number != 0 {
-        return LookupAnswer::Refused(number);
+    if fault.number != 0 {
+        return LookupAnswer::Faulty {
+            number: fault.number,
+            position: fault.position,
+        };
     }
     let s = entry_start(index, m);
     let e = entry_end(index, m);

@@ -11,10 +11,12 @@ use sharding::inner::is_allowed;
 use sharding::inner::shard_count;
 use sharding::inner::shard_of;
 
-// Where the chunk of an id lies in the file, and how long it is.
+// Where the chunk of an id lies in the file, and how long it is. 7 to 11 come with the byte position of what is wrong, counted
+// from the beginning of the shard.
 pub enum LookupAnswer {
     Found { start: usize, length: usize },
     Refused(u8),
+    Faulty { number: u8, position: u64 },
 }
 
 // The place and length of the chunk of an id, or the refusal.
@@ -51,5 +53,9 @@ pub fn part(spec: Sharding, shard: u64, file: &[u8], id: u64) -> &[u8]
             &file[start..end]
         }
         LookupAnswer::Refused(_) => &file[0..0],
+        LookupAnswer::Faulty {
+            number: _,
+            position: _,
+        } => &file[0..0],
     }
 }

@@ -1,3 +1,4 @@
 pub mod Tests
 pub mod Picks
 pub mod Refusing
+pub mod Positions

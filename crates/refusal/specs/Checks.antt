@@ -3,22 +3,32 @@ use Prim.Native.Nat.{ℕ, zero, suc}
 use mathlib.Core.Path.{_≡_}
 use mathlib.Core.Bool.{Bool}
 use mathlib.Core.Logic.{_↔_}
+use mathlib.Core.Option.{Option, none, some}
 use mathlib.Core.List.{List, [], _∷_}
 use Rattle.refusal.specs.Choice.{pick}
 use Rattle.refusal.specs.Table.{InTable}
 
--- a number of the table, and whether the call is to be refused with it
+-- a number of the table, whether the call is to be refused with it, and the byte position that this refusal carries, if it carries one (02, order 6)
 pub record Check : Type 0 where
   pub number : ℕ
   pub holds : Bool
+  pub position : Option ℕ
 
 abbrev pub check : ℕ → Bool → Check
-check number holds = record { number = number; holds = holds }
+check number holds = record { number = number; holds = holds; position = none }
+
+abbrev pub checkAt : ℕ → Bool → ℕ → Check
+checkAt number holds position = record { number = number; holds = holds; position = some position }
 
 -- the number of the first check that holds; 0 where none does
 unfoldable pub firstNumber : List Check → ℕ
 firstNumber [] = 0
 firstNumber (c ∷ cs) = pick (c .holds) (c .number) (firstNumber cs)
+
+-- its position; none where it carries none, and where no check holds
+unfoldable pub firstPosition : List Check → Option ℕ
+firstPosition [] = none
+firstPosition (c ∷ cs) = pick (c .holds) (c .position) (firstPosition cs)
 
 -- 'number or 0' made into an answer: the refusal with that number, or, where it is 0, the answer given
 unfoldable pub unless : {A : Type 0} → (ℕ → A) → ℕ → A → A
@@ -36,3 +46,19 @@ left checks after before = answered (λ k. before) checks after
 -- the answer a is the refusal with the number k exactly when k is the number of the first check that holds; and k is in the table
 pub record Refuses {A : Type 0} (a : A) (refused : ℕ → A) (checks : List Check) : Type 0 where
   pub decided : (k : ℕ) → (a ≡ refused k) ↔ ((firstNumber checks ≡ k) × InTable k)
+
+-- ---- calls whose refusals may carry a position (02, order 6)
+
+-- the refusal with a number and, where there is one, a position
+abbrev pub refusal : {A : Type 0} → (ℕ → A) → (ℕ → ℕ → A) → ℕ → Option ℕ → A
+refusal refused refusedAt k none = refused k
+refusal refused refusedAt k (some p) = refusedAt k p
+
+-- the answer of such a call
+abbrev pub answeredAt : {A : Type 0} → (ℕ → A) → (ℕ → ℕ → A) → List Check → A → A
+answeredAt refused refusedAt checks answer = unless (λ k. refusal refused refusedAt k (firstPosition checks)) (firstNumber checks) answer
+
+-- the answer a is the refusal with the number k and the position p, or with none, exactly when these are the number and the position of the first
+-- check that holds; and k is in the table
+pub record RefusesAt {A : Type 0} (a : A) (refused : ℕ → A) (refusedAt : ℕ → ℕ → A) (checks : List Check) : Type 0 where
+  pub decided : (k : ℕ) (p : Option ℕ) → (a ≡ refusal refused refusedAt k p) ↔ ((firstNumber checks ≡ k) × (firstPosition checks ≡ p) × InTable k)

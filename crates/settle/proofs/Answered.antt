@@ -1,28 +1,35 @@
 -- What settling answers and leaves: by what the check said, and of a sound shard by the two cases, that the form is too long or that it is written.
-use Prim.Native.Nat.{ℕ, _≤_, _<_}
-use mathlib.Core.Path.{_≡_, refl, sym, ap, _∙_}
+use Prim.Native.Nat.{ℕ, zero, suc, _≤_, _<_}
+use mathlib.Core.Path.{_≡_, refl, sym, _∙_}
 use mathlib.Core.Bool.{Bool, true, false, or-true}
 use mathlib.Core.Logic.{_⊎_, inl, inr}
-use mathlib.Core.List.{List, [], _∷_, _++_}
+use mathlib.Core.List.{List, [], _∷_}
+use mathlib.Core.Option.{Option, none, some}
 use native.Mathlib.Omega.{arith}
 use lib.Dec.{ltb}
 use lib.ListN.{length}
 use borrow.Author.Tests.{ltb-true, lt-ltb, le-ltb}
 use Rattle.refusal.specs.Choice.{pick}
-use Rattle.refusal.specs.Checks.{Check, unless, answered}
+use Rattle.refusal.specs.Checks.{Check, firstNumber, firstPosition, unless, answered, left, refusal, answeredAt}
 use Rattle.refusal.specs.Buffer.{over}
-use Rattle.refusal.specs.declared.Written.the-variants.{Length, Refused}
+use Rattle.refusal.specs.declared.Written.{Written}
+use Rattle.refusal.specs.declared.Written.the-variants.{Length as Wrote, Refused as NotWritten}
 use Rattle.refusal.proofs.Picks.{by-picks}
 use Rattle.refusal.proofs.Refusing.{answered-both}
+use Rattle.refusal.proofs.Positions.{at-both, at-plain}
 use Rattle.sharding.specs.declared.Sharding.{Sharding}
+use Rattle.sharding.specs.Specification.{noSuchShard}
 use Rattle.shard.specs.declared.CheckAnswer.{CheckAnswer}
-use Rattle.shard.specs.File.{mostShardBytes, indexPart, dataPart, shardChecks, checkAnswer, checkNumber}
+use Rattle.shard.specs.declared.CheckAnswer.the-variants.{Sound, Refused as CheckRefused, Faulty as CheckFaulty}
+use Rattle.shard.specs.Faults.{shardFault}
+use Rattle.shard.specs.File.{mostShardBytes, indexPart, dataPart, fileChecks, shardChecks, checkAnswer}
 use Rattle.shard.specs.Sound.{SoundShard}
-use Rattle.shard.proofs.Numbers.{unless-none, shard-in}
-use Rattle.shard.proofs.Whole.{check-number, sound-passes-check}
+use Rattle.shard.proofs.Numbers.{shard-in, shard-answer}
+use Rattle.shard.proofs.Whole.{sound-passes-check}
 use Rattle.form.specs.Content.{formOf, formLength, fileForm, fileFormLength}
 use Rattle.form.proofs.Demand3.{file-form-length}
-use Rattle.settle.specs.Answers.{lengthCheck, lengthIn, tooLong, settleCheck, settleIn, leftIn, lengthChecks, lengthAnswer, settleChecks, settleAnswer, settleLeft}
+use Rattle.settle.specs.declared.SettleAnswer.the-variants.{Length, Refused, Faulty}
+use Rattle.settle.specs.Answers.{answerOf, lengthCheck, lengthIn, tooLong, settleCheck, settleIn, leftIn, lengthChecks, lengthAnswer, settleChecks, settleAnswer, settleLeft}
 
 -- ---- 13
 
@@ -52,13 +59,13 @@ not-long n out h g = rw (le-ltb (length out) n h, le-ltb mostShardBytes n g)
 
 -- a shard of two parts
 module _ (spec : Sharding) (index d : List ℕ) where
-  pub length-in : lengthIn spec index d ≡ pick (ltb mostShardBytes (formLength spec index d)) (Refused 13) (Length (formLength spec index d))
+  pub length-in : lengthIn spec index d ≡ pick (ltb mostShardBytes (formLength spec index d)) (NotWritten 13) (Wrote (formLength spec index d))
   unfolding lengthIn lengthCheck
-  length-in = by-picks Refused (lengthCheck spec index d ∷ []) (Length (formLength spec index d)) refl
+  length-in = by-picks NotWritten (lengthCheck spec index d ∷ []) (Wrote (formLength spec index d)) refl
 
-  pub settle-in : (out : List ℕ) → settleIn spec index d out ≡ pick (tooLong (formLength spec index d) out) (Refused 13) (Length (formLength spec index d))
+  pub settle-in : (out : List ℕ) → settleIn spec index d out ≡ pick (tooLong (formLength spec index d) out) (NotWritten 13) (Wrote (formLength spec index d))
   unfolding settleIn settleCheck
-  settle-in out = by-picks Refused (settleCheck spec index d out ∷ []) (Length (formLength spec index d)) refl
+  settle-in out = by-picks NotWritten (settleCheck spec index d out ∷ []) (Wrote (formLength spec index d)) refl
 
   pub left-in : (out : List ℕ) → leftIn spec index d out ≡ pick (tooLong (formLength spec index d) out) out (over (formOf spec index d) out)
   unfolding leftIn settleCheck
@@ -66,37 +73,82 @@ module _ (spec : Sharding) (index d : List ℕ) where
 
 -- ---- after the check
 
+-- what a call answers that goes on where the check passes: the refusal of the check, without the minishard, or else a
+abbrev pub afterCheck : {A : Type 0} → (ℕ → A) → (ℕ → ℕ → A) → CheckAnswer → A → A
+afterCheck r at Sound a = a
+afterCheck r at (CheckRefused k) a = r k
+afterCheck r at (CheckFaulty k m p) a = at k p
+
+module _ {A : Type 0} (r : ℕ → A) (at : ℕ → ℕ → A) (a : A) where
+  after-of : (n k m p : ℕ) → unless r n (unless (λ j. at j p) k a) ≡ afterCheck r at (unless CheckRefused n (unless (λ j. CheckFaulty j m p) k Sound)) a
+  unfolding unless
+  after-of zero zero m p = refl
+  after-of zero (suc k) m p = refl
+  after-of (suc n) k m p = refl
+
+  by-check : (spec : Sharding) (shard : ℕ) (file : List ℕ) → answeredAt r at (shardChecks spec shard file) a ≡ afterCheck r at (checkAnswer spec shard file) a
+  unfolding checkAnswer
+  by-check spec shard file =
+      let f = shardFault spec shard (indexPart spec file) (dataPart spec file) in
+      shard-answer spec shard file r at a ∙ after-of (firstNumber (fileChecks spec (noSuchShard spec shard) file)) (f .number) (f .minishard) (f .position)
+
+-- what is left is the same, with a position or without
+left-at : {B : Type 0} (checks : List Check) (after before : B) → left checks after before ≡ answeredAt (λ k. before) (λ k p. before) checks after
+left-at checks after before = go (firstPosition checks)
+  where
+    go : (p : Option ℕ) → unless (λ k. before) (firstNumber checks) after ≡ unless (λ k. refusal (λ k. before) (λ k p. before) k p) (firstNumber checks) after
+    go none = refl
+    go (some p) = refl
+
+-- 13, which has none
+answer-unless : (k : ℕ) (w : Written) → unless Refused k (answerOf w) ≡ answerOf (unless NotWritten k w)
+unfolding unless
+answer-unless zero w = refl
+answer-unless (suc k) w = refl
+
+last-answer : (c : Check) (n : ℕ) → c .position ≡ none → answeredAt Refused Faulty (c ∷ []) (Length n) ≡ answerOf (answered NotWritten (c ∷ []) (Wrote n))
+last-answer c n e = at-plain Refused Faulty (c ∷ []) (Length n) (e, tt) ∙ answer-unless (firstNumber (c ∷ [])) (Wrote n)
+
 module _ (spec : Sharding) (shard : ℕ) (file : List ℕ) where
-  -- 13 comes after the number that the check gives
-  by-check : {A : Type 0} (r : ℕ → A) (c : Check) (a : A) → answered r (shardChecks spec shard file ++ (c ∷ [])) a ≡ unless r (checkNumber (checkAnswer spec shard file)) (answered r (c ∷ []) a)
-  by-check r c a = answered-both r (shardChecks spec shard file) (c ∷ []) a (shard-in spec shard file) ∙ rw (check-number spec shard file)
+  pub length-by-check : lengthAnswer spec shard file ≡ afterCheck Refused Faulty (checkAnswer spec shard file) (answerOf (lengthIn spec (indexPart spec file) (dataPart spec file)))
+  unfolding lengthAnswer lengthChecks lengthIn lengthCheck
+  length-by-check =
+      let c = lengthCheck spec (indexPart spec file) (dataPart spec file) in
+      at-both Refused Faulty (shardChecks spec shard file) (c ∷ []) _ (shard-in spec shard file)
+      ∙ rw (last-answer c (fileFormLength spec file) refl) (by-check Refused Faulty _ spec shard file)
 
-  pub length-by-check : lengthAnswer spec shard file ≡ unless Refused (checkNumber (checkAnswer spec shard file)) (lengthIn spec (indexPart spec file) (dataPart spec file))
-  unfolding lengthAnswer lengthChecks lengthIn
-  length-by-check = by-check Refused (lengthCheck spec (indexPart spec file) (dataPart spec file)) _
+  pub settle-by-check : (out : List ℕ) → settleAnswer spec shard file out ≡ afterCheck Refused Faulty (checkAnswer spec shard file) (answerOf (settleIn spec (indexPart spec file) (dataPart spec file) out))
+  unfolding settleAnswer settleChecks settleIn settleCheck
+  settle-by-check out =
+      let c = settleCheck spec (indexPart spec file) (dataPart spec file) out in
+      at-both Refused Faulty (shardChecks spec shard file) (c ∷ []) _ (shard-in spec shard file)
+      ∙ rw (last-answer c (fileFormLength spec file) refl) (by-check Refused Faulty _ spec shard file)
 
-  pub settle-by-check : (out : List ℕ) → settleAnswer spec shard file out ≡ unless Refused (checkNumber (checkAnswer spec shard file)) (settleIn spec (indexPart spec file) (dataPart spec file) out)
-  unfolding settleAnswer settleChecks settleIn
-  settle-by-check out = by-check Refused (settleCheck spec (indexPart spec file) (dataPart spec file) out) _
-
-  pub left-by-check : (out : List ℕ) → settleLeft spec shard file out ≡ unless (λ k. out) (checkNumber (checkAnswer spec shard file)) (leftIn spec (indexPart spec file) (dataPart spec file) out)
+  pub left-by-check : (out : List ℕ) → settleLeft spec shard file out ≡ afterCheck (λ k. out) (λ k p. out) (checkAnswer spec shard file) (leftIn spec (indexPart spec file) (dataPart spec file) out)
   unfolding settleLeft settleChecks leftIn
-  left-by-check out = by-check (λ k. out) (settleCheck spec (indexPart spec file) (dataPart spec file) out) _
+  left-by-check out =
+      answered-both (λ k. out) (shardChecks spec shard file) (settleCheck spec (indexPart spec file) (dataPart spec file) out ∷ []) _ (shard-in spec shard file)
+      ∙ left-at (shardChecks spec shard file) _ out
+      ∙ by-check (λ k. out) (λ k p. out) _ spec shard file
 
 -- ---- a sound shard
 
 module _ {spec : Sharding} {shard : ℕ} {file : List ℕ} (sound : SoundShard spec shard file) where
-  sound-number : checkNumber (checkAnswer spec shard file) ≡ 0
-  sound-number = ap (λ (a : CheckAnswer). checkNumber a) (sound-passes-check spec shard file sound)
+  goes-on : {A : Type 0} (r : ℕ → A) (at : ℕ → ℕ → A) (a : A) → afterCheck r at (checkAnswer spec shard file) a ≡ a
+  goes-on r at a = rw (sound-passes-check spec shard file sound)
+
+  pick-answer : (b : Bool) (n : ℕ) → answerOf (pick b (NotWritten 13) (Wrote n)) ≡ pick b (Refused 13) (Length n)
+  pick-answer true n = refl
+  pick-answer false n = refl
 
   length-sound : lengthAnswer spec shard file ≡ pick (ltb mostShardBytes (fileFormLength spec file)) (Refused 13) (Length (fileFormLength spec file))
-  length-sound = length-by-check spec shard file ∙ sym (unless-none Refused _ _ sound-number) ∙ length-in spec (indexPart spec file) (dataPart spec file)
+  length-sound = length-by-check spec shard file ∙ goes-on Refused Faulty _ ∙ rw (length-in spec (indexPart spec file) (dataPart spec file)) (pick-answer (ltb mostShardBytes (fileFormLength spec file)) (fileFormLength spec file))
 
   answer-sound : (out : List ℕ) → settleAnswer spec shard file out ≡ pick (tooLong (fileFormLength spec file) out) (Refused 13) (Length (fileFormLength spec file))
-  answer-sound out = settle-by-check spec shard file out ∙ sym (unless-none Refused _ _ sound-number) ∙ settle-in spec (indexPart spec file) (dataPart spec file) out
+  answer-sound out = settle-by-check spec shard file out ∙ goes-on Refused Faulty _ ∙ rw (settle-in spec (indexPart spec file) (dataPart spec file) out) (pick-answer (tooLong (fileFormLength spec file) out) (fileFormLength spec file))
 
   left-sound : (out : List ℕ) → settleLeft spec shard file out ≡ pick (tooLong (fileFormLength spec file) out) out (over (fileForm spec file) out)
-  left-sound out = left-by-check spec shard file out ∙ sym (unless-none (λ k. out) _ _ sound-number) ∙ left-in spec (indexPart spec file) (dataPart spec file) out
+  left-sound out = left-by-check spec shard file out ∙ goes-on (λ k. out) (λ k p. out) _ ∙ left-in spec (indexPart spec file) (dataPart spec file) out
 
   -- its settled length
   pub length-long : mostShardBytes < length (fileForm spec file) → lengthAnswer spec shard file ≡ Refused 13
@@ -125,16 +177,24 @@ module _ {spec : Sharding} {shard : ℕ} {file : List ℕ} (sound : SoundShard s
         left-sound out ∙ rw (not-long (fileFormLength spec file) out (omega arith) (omega arith))
 
     -- a refusal tells that the form is too long
-    pub refused-long : (number : ℕ) → settleAnswer spec shard file out ≡ Refused number
-        → (number ≡ 13) × ((length out < length (fileForm spec file)) ⊎ (mostShardBytes < length (fileForm spec file)))
-    refused-long number e = rw (file-form-length spec file) (by-test (tooLong (fileFormLength spec file) out) refl)
+    pub refused-long : (number : ℕ) (p : Option ℕ) → settleAnswer spec shard file out ≡ refusal Refused Faulty number p
+        → (number ≡ 13) × (p ≡ none) × ((length out < length (fileForm spec file)) ⊎ (mostShardBytes < length (fileForm spec file)))
+    refused-long number p e = rw (file-form-length spec file) (by-test (tooLong (fileFormLength spec file) out) p refl e)
       where
-        by-test : (b : Bool) → tooLong (fileFormLength spec file) out ≡ b
-            → (number ≡ 13) × ((length out < fileFormLength spec file) ⊎ (mostShardBytes < fileFormLength spec file))
-        by-test true t =
+        by-test : (b : Bool) (q : Option ℕ) → tooLong (fileFormLength spec file) out ≡ b → settleAnswer spec shard file out ≡ refusal Refused Faulty number q
+            → (number ≡ 13) × (q ≡ none) × ((length out < fileFormLength spec file) ⊎ (mostShardBytes < fileFormLength spec file))
+        by-test true none t e =
             let f : Refused 13 ≡ Refused number = rw t at (sym (answer-sound out) ∙ e) in
-            (cc, long-cases (fileFormLength spec file) out t)
-        by-test false t =
+            (cc, refl, long-cases (fileFormLength spec file) out t)
+        by-test true (some q) t e =
+            let f : Refused 13 ≡ Faulty number q = rw t at (sym (answer-sound out) ∙ e) in
+            let z : _≡_ {A = ℕ} 0 1 = cc in
+            absurd (omega arith)
+        by-test false none t e =
             let f : Length (fileFormLength spec file) ≡ Refused number = rw t at (sym (answer-sound out) ∙ e) in
+            let z : _≡_ {A = ℕ} 0 1 = cc in
+            absurd (omega arith)
+        by-test false (some q) t e =
+            let f : Length (fileFormLength spec file) ≡ Faulty number q = rw t at (sym (answer-sound out) ∙ e) in
             let z : _≡_ {A = ℕ} 0 1 = cc in
             absurd (omega arith)

@@ -1,16 +1,18 @@
 -- Demand 3 as far as it speaks of settling; what it says of the settled form itself is in `form`.
 use Prim.Native.Nat.{ℕ, _≤_, _<_}
-use mathlib.Core.Path.{_≡_, sym, ap, _∙_}
+use mathlib.Core.Path.{_≡_}
 use mathlib.Core.Logic.{_↔_, _⊎_}
 use mathlib.Core.List.{List}
+use mathlib.Core.Option.{Option, none}
 use lib.ListN.{length}
 use Rattle.refusal.specs.Buffer.{over}
-use Rattle.refusal.specs.declared.Written.the-variants.{Length, Refused}
+use Rattle.refusal.specs.Checks.{refusal}
 use Rattle.sharding.specs.declared.Sharding.{Sharding}
 use Rattle.shard.specs.File.{mostShardBytes}
 use Rattle.shard.specs.Sound.{SoundShard}
 use Rattle.form.specs.Content.{fileForm}
 use Rattle.form.proofs.Demand3.{Short, demand-3-form-sound, demand-3-form-same}
+use Rattle.settle.specs.declared.SettleAnswer.the-variants.{Length, Refused, Faulty}
 use Rattle.settle.specs.Answers.{lengthAnswer, settleAnswer, settleLeft}
 use Rattle.settle.proofs.Answered.{length-long, length-fits, answer-long, left-long, answer-fits, left-fits, refused-long}
 
@@ -38,9 +40,9 @@ module _ {spec : Sharding} {shard : ℕ} {a : List ℕ} (sound : SoundShard spec
 
 -- Settling a sound shard
 module _ {spec : Sharding} {shard : ℕ} {a : List ℕ} (sound : SoundShard spec shard a) (out : List ℕ) where
-  -- is refused, with 13, exactly when its settled form is longer than the output or than 1 GiB;
-  pub demand-3-refused : (number : ℕ) → (settleAnswer spec shard a out ≡ Refused number) ↔ ((number ≡ 13) × Longer spec a out)
-  demand-3-refused number = (refused-long sound out number, λ h. answer-long sound out (h .1) ∙ ap Refused (sym (h .0)))
+  -- is refused, with 13 and no position, exactly when its settled form is longer than the output or than 1 GiB;
+  pub demand-3-refused : (number : ℕ) (p : Option ℕ) → (settleAnswer spec shard a out ≡ refusal Refused Faulty number p) ↔ ((number ≡ 13) × (p ≡ none) × Longer spec a out)
+  demand-3-refused number p = (refused-long sound out number p, λ h. rw (h .0, h .1) (answer-long sound out (h .2)))
 
   -- the output is then as it was.
   pub demand-3-unchanged : Longer spec a out → settleLeft spec shard a out ≡ out

@@ -2,14 +2,15 @@
 use Prim.Native.Nat.{ℕ}
 use mathlib.Core.Path.{_≡_}
 use mathlib.Core.List.{List}
+use mathlib.Core.Option.{Option}
 use native.Mathlib.Omega.{arith}
-use Rattle.refusal.specs.Checks.{Refuses}
-use Rattle.refusal.specs.declared.Written.the-variants.{Refused}
+use Rattle.refusal.specs.Checks.{refusal, RefusesAt}
 use Rattle.refusal.proofs.Picks.{AllIn, all-in-both}
-use Rattle.refusal.proofs.Refusing.{refusing, keeping}
+use Rattle.refusal.proofs.Positions.{refusing-at, keeping-at}
 use Rattle.sharding.specs.declared.Sharding.{Sharding}
 use Rattle.shard.specs.File.{shardChecks}
 use Rattle.shard.proofs.Numbers.{shard-in}
+use Rattle.settle.specs.declared.SettleAnswer.the-variants.{Refused, Faulty}
 use Rattle.settle.specs.Answers.{lengthCheck, settleCheck, lengthChecks, lengthAnswer, settleChecks, settleAnswer, settleLeft}
 
 module _ (spec : Sharding) (shard : ℕ) (file : List ℕ) where
@@ -17,19 +18,19 @@ module _ (spec : Sharding) (shard : ℕ) (file : List ℕ) where
   unfolding lengthChecks lengthCheck
   lengths-in = all-in-both (shardChecks spec shard file) _ (shard-in spec shard file) ((omega arith, omega arith), tt)
 
-  pub length-refuses : Refuses (lengthAnswer spec shard file) Refused (lengthChecks spec shard file)
+  pub length-refuses : RefusesAt (lengthAnswer spec shard file) Refused Faulty (lengthChecks spec shard file)
   unfolding lengthAnswer
-  length-refuses = refusing Refused (λ j k e. cc) (lengthChecks spec shard file) _ lengths-in (λ k e. cc)
+  length-refuses = refusing-at Refused Faulty (λ j k e. cc) (λ j k p q e. (cc, cc)) (λ j k p e. cc) (lengthChecks spec shard file) _ (λ k e. cc) (λ k p e. cc) lengths-in
 
   module _ (out : List ℕ) where
     settles-in : AllIn (settleChecks spec shard file out)
     unfolding settleChecks settleCheck
     settles-in = all-in-both (shardChecks spec shard file) _ (shard-in spec shard file) ((omega arith, omega arith), tt)
 
-    pub settle-refuses : Refuses (settleAnswer spec shard file out) Refused (settleChecks spec shard file out)
+    pub settle-refuses : RefusesAt (settleAnswer spec shard file out) Refused Faulty (settleChecks spec shard file out)
     unfolding settleAnswer
-    settle-refuses = refusing Refused (λ j k e. cc) (settleChecks spec shard file out) _ settles-in (λ k e. cc)
+    settle-refuses = refusing-at Refused Faulty (λ j k e. cc) (λ j k p q e. (cc, cc)) (λ j k p e. cc) (settleChecks spec shard file out) _ (λ k e. cc) (λ k p e. cc) settles-in
 
-    pub settle-kept : (k : ℕ) → settleAnswer spec shard file out ≡ Refused k → settleLeft spec shard file out ≡ out
+    pub settle-kept : (k : ℕ) (p : Option ℕ) → settleAnswer spec shard file out ≡ refusal Refused Faulty k p → settleLeft spec shard file out ≡ out
     unfolding settleAnswer settleLeft
-    settle-kept k e = keeping Refused (settleChecks spec shard file out) _ _ out k (λ h. cc) e
+    settle-kept k p e = keeping-at Refused Faulty (λ j k e. cc) (λ j k p q e. (cc, cc)) (λ j k p e. cc) (settleChecks spec shard file out) _ (λ k e. cc) (λ k p e. cc) _ out k p e

@@ -8,22 +8,23 @@ use lib.ListN.{length, take}
 use lib.Seq.{length-take-le}
 use borrow.Author.Needs.{needs}
 use borrow.Author.Tests.{lt-ltb, le-ltb}
-use Rattle.refusal.specs.Checks.{unless}
 use Rattle.refusal.specs.Buffer.{over}
 use Rattle.refusal.specs.declared.Written.{Written}
-use Rattle.refusal.specs.declared.Written.the-variants.{Length, Refused}
+use Rattle.refusal.specs.declared.Written.the-variants.{Length as Wrote, Refused as NotWritten}
 use Rattle.sharding.specs.declared.Sharding.{Sharding}
 use Rattle.sharding.specs.Specification.{allowed}
 use Rattle.shard.specs.declared.CheckAnswer.{CheckAnswer}
-use Rattle.shard.specs.File.{mostShardBytes, indexLength, indexPart, dataPart, checkAnswer, checkNumber}
+use Rattle.shard.specs.declared.CheckAnswer.the-variants.{Sound, Refused as CheckRefused, Faulty as CheckFaulty}
+use Rattle.shard.specs.File.{mostShardBytes, indexLength, indexPart, dataPart, checkAnswer}
 use Rattle.shard.specs.Sound.{SoundFrom, SoundShard}
 use Rattle.shard.proofs.Leads.{sound-led}
 use Rattle.shard.proofs.Split.{restOf, rest-whole, front-count}
-use Rattle.shard.proofs.Numbers.{unless-some, unless-none}
-use Rattle.shard.proofs.Whole.{check-number, check-passes, check-passes-sound}
+use Rattle.shard.proofs.Whole.{check-passes-sound}
 use Rattle.form.specs.Content.{formOf, formLength}
 use Rattle.minishard.specs.Writing.{capped}
-use Rattle.settle.specs.Answers.{lengthIn, settleIn, leftIn, lengthAnswer, settleAnswer, settleLeft}
+use Rattle.settle.specs.declared.SettleAnswer.{SettleAnswer}
+use Rattle.settle.specs.declared.SettleAnswer.the-variants.{Length, Refused, Faulty}
+use Rattle.settle.specs.Answers.{answerOf, lengthIn, settleIn, leftIn, lengthAnswer, settleAnswer, settleLeft}
 use Rattle.settle.specs.Writing.{Settleable, SettleableShard}
 use Rattle.settle.proofs.Answered.{long-out, long-file, not-long, length-in, settle-in, left-in, length-by-check, settle-by-check, left-by-check}
 
@@ -33,19 +34,19 @@ module _ (spec : Sharding) (index d : List ℕ) {len : ℕ} (e : len ≡ capped 
   abbrev n : ℕ
   n = formLength spec index d
 
-  pub length-refused : mostShardBytes < len → Refused 13 ≡ lengthIn spec index d
+  pub length-refused : mostShardBytes < len → NotWritten 13 ≡ lengthIn spec index d
   length-refused l = sym (length-in spec index d ∙ rw (lt-ltb mostShardBytes n (omega arith)))
 
-  pub length-given : len ≤ mostShardBytes → Length len ≡ lengthIn spec index d
+  pub length-given : len ≤ mostShardBytes → Wrote len ≡ lengthIn spec index d
   length-given l =
       let q : len ≡ n = omega arith in
       sym (length-in spec index d ∙ rw (q, le-ltb mostShardBytes n (omega arith)))
 
   module _ (out : List ℕ) where
-    pub long-refused : mostShardBytes < len → Refused 13 ≡ settleIn spec index d out
+    pub long-refused : mostShardBytes < len → NotWritten 13 ≡ settleIn spec index d out
     long-refused l = sym (settle-in spec index d out ∙ rw (long-file n out (omega arith)))
 
-    pub short-refused : length out < len → Refused 13 ≡ settleIn spec index d out
+    pub short-refused : length out < len → NotWritten 13 ≡ settleIn spec index d out
     short-refused l = sym (settle-in spec index d out ∙ rw (long-out n out (omega arith)))
 
     pub long-left : mostShardBytes < len → out ≡ leftIn spec index d out
@@ -61,13 +62,22 @@ module _ (spec : Sharding) (index d : List ℕ) {len : ℕ} (e : len ≡ capped 
       pub most-given : formLength spec index d ≤ mostShardBytes
       most-given = omega arith
 
-      pub form-given : {r : ℕ} → r ≡ formLength spec index d → Length r ≡ settleIn spec index d out
+      pub form-given : {r : ℕ} → r ≡ formLength spec index d → Wrote r ≡ settleIn spec index d out
       form-given q = rw q (sym (settle-in spec index d out ∙ rw (not-long n out (omega arith) (omega arith))))
 
       pub form-left : {o : List ℕ} → o ≡ over (formOf spec index d) out → o ≡ leftIn spec index d out
       form-left w = w ∙ sym (left-in spec index d out ∙ rw (not-long n out (omega arith) (omega arith)))
 
 pub ruleset answering = (length-refused, length-given, long-refused, short-refused, long-left, short-left, room-given, most-given, form-given, form-left, needs)
+
+-- ---- a writer's answer as one of settling
+
+module _ {w : Written} {n : ℕ} where
+  pub answer-length : w ≡ Wrote n → Length n ≡ answerOf w
+  answer-length e = rw e
+
+  pub answer-refused : w ≡ NotWritten n → Refused n ≡ answerOf w
+  answer-refused e = rw e
 
 -- ---- after the check
 
@@ -80,30 +90,33 @@ sound-settleable {spec} {shard} {file} g = record {
   parts = record { held = omega (arith, length-take-le (indexLength spec) file (g .held)); each = λ m l. settleable (g .each m l) };
 }
 
-pub number-told : (spec : Sharding) (shard : ℕ) (file : List ℕ) {a : CheckAnswer} {r : ℕ} → a ≡ checkAnswer spec shard file → r ≡ checkNumber a → r ≡ checkNumber (checkAnswer spec shard file)
-number-told spec shard file p q = q ∙ ap (λ (x : CheckAnswer). checkNumber x) p
+module _ (spec : Sharding) (shard : ℕ) (file : List ℕ) {a : CheckAnswer} (e : a ≡ checkAnswer spec shard file) where
+  -- the check refused
+  module _ {k : ℕ} (q : a ≡ CheckRefused k) where
+    pub length-stopped : Refused k ≡ lengthAnswer spec shard file
+    length-stopped = rw (length-by-check spec shard file, ← e, q)
 
--- an answer b that the number k refuses or passes
-module _ {A : Type 0} (r : ℕ → A) (a : A) {b : A} (k : ℕ) (e : b ≡ unless r k a) where
-  stopped : (k ≡ 0 → ⊥) → r k ≡ b
-  stopped h = unless-some r k a h ∙ sym e
+    pub settle-stopped : (out : List ℕ) → Refused k ≡ settleAnswer spec shard file out
+    settle-stopped out = rw (settle-by-check spec shard file out, ← e, q)
 
-  passed : k ≡ 0 → a ≡ b
-  passed z = unless-none r k a z ∙ sym e
+    pub left-stopped : (out : List ℕ) → out ≡ settleLeft spec shard file out
+    left-stopped out = rw (left-by-check spec shard file out, ← e, q)
 
-module _ (spec : Sharding) (shard : ℕ) (file : List ℕ) {k : ℕ} (e : k ≡ checkNumber (checkAnswer spec shard file)) where
-  pub length-stopped : (k ≡ 0 → ⊥) → Refused k ≡ lengthAnswer spec shard file
-  length-stopped h = stopped Refused (lengthIn spec (indexPart spec file) (dataPart spec file)) k (rw e (length-by-check spec shard file)) h
+  -- it named a fault
+  module _ {k m p : ℕ} (q : a ≡ CheckFaulty k m p) where
+    pub length-faulty : Faulty k p ≡ lengthAnswer spec shard file
+    length-faulty = rw (length-by-check spec shard file, ← e, q)
 
-  pub settle-stopped : (out : List ℕ) → (k ≡ 0 → ⊥) → Refused k ≡ settleAnswer spec shard file out
-  settle-stopped out h = stopped Refused (settleIn spec (indexPart spec file) (dataPart spec file) out) k (rw e (settle-by-check spec shard file out)) h
+    pub settle-faulty : (out : List ℕ) → Faulty k p ≡ settleAnswer spec shard file out
+    settle-faulty out = rw (settle-by-check spec shard file out, ← e, q)
 
-  pub left-stopped : (out : List ℕ) → (k ≡ 0 → ⊥) → out ≡ settleLeft spec shard file out
-  left-stopped out h = stopped (λ j. out) (leftIn spec (indexPart spec file) (dataPart spec file) out) k (rw e (left-by-check spec shard file out)) h
+    pub left-faulty : (out : List ℕ) → out ≡ settleLeft spec shard file out
+    left-faulty out = rw (left-by-check spec shard file out, ← e, q)
 
-  module _ (z : k ≡ 0) where
+  -- it passed
+  module _ (q : a ≡ Sound) where
     passed-sound : SoundShard spec shard file
-    passed-sound = check-passes-sound spec shard file (check-passes spec shard file .1 (sym (check-number spec shard file) ∙ sym e ∙ z))
+    passed-sound = check-passes-sound spec shard file (sym e ∙ q)
 
     pub passed-allowed : allowed spec ≡ true
     passed-allowed = passed-sound .permitted
@@ -119,13 +132,13 @@ module _ (spec : Sharding) (shard : ℕ) (file : List ℕ) {k : ℕ} (e : k ≡ 
       pub passed-parts : SettleableShard spec (take n file) (restOf n file)
       passed-parts = rw (rest-whole n file, c) (sound-settleable passed-sound)
 
-      pub length-passed : {r : Written} → r ≡ lengthIn spec (take n file) (restOf n file) → r ≡ lengthAnswer spec shard file
-      length-passed h = (rw (rest-whole n file, c) at h) ∙ passed Refused (lengthIn spec (indexPart spec file) (dataPart spec file)) k (rw e (length-by-check spec shard file)) z
+      pub length-passed : {w : Written} {r : SettleAnswer} → w ≡ lengthIn spec (take n file) (restOf n file) → r ≡ answerOf w → r ≡ lengthAnswer spec shard file
+      length-passed h g = rw (length-by-check spec shard file, ← e, q) (g ∙ ap (λ (w : Written). answerOf w) (rw (rest-whole n file, c) at h))
 
-      pub settle-passed : (out : List ℕ) {r : Written} → r ≡ settleIn spec (take n file) (restOf n file) out → r ≡ settleAnswer spec shard file out
-      settle-passed out h = (rw (rest-whole n file, c) at h) ∙ passed Refused (settleIn spec (indexPart spec file) (dataPart spec file) out) k (rw e (settle-by-check spec shard file out)) z
+      pub settle-passed : (out : List ℕ) {w : Written} {r : SettleAnswer} → w ≡ settleIn spec (take n file) (restOf n file) out → r ≡ answerOf w → r ≡ settleAnswer spec shard file out
+      settle-passed out h g = rw (settle-by-check spec shard file out, ← e, q) (g ∙ ap (λ (w : Written). answerOf w) (rw (rest-whole n file, c) at h))
 
       pub left-passed : (out : List ℕ) {o : List ℕ} → o ≡ leftIn spec (take n file) (restOf n file) out → o ≡ settleLeft spec shard file out
-      left-passed out h = (rw (rest-whole n file, c) at h) ∙ passed (λ j. out) (leftIn spec (indexPart spec file) (dataPart spec file) out) k (rw e (left-by-check spec shard file out)) z
+      left-passed out h = rw (left-by-check spec shard file out, ← e, q) (rw (rest-whole n file, c) at h)
 
-pub ruleset checked = (number-told, length-stopped, settle-stopped, left-stopped, passed-allowed, passed-held, passed-front, passed-parts, length-passed, settle-passed, left-passed, needs)
+pub ruleset checked = (answer-length, answer-refused, length-stopped, settle-stopped, left-stopped, length-faulty, settle-faulty, left-faulty, passed-allowed, passed-held, passed-front, passed-parts, length-passed, settle-passed, left-passed, needs)

@@ -2,55 +2,63 @@
 pub mod inner;
 
 ghost use mathlib.Core.Path.{_≡_};
-ghost use Rattle.shard.specs.File.{checkAnswer, checkNumber};
-ghost use Rattle.settle.specs.Answers.{lengthAnswer, settleAnswer, settleLeft};
+ghost use Rattle.settle.specs.Answers.{answerOf, lengthAnswer, settleAnswer, settleLeft};
 use refusal::Written;
 use shard::CheckAnswer;
 use shard::check::check;
 use shard::inner::index_length;
 use sharding::Sharding;
 
-fn number_of(answer: CheckAnswer) -> u8
-    ensures { λ r. ⌜ r ≡ checkNumber answer ⌝ }
+// What settling answers: the length of the settled form, or the refusal. 7 to 11 come with the byte position of what is wrong,
+// counted from the beginning of the shard.
+pub enum SettleAnswer {
+    Length(usize),
+    Refused(u8),
+    Faulty { number: u8, position: u64 },
+}
+
+fn answer_of(written: Written) -> SettleAnswer
+    ensures { λ r. ⌜ r ≡ answerOf written ⌝ }
 {
-    match answer {
-        CheckAnswer::Sound => 0,
-        CheckAnswer::Refused(number) => number,
+    match written {
+        Written::Length(n) => SettleAnswer::Length(n),
+        Written::Refused(number) => SettleAnswer::Refused(number),
+    }
+}
+
+// The length of the settled form of a sound shard, or the refusal.
+pub fn settled_length(spec: Sharding, shard: u64, file: &[u8]) -> SettleAnswer
+    ensures answer { λ r. ⌜ r ≡ lengthAnswer spec shard (now (file .entry)) ⌝ }
+{
+    match check(spec, shard, file) {
+        CheckAnswer::Sound => {
+            let n = index_length(spec);
+            answer_of(inner::length_answer(spec, &file[..n], &file[n..]))
+        }
+        CheckAnswer::Refused(number) => SettleAnswer::Refused(number),
         CheckAnswer::Faulty {
             number,
             minishard: _,
-        } => number,
+            position,
+        } => SettleAnswer::Faulty { number, position },
     }
-}
-
-// The refusal of the whole-shard check, without the minishard; 0 for a sound shard.
-fn refusal_of(spec: Sharding, shard: u64, file: &[u8]) -> u8
-    ensures { λ r. ⌜ r ≡ checkNumber (checkAnswer spec shard (now (file .entry))) ⌝ }
-{
-    number_of(check(spec, shard, file))
-}
-
-// The length of the settled form of a sound shard, or the number of a refusal.
-pub fn settled_length(spec: Sharding, shard: u64, file: &[u8]) -> Written
-    ensures answer { λ r. ⌜ r ≡ lengthAnswer spec shard (now (file .entry)) ⌝ }
-{
-    let number = refusal_of(spec, shard, file);
-    if number != 0 {
-        return Written::Refused(number);
-    }
-    let n = index_length(spec);
-    inner::length_answer(spec, &file[..n], &file[n..])
 }
 
 // Writes the settled form of a sound shard to the front of `out`. A refusal leaves `out` as it was.
-pub fn settle(spec: Sharding, shard: u64, file: &[u8], out: &mut [u8]) -> Written
+pub fn settle(spec: Sharding, shard: u64, file: &[u8], out: &mut [u8]) -> SettleAnswer
     ensures answer { λ r. ⌜ r ≡ settleAnswer spec shard (now (file .entry)) (now (out .entry)) ⌝ }
     ensures out { λ _. ⌜ now (out .exit) ≡ settleLeft spec shard (now (file .entry)) (now (out .entry)) ⌝ }
 {
-    let number = refusal_of(spec, shard, file);
-    if number != 0 {
-        return Written::Refused(number);
+    match check(spec, shard, file) {
+        CheckAnswer::Sound => {
+            let n = index_length(spec);
+            answer_of(inner::settle_answer(spec, &file[..n], &file[n..], out))
+        }
+        CheckAnswer::Refused(number) => SettleAnswer::Refused(number),
+        CheckAnswer::Faulty {
+            number,
+            minishard: _,
+            position,
+        } => SettleAnswer::Faulty { number, position },
     }
-    let n = index_length(spec);
-    inner::settle_answer(spec, &file[..n], &file[n..], out)
 }

@@ -79,7 +79,7 @@ module _ (spec : Sharding) (shard : ℕ) (index d : List ℕ) (m : ℕ) (short :
   split =
       let q7 = pick-zero (badEntry d s e) 6 _ z in
       let q8 = pick-zero (badLength s e) 7 _ (q7 .1) in
-      (q7 .0, q8 .0, none-fails n 11 (entryTestsBefore spec shard m d s n) numbered (sym (entries-number n (entryTestsBefore spec shard m d s n)) ∙ q8 .1))
+      (q7 .0, q8 .0, none-fails (length index + s) n 11 (entryTestsBefore spec shard m d s n) numbered (sym (entries-number (length index + s) n (entryTestsBefore spec shard m d s n)) ∙ q8 .1))
 
   ids-pass : (i : ℕ) → i < n → badIdBefore (idSteps d s) i ≡ false
   unfolding entryTestsBefore
@@ -126,7 +126,7 @@ module _ (spec : Sharding) (shard : ℕ) (index d : List ℕ) where
   minishard-in m =
       let s = entryStart index m in
       let n = entryCount s (entryEnd index m) in
-      ((omega arith, omega arith), ((omega arith, omega arith), entries-in n 11 (entryTestsBefore spec shard m d s n) (omega arith) (omega arith, omega arith, (omega arith, omega arith, (omega arith, omega arith, tt)))))
+      ((omega arith, omega arith), ((omega arith, omega arith), entries-in (length index + s) n 11 (entryTestsBefore spec shard m d s n) (omega arith) (omega arith, omega arith, (omega arith, omega arith, (omega arith, omega arith, tt)))))
 
   each-before : (m k : ℕ) → firstNumber (minishardsChecksBefore spec shard index d m k) ≡ 0 → (j : ℕ) → m ≤ j → j < m + k → firstNumber (minishardChecksBefore spec shard index d j) ≡ 0
   unfolding minishardsChecksBefore

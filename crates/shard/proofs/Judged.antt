@@ -1,5 +1,5 @@
 -- The tests 7 to 11 pass a minishard exactly where it is sound.
-use Prim.Native.Nat.{ℕ, _-_, _%_, _≤_, _<_}
+use Prim.Native.Nat.{ℕ, _+_, _-_, _%_, _≤_, _<_}
 use mathlib.Core.Path.{_≡_}
 use mathlib.Core.Bool.{false, not, _&&_, and-false}
 use mathlib.Core.Logic.{_⊎_, inl, inr, ⊎-elim}
@@ -14,9 +14,9 @@ use Rattle.twice.proofs.Ids.{repeats-no, repeats-miss}
 use Rattle.sharding.specs.declared.Sharding.{Sharding}
 use Rattle.sharding.specs.Place.{shardOf, minishardOf}
 use Rattle.shard.specs.Index.{entryStart, entryEnd, entryCount, idSteps, startSteps, sizes, idAt}
-use Rattle.shard.specs.Faults.{fault, badEntry, badLength, badId, foreign, foreignAt, outside, idTest, placeTest, endTest, entryTests, firstOf, faultAt, faultOf}
+use Rattle.shard.specs.Faults.{fault, entryPlace, badEntry, badLength, badId, foreign, foreignAt, outside, idTest, placeTest, endTest, entryTests, firstOf, faultAt, faultOf}
 use Rattle.shard.specs.Sound.{SoundFrom, SoundMinishard}
-use Rattle.shard.proofs.Tests.{Passes, AllPass, Numbered, pick-none, pick-most, none-fails, all-pass, first-most}
+use Rattle.shard.proofs.Tests.{Passes, AllPass, Numbered, pick-none, none-fails, all-pass}
 
 -- ---- what each test says
 
@@ -60,14 +60,14 @@ module _ (spec : Sharding) (shard m : ℕ) (d : List ℕ) (s e : ℕ) where
   unfolding entryTests
   tests-numbered = (omega arith, omega arith, (omega arith, omega arith, (omega arith, omega arith, tt)))
 
-  passes-sound : faultAt spec shard m d s e .number ≡ 0 → SoundFrom spec shard m d s e
+  passes-sound : (base : ℕ) → faultAt spec shard m base d s e .number ≡ 0 → SoundFrom spec shard m d s e
   unfolding faultAt badLength foreignAt outside entryTests
-  passes-sound p =
+  passes-sound base p =
       let n = entryCount s e in
       let tests = entryTests spec shard m d s n in
-      let q7 = pick-none (badEntry d s e) (fault 7 0) _ (λ z. omega arith) p in
-      let q8 = pick-none (badLength s e) (fault 8 0) (firstOf n tests) (λ z. omega arith) (q7 .1) in
-      let all : AllPass n tests = none-fails n 11 tests tests-numbered (q8 .1) in
+      let q7 = pick-none (badEntry d s e) (fault 7 (entryPlace m)) _ (λ z. omega arith) p in
+      let q8 = pick-none (badLength s e) (fault 8 (entryPlace m)) (firstOf (base + s) n tests) (λ z. omega arith) (q7 .1) in
+      let all : AllPass n tests = none-fails (base + s) n 11 tests tests-numbered (q8 .1) in
       let ids : Passes n (idTest d s) = search all in
       let places : Passes n (placeTest spec shard m d s) = search all in
       let ends : Passes n (endTest d s n) = search all in
@@ -80,14 +80,6 @@ module _ (spec : Sharding) (shard m : ℕ) (d : List ℕ) (s e : ℕ) where
         here = λ i l. foreign-not spec shard m _ (places i l) .1;
         inside = λ i l. ltb-false _ _ (ends i l);
       }
-
-  -- no fault has a number above 11
-  most-at : faultAt spec shard m d s e .number ≤ 11
-  unfolding faultAt
-  most-at =
-      let n = entryCount s e in
-      pick-most (badEntry d s e) (fault 7 0) _ 11 (omega arith)
-      (pick-most (badLength s e) (fault 8 0) _ 11 (omega arith) (first-most n 11 (entryTests spec shard m d s n) tests-numbered))
 
 module _ {spec : Sharding} {shard m : ℕ} {d : List ℕ} {s e : ℕ} (g : SoundFrom spec shard m d s e) where
   sound-entry : badEntry d s e ≡ false
@@ -104,19 +96,15 @@ module _ {spec : Sharding} {shard m : ℕ} {d : List ℕ} {s e : ℕ} (g : Sound
   unfolding outside
   ends-pass i l = le-ltb _ _ (g .inside i l)
 
-  sound-passes : faultAt spec shard m d s e ≡ fault 0 0
+  sound-passes : (base : ℕ) → faultAt spec shard m base d s e ≡ fault 0 0
   unfolding faultAt badLength entryTests
-  sound-passes = rw (sound-entry, eq-eqb ((e - s) % 24) 0 (g .whole)) (all-pass (entryCount s e) (entryTests spec shard m d s (entryCount s e)) (search (ids-pass, places-pass, ends-pass), (search (ids-pass, places-pass, ends-pass), (search (ids-pass, places-pass, ends-pass), tt))))
+  sound-passes base = rw (sound-entry, eq-eqb ((e - s) % 24) 0 (g .whole)) (all-pass (base + s) (entryCount s e) (entryTests spec shard m d s (entryCount s e)) (search (ids-pass, places-pass, ends-pass), (search (ids-pass, places-pass, ends-pass), (search (ids-pass, places-pass, ends-pass), tt))))
 
 module _ (spec : Sharding) (shard : ℕ) (index d : List ℕ) (m : ℕ) where
   pub passes-minishard : faultOf spec shard index d m .number ≡ 0 → SoundMinishard spec shard index d m
   unfolding faultOf
-  passes-minishard p = passes-sound spec shard m d (entryStart index m) (entryEnd index m) p
+  passes-minishard p = passes-sound spec shard m d (entryStart index m) (entryEnd index m) (length index) p
 
   pub minishard-passes : SoundMinishard spec shard index d m → faultOf spec shard index d m ≡ fault 0 0
   unfolding faultOf
-  minishard-passes g = sound-passes g
-
-  pub fault-most : faultOf spec shard index d m .number ≤ 11
-  unfolding faultOf
-  fault-most = most-at spec shard m d (entryStart index m) (entryEnd index m)
+  minishard-passes g = sound-passes g (length index)

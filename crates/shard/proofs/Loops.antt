@@ -1,6 +1,6 @@
 -- What holds in the loops of the judge, and what each way out of them shows.
 use Prim.Native.Nat.{ℕ, suc, _+_, _*_, _-_, _%_, _^_, _≤_, _<_}
-use mathlib.Core.Path.{_≡_, refl, _∙_}
+use mathlib.Core.Path.{_≡_, refl, ap, _∙_}
 use mathlib.Core.Bool.{Bool, true}
 use mathlib.Core.List.{List, [], _∷_}
 use native.Mathlib.Numerals.{add-one}
@@ -14,13 +14,13 @@ use Rattle.sharding.specs.declared.Sharding.{Sharding}
 use Rattle.shard.specs.declared.judge.Fault.{Fault}
 use Rattle.shard.specs.declared.judge.ShardFault.{ShardFault}
 use Rattle.shard.specs.Index.{entryStart, entryEnd, entryCount, idSteps}
-use Rattle.shard.specs.Faults.{EntryTest, entryTest, foreign, foreignAt, outside, idTest, placeTest, endTest, entryTests, firstOf, fault, faultOf, faultAt, noFault, orLater, firstFault}
+use Rattle.shard.specs.Faults.{EntryTest, entryTest, entryPlace, rowPlace, foreign, foreignAt, outside, idTest, placeTest, endTest, entryTests, firstOf, fault, faultOf, faultAt, noFault, orLater, firstFault}
 use Rattle.shard.proofs.Tests.{test-passed, test-failed}
 use Rattle.shard.proofs.Walks.{twice-first, twice-none, Walk, ours-hit, Span, span-end, span-start-past, span-past}
 use Rattle.shard.proofs.Faulted.{fault-before, fault-empty, fault-past, fault-ragged, fault-entries, fault-entry}
 
 abbrev faultIn : ℕ → ℕ → ℕ → ShardFault
-faultIn number m entry = record { number = number; minishard = m; entry = entry }
+faultIn number m position = record { number = number; minishard = m; position = position }
 
 -- ---- the loop over the minishards from `from` up to `to`, with the faults f
 
@@ -32,9 +32,9 @@ pub record Searching (f : ℕ → Fault) (from to m : ℕ) : Type 0 where
 pub record Reached (f : ℕ → Fault) (from to m : ℕ) (x : Fault) : Type 0 where
   pub left : orLater m x (firstFault f (m + 1) (to - (m + 1))) ≡ firstFault f from (to - from)
 
--- at m, whose n entries are still to pass these tests
-pub record Testing (f : ℕ → Fault) (from to m n : ℕ) (tests : List EntryTest) : Type 0 where
-  pub reached : Reached f from to m (firstOf n tests)
+-- at m, whose n entries, at p, are still to pass these tests
+pub record Testing (f : ℕ → Fault) (from to m p n : ℕ) (tests : List EntryTest) : Type 0 where
+  pub reached : Reached f from to m (firstOf p n tests)
 
 module _ {f : ℕ → Fault} {from to : ℕ} where
   pub search-start : Searching f from to from
@@ -59,67 +59,69 @@ module _ {f : ℕ → Fault} {from to : ℕ} where
 
 -- ---- the tests over the entries of m
 
-module _ {f : ℕ → Fault} {from to m n : ℕ} where
+module _ {f : ℕ → Fault} {from to m p n : ℕ} where
   -- all entries pass the first of them, and the others are left
-  pub test-next : {t : EntryTest} {ts : List EntryTest} → Testing f from to m n (t ∷ ts) → n ≡ first (t .fails) n → Testing f from to m n ts
-  test-next {t} {ts} r e = record { reached = record { left = rw (test-passed n t ts e) at (r .reached .left) } }
+  pub test-next : {t : EntryTest} {ts : List EntryTest} → Testing f from to m p n (t ∷ ts) → n ≡ first (t .fails) n → Testing f from to m p n ts
+  test-next {t} {ts} r e = record { reached = record { left = rw (test-passed p n t ts e) at (r .reached .left) } }
 
   -- entry i fails it
-  pub end-entry : (k : ℕ) {i : ℕ} {test : ℕ → Bool} {ts : List EntryTest} {y : ShardFault}
-      → y ≡ faultIn (suc k) m i → Testing f from to m n (entryTest (suc k) test ∷ ts) → i ≡ first test n → i < n → y ≡ firstFault f from (to - from)
-  end-entry k {i} {test} {ts} u r e l =
-      hit k i (record { left = rw (test-failed n (entryTest (suc k) test) ts e l) at (r .reached .left) }) u
+  end-entry : (k : ℕ) {row i q : ℕ} {test : ℕ → Bool} {ts : List EntryTest} {y : ShardFault} → y ≡ faultIn (suc k) m q → q ≡ rowPlace p n row i
+      → Testing f from to m p n (entryTest (suc k) row test ∷ ts) → i ≡ first test n → i < n → y ≡ firstFault f from (to - from)
+  end-entry k {row} {i} {q} {test} {ts} u o r e l =
+      hit k (rowPlace p n row i) (record { left = rw (test-failed p n (entryTest (suc k) row test) ts e l) at (r .reached .left) }) (u ∙ ap (faultIn (suc k) m) o)
 
   -- all pass the last
-  pub search-next : {k : ℕ} {g h : ℕ → ℕ} {len i sum : ℕ} → Testing f from to m n (entryTest k (outside len g h) ∷ []) → Span g h len n i sum → n ≤ i → Searching f from to (m + 1)
+  pub search-next : {k row : ℕ} {g h : ℕ → ℕ} {len i sum : ℕ} → Testing f from to m p n (entryTest k row (outside len g h) ∷ []) → Span g h len n i sum → n ≤ i → Searching f from to (m + 1)
   unfolding firstOf
   search-next r w l = next (test-next r (span-end w l) .reached)
 
+-- what entry i fails points at its number in the row that begins at s or q in the data, behind `base` bytes
+module _ {f : ℕ → Fault} {from to m n : ℕ} (base : ℕ) where
   -- 10: the place of entry i is another
-  pub end-place : (spec : Sharding) (shard : ℕ) (d : List ℕ) (p : ℕ) {ts : List EntryTest} {i id x own : ℕ} {b : Bool} {y : ShardFault}
-      → y ≡ faultIn 10 m i → Testing f from to m n (placeTest spec shard m d p ∷ ts) → Walk (idSteps d p) (foreignAt spec shard m (idSteps d p)) n i id → i < n
-      → x ≡ leAt 8 d (p + 8 * i) → own ≡ (id + x) % 2 ^ 64 → b ≡ foreign spec shard m own → b ≡ true → y ≡ firstFault f from (to - from)
-  end-place spec shard d p u r w l e o q t = end-entry 9 u r (ours-hit spec shard m w l e o q t) l
+  pub end-place : (spec : Sharding) (shard : ℕ) (d : List ℕ) (s : ℕ) {ts : List EntryTest} {i id x own : ℕ} {b : Bool} {y : ShardFault}
+      → y ≡ faultIn 10 m (base + s + 8 * i) → Testing f from to m (base + s) n (placeTest spec shard m d s ∷ ts) → Walk (idSteps d s) (foreignAt spec shard m (idSteps d s)) n i id → i < n
+      → x ≡ leAt 8 d (s + 8 * i) → own ≡ (id + x) % 2 ^ 64 → b ≡ foreign spec shard m own → b ≡ true → y ≡ firstFault f from (to - from)
+  end-place spec shard d s u r w l e o q t = end-entry 9 u (omega arith) r (ours-hit spec shard m w l e o q t) l
 
   -- 11: its chunk starts past the file, or ends past it
-  module _ (d : List ℕ) (q t len : ℕ) {ts : List EntryTest} {i end x v z : ℕ} {y : ShardFault} (u : y ≡ faultIn 11 m i)
-      (r : Testing f from to m n (entryTest 11 (outside len (rowAt d q) (rowAt d t)) ∷ ts)) (w : Span (rowAt d q) (rowAt d t) len n i end) (l : i < n)
+  module _ (d : List ℕ) (s t len : ℕ) {q : ℕ} (row : q ≡ s + 8 * n) {ts : List EntryTest} {i end x v z : ℕ} {y : ShardFault} (u : y ≡ faultIn 11 m (base + q + 8 * i))
+      (r : Testing f from to m (base + s) n (entryTest 11 1 (outside len (rowAt d q) (rowAt d t)) ∷ ts)) (w : Span (rowAt d q) (rowAt d t) len n i end) (l : i < n)
       (e : x ≡ leAt 8 d (q + 8 * i)) (o : v ≡ (end + x) % 2 ^ 64) (g : z ≡ leAt 8 d (t + 8 * i)) where
     pub end-start : len < v → y ≡ firstFault f from (to - from)
-    end-start h = end-entry 10 u r (span-start-past w l e o g h) l
+    end-start h = end-entry 10 u (omega arith) r (span-start-past w l e o g h) l
 
     pub end-size : v ≤ len → len - v < z → y ≡ firstFault f from (to - from)
-    end-size h k = end-entry 10 u r (span-past w l e o g h k) l
+    end-size h k = end-entry 10 u (omega arith) r (span-past w l e o g h k) l
 
 -- ---- the entry of m in the shard index
 
 module _ (spec : Sharding) (shard : ℕ) (x d : List ℕ) (from to m : ℕ) (r : Searching (faultOf spec shard x d) from to m) (l : m < to)
     (s e : ℕ) (p : s ≡ entryStart x m) (q : e ≡ entryEnd x m) where
-  at : {y : Fault} → y ≡ faultAt spec shard m d s e → Reached (faultOf spec shard x d) from to m y
+  at : {y : Fault} → y ≡ faultAt spec shard m (length x) d s e → Reached (faultOf spec shard x d) from to m y
   at h = reach r l (fault-entry spec shard m x d p q h)
 
-  pub end-before : {y : ShardFault} → y ≡ faultIn 7 m 0 → e < s → y ≡ firstFault (faultOf spec shard x d) from (to - from)
-  end-before u h = hit 6 0 (at (fault-before spec shard m d s e h)) u
+  pub end-before : {y : ShardFault} → y ≡ faultIn 7 m (entryPlace m) → e < s → y ≡ firstFault (faultOf spec shard x d) from (to - from)
+  end-before u h = hit 6 (entryPlace m) (at (fault-before spec shard m (length x) d s e h)) u
 
   pub search-empty : s ≤ e → e ≤ s → Searching (faultOf spec shard x d) from to (m + 1)
-  search-empty h o = next (at (fault-empty spec shard m d s e (omega arith)))
+  search-empty h o = next (at (fault-empty spec shard m (length x) d s e (omega arith)))
 
   module _ (h : s < e) where
-    pub end-past : {y : ShardFault} → y ≡ faultIn 7 m 0 → length d < e → y ≡ firstFault (faultOf spec shard x d) from (to - from)
-    end-past u o = hit 6 0 (at (fault-past spec shard m d s e (omega arith) (λ z. omega arith) o)) u
+    pub end-past : {y : ShardFault} → y ≡ faultIn 7 m (entryPlace m) → length d < e → y ≡ firstFault (faultOf spec shard x d) from (to - from)
+    end-past u o = hit 6 (entryPlace m) (at (fault-past spec shard m (length x) d s e (omega arith) (λ z. omega arith) o)) u
 
-    pub end-ragged : {y : ShardFault} → y ≡ faultIn 8 m 0 → e ≤ length d → ((e - s) % 24 ≡ 0 → ⊥) → y ≡ firstFault (faultOf spec shard x d) from (to - from)
-    end-ragged u o z = hit 7 0 (at (fault-ragged spec shard m d s e (omega arith) o z)) u
+    pub end-ragged : {y : ShardFault} → y ≡ faultIn 8 m (entryPlace m) → e ≤ length d → ((e - s) % 24 ≡ 0 → ⊥) → y ≡ firstFault (faultOf spec shard x d) from (to - from)
+    end-ragged u o z = hit 7 (entryPlace m) (at (fault-ragged spec shard m (length x) d s e (omega arith) o z)) u
 
-    test-ids : e ≤ length d → (e - s) % 24 ≡ 0 → Testing (faultOf spec shard x d) from to m (entryCount s e) (idTest d s ∷ placeTest spec shard m d s ∷ endTest d s (entryCount s e) ∷ [])
+    test-ids : e ≤ length d → (e - s) % 24 ≡ 0 → Testing (faultOf spec shard x d) from to m (length x + s) (entryCount s e) (idTest d s ∷ placeTest spec shard m d s ∷ endTest d s (entryCount s e) ∷ [])
     unfolding entryTests
-    test-ids o z = record { reached = at (fault-entries spec shard m d s e (omega arith) o z) }
+    test-ids o z = record { reached = at (fault-entries spec shard m (length x) d s e (omega arith) o z) }
 
     module _ (o : e ≤ length d) (z : (e - s) % 24 ≡ 0) {i : ℕ} (t : i ≡ firstTwice (idSteps d s) (entryCount s e)) where
       -- 9: entry i has the id of an earlier one
-      pub end-twice : {y : ShardFault} → y ≡ faultIn 9 m i → i < entryCount s e → y ≡ firstFault (faultOf spec shard x d) from (to - from)
-      end-twice u h = end-entry 8 u (test-ids o z) (twice-first (idSteps d s) (entryCount s e) t) h
+      pub end-twice : {y : ShardFault} → y ≡ faultIn 9 m (length x + s + 8 * i) → i < entryCount s e → y ≡ firstFault (faultOf spec shard x d) from (to - from)
+      end-twice u h = end-entry 8 u (omega arith) (test-ids o z) (twice-first (idSteps d s) (entryCount s e) t) h
 
       -- none has
-      pub test-places : entryCount s e ≤ i → Testing (faultOf spec shard x d) from to m (entryCount s e) (placeTest spec shard m d s ∷ endTest d s (entryCount s e) ∷ [])
+      pub test-places : entryCount s e ≤ i → Testing (faultOf spec shard x d) from to m (length x + s) (entryCount s e) (placeTest spec shard m d s ∷ endTest d s (entryCount s e) ∷ [])
       test-places h = test-next (test-ids o z) (twice-none (idSteps d s) (entryCount s e) t h)

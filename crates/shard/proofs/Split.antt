@@ -1,7 +1,7 @@
 -- The two parts of a file, and its length.
 use Prim.Native.Nat.{ℕ, _-_, _<_, _≤_}
 use mathlib.Core.List.{List}
-use mathlib.Core.Path.{_≡_, sym, _∙_, ap}
+use mathlib.Core.Path.{_≡_, sym, _∙_}
 use mathlib.Core.Bool.{true, false, or-true}
 use native.Mathlib.Omega.{arith}
 use lib.ListN.{length, take, drop, length-drop}
@@ -54,5 +54,5 @@ module _ (spec : Sharding) (file : List ℕ) {n : ℕ} (e : n ≡ indexLength sp
   pub rest-short : length file ≤ mostShardBytes → length (restOf n file) ≤ mostShardBytes
   rest-short l = omega (arith, rest-length n file)
 
-  pub parts-fault : (shard m : ℕ) {r : Fault} → r ≡ faultOf spec shard (take n file) (restOf n file) m → r .number ≡ faultOf spec shard (indexPart spec file) (dataPart spec file) m .number
-  parts-fault shard m r = ap (λ (f : Fault). f .number) (rw (rest-whole n file, e) at r)
+  pub parts-fault : (shard m : ℕ) {r : Fault} → r ≡ faultOf spec shard (take n file) (restOf n file) m → r ≡ faultOf spec shard (indexPart spec file) (dataPart spec file) m
+  parts-fault shard m r = rw (rest-whole n file, e) at r

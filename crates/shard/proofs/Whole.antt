@@ -3,6 +3,7 @@ use Prim.Native.Nat.{ℕ, zero, suc, _+_, _-_, _≤_, _<_}
 use mathlib.Core.Path.{_≡_, refl, sym, subst, ap, _∙_}
 use mathlib.Core.Logic.{_⊎_, inl, inr, ⊎-elim, _↔_}
 use mathlib.Core.List.{List}
+use mathlib.Core.Option.{some}
 use native.Mathlib.Nat.{eq-or-lt-of-le}
 use native.Mathlib.Omega.{arith}
 use borrow.Author.Tests.{leb-false, lt-leb, eq-eqb, ne-eqb}
@@ -18,7 +19,7 @@ use Rattle.shard.specs.Checks.{minishardsChecks}
 use Rattle.shard.specs.File.{indexPart, dataPart, fileChecks, shardChecks, verdict, checkAnswer, checkNumber}
 use Rattle.shard.specs.Sound.{SoundShard, FirstFaultIs}
 use Rattle.shard.proofs.Judged.{passes-minishard, minishard-passes}
-use Rattle.shard.proofs.Numbers.{unless-some, Called, file-called, called-file, file-in, minishard-number, minishards-number}
+use Rattle.shard.proofs.Numbers.{unless-some, Called, file-called, called-file, file-in, minishard-number, minishard-position, minishards-number}
 
 -- ---- the first fault of k minishards from m on
 
@@ -30,7 +31,7 @@ later-none : (m : ℕ) (f : Fault) (later : ShardFault) → f .number ≡ 0 → 
 unfolding orLater
 later-none m f later e = rw (eq-eqb (f .number) 0 e)
 
-later-some : (m : ℕ) (f : Fault) (later : ShardFault) → (f .number ≡ 0 → ⊥) → orLater m f later ≡ record { number = f .number; minishard = m; entry = f .entry }
+later-some : (m : ℕ) (f : Fault) (later : ShardFault) → (f .number ≡ 0 → ⊥) → orLater m f later ≡ record { number = f .number; minishard = m; position = f .position }
 unfolding orLater
 later-some m f later n = rw (ne-eqb (f .number) 0 n)
 
@@ -39,7 +40,7 @@ pub record FirstFaulty (f : ℕ → Fault) (m k : ℕ) (r : ShardFault) : Type 0
   pub from : m ≤ r .minishard
   pub below : r .minishard < m + k
   pub number : f (r .minishard) .number ≡ r .number
-  pub entry : f (r .minishard) .entry ≡ r .entry
+  pub position : f (r .minishard) .position ≡ r .position
   pub earlier : (j : ℕ) → m ≤ j → j < r .minishard → f j .number ≡ 0
 
 module _ (f : ℕ → Fault) where
@@ -78,72 +79,74 @@ module _ (f : ℕ → Fault) where
             from = omega (arith, r .from);
             below = omega (arith, r .below);
             number = r .number;
-            entry = r .entry;
+            position = r .position;
             earlier = λ j l h. ⊎-elim (λ e. subst (λ (i : ℕ). f i .number ≡ 0) e z) (λ o. r .earlier j o h) (eq-or-lt-of-le l);
           })
       go ih (inr n) =
           rw (later-some m (f m) (firstFault f (suc m) k) n)
-          (record { from = omega arith; below = omega arith; number = refl; entry = refl; earlier = λ j l h. absurd (omega arith) })
+          (record { from = omega arith; below = omega arith; number = refl; position = refl; earlier = λ j l h. absurd (omega arith) })
 
   -- and minishard i is it, where it has a fault and none before it has
   first-is : (m k i : ℕ) → m ≤ i → i < m + k → ((j : ℕ) → m ≤ j → j < i → f j .number ≡ 0) → (f i .number ≡ 0 → ⊥)
-      → firstFault f m k ≡ record { number = f i .number; minishard = i; entry = f i .entry }
+      → firstFault f m k ≡ record { number = f i .number; minishard = i; position = f i .position }
   unfolding firstFault
   first-is m zero i l h p n = absurd (omega arith)
   first-is m (suc k) i l h p n =
       ⊎-elim
-      (λ e. subst (λ (j : ℕ). orLater m (f m) (firstFault f (suc m) k) ≡ record { number = f j .number; minishard = j; entry = f j .entry }) e
+      (λ e. subst (λ (j : ℕ). orLater m (f m) (firstFault f (suc m) k) ≡ record { number = f j .number; minishard = j; position = f j .position }) e
       (later-some m (f m) (firstFault f (suc m) k) (λ z. n (subst (λ (j : ℕ). f j .number ≡ 0) e z))))
       (λ o. later-none m (f m) (firstFault f (suc m) k) (p m (omega arith) o)
       ∙ first-is (suc m) k i o (omega arith) (λ j a b. p j (omega arith) b) n)
       (eq-or-lt-of-le l)
 
   -- over one minishard it is that minishard's own
-  one-fault : (m : ℕ) → (f m .number ≡ 0 → f m .entry ≡ 0) → (firstFault f m 1 .number ≡ f m .number) × (firstFault f m 1 .entry ≡ f m .entry)
+  one-fault : (m : ℕ) → (f m .number ≡ 0 → f m .position ≡ 0) → (firstFault f m 1 .number ≡ f m .number) × (firstFault f m 1 .position ≡ f m .position)
   unfolding firstFault
   one-fault m h = go (zero-or (f m .number))
     where
-      go : (f m .number ≡ 0) ⊎ (f m .number ≡ 0 → ⊥) → (orLater m (f m) noFault .number ≡ f m .number) × (orLater m (f m) noFault .entry ≡ f m .entry)
+      go : (f m .number ≡ 0) ⊎ (f m .number ≡ 0 → ⊥) → (orLater m (f m) noFault .number ≡ f m .number) × (orLater m (f m) noFault .position ≡ f m .position)
       go (inl z) = rw (later-none m (f m) noFault z) (sym z, sym (h z))
       go (inr n) = rw (later-some m (f m) noFault n) (refl, refl)
 
 -- the fault of minishard m, told by the judge of m alone
-pub own-fault : (spec : Sharding) (shard : ℕ) (x d : List ℕ) (m : ℕ) {r : ShardFault} → r ≡ firstFault (faultOf spec shard x d) m (m + 1 - m) → record { number = r .number; entry = r .entry } ≡ faultOf spec shard x d m
+pub own-fault : (spec : Sharding) (shard : ℕ) (x d : List ℕ) (m : ℕ) {r : ShardFault} → r ≡ firstFault (faultOf spec shard x d) m (m + 1 - m) → record { number = r .number; position = r .position } ≡ faultOf spec shard x d m
 own-fault spec shard x d m e =
     let one : m + 1 - m ≡ 1 = omega arith in
-    let q = one-fault (faultOf spec shard x d) m (λ z. ap (λ (g : Fault). g .entry) (minishard-passes spec shard x d m (passes-minishard spec shard x d m z))) in
-    rw (e, one) (λ i. record { number = q .0 i; entry = q .1 i })
+    let q = one-fault (faultOf spec shard x d) m (λ z. ap (λ (g : Fault). g .position) (minishard-passes spec shard x d m (passes-minishard spec shard x d m z))) in
+    rw (e, one) (λ i. record { number = q .0 i; position = q .1 i })
 
--- ---- its answer: a refusal of the call, with the number a, or else a fault of minishard m, with the number n
+-- ---- its answer: a refusal of the call, with the number a, or else the first fault
 
-check-of : (a n m : ℕ) → checkNumber (unless Refused a (unless (λ k. Faulty k m) n Sound)) ≡ orElse a n
-unfolding unless orElse
-check-of zero zero m = refl
-check-of zero (suc n) m = refl
-check-of (suc a) n m = refl
+check-of : (a : ℕ) (f : ShardFault) → checkNumber (unless Refused a (verdict f)) ≡ orElse a (f .number)
+check-of a f = go a (f .number)
+  where
+    go : (a n : ℕ) → checkNumber (unless Refused a (unless (λ k. Faulty k (f .minishard) (f .position)) n Sound)) ≡ orElse a n
+    go zero zero = unfold unless orElse in refl
+    go zero (suc n) = unfold unless orElse in refl
+    go (suc a) n = unfold unless orElse in refl
 
-given-sound : (a n m : ℕ) → unless Refused a (unless (λ k. Faulty k m) n Sound) ≡ Sound → (a ≡ 0) × (n ≡ 0)
+given-sound : (a n m p : ℕ) → unless Refused a (unless (λ k. Faulty k m p) n Sound) ≡ Sound → (a ≡ 0) × (n ≡ 0)
 unfolding unless
-given-sound zero zero m e = (refl, refl)
-given-sound zero (suc n) m e = let z : _≡_ {A = ℕ} 0 1 = cc in absurd (omega arith)
-given-sound (suc a) n m e = let z : _≡_ {A = ℕ} 0 1 = cc in absurd (omega arith)
+given-sound zero zero m p e = (refl, refl)
+given-sound zero (suc n) m p e = let z : _≡_ {A = ℕ} 0 1 = cc in absurd (omega arith)
+given-sound (suc a) n m p e = let z : _≡_ {A = ℕ} 0 1 = cc in absurd (omega arith)
 
-given-none : (a n m : ℕ) → checkNumber (unless Refused a (unless (λ k. Faulty k m) n Sound)) ≡ 0 → unless Refused a (unless (λ k. Faulty k m) n Sound) ≡ Sound
+given-none : (a n m p : ℕ) → checkNumber (unless Refused a (unless (λ k. Faulty k m p) n Sound)) ≡ 0 → unless Refused a (unless (λ k. Faulty k m p) n Sound) ≡ Sound
 unfolding unless
-given-none zero zero m e = refl
-given-none zero (suc n) m e = absurd (omega arith)
-given-none (suc a) n m e = absurd (omega arith)
+given-none zero zero m p e = refl
+given-none zero (suc n) m p e = absurd (omega arith)
+given-none (suc a) n m p e = absurd (omega arith)
 
-given-faulty : (a n i k m : ℕ) → unless Refused a (unless (λ j. Faulty j i) n Sound) ≡ Faulty k m → (a ≡ 0) × (n ≡ 0 → ⊥) × (n ≡ k) × (i ≡ m)
+given-faulty : (a n i q k m p : ℕ) → unless Refused a (unless (λ j. Faulty j i q) n Sound) ≡ Faulty k m p → (a ≡ 0) × (n ≡ 0 → ⊥) × (n ≡ k) × (i ≡ m) × (q ≡ p)
 unfolding unless
-given-faulty zero zero i k m e = let z : _≡_ {A = ℕ} 0 1 = cc in absurd (omega arith)
-given-faulty zero (suc n) i k m e = (refl, λ z. omega arith, cc, cc)
-given-faulty (suc a) n i k m e = let z : _≡_ {A = ℕ} 0 1 = cc in absurd (omega arith)
+given-faulty zero zero i q k m p e = let z : _≡_ {A = ℕ} 0 1 = cc in absurd (omega arith)
+given-faulty zero (suc n) i q k m p e = (refl, λ z. omega arith, cc, cc, cc)
+given-faulty (suc a) n i q k m p e = let z : _≡_ {A = ℕ} 0 1 = cc in absurd (omega arith)
 
-never-refused : (n i k : ℕ) → unless (λ j. Faulty j i) n Sound ≡ Refused k → _≡_ {A = ℕ} 0 1
+never-refused : (n i q k : ℕ) → unless (λ j. Faulty j i q) n Sound ≡ Refused k → _≡_ {A = ℕ} 0 1
 unfolding unless
-never-refused zero i k e = cc
-never-refused (suc n) i k e = cc
+never-refused zero i q k e = cc
+never-refused (suc n) i q k e = cc
 
 module _ (spec : Sharding) (shard : ℕ) (file : List ℕ) where
   abbrev index : List ℕ
@@ -159,7 +162,7 @@ module _ (spec : Sharding) (shard : ℕ) (file : List ℕ) where
   pub check-number : checkNumber (checkAnswer spec shard file) ≡ firstNumber (shardChecks spec shard file)
   unfolding checkAnswer shardChecks shardFault
   check-number =
-      check-of (firstNumber (fileChecks spec (noSuchShard spec shard) file)) (firstFault f 0 (minishardCount spec) .number) (firstFault f 0 (minishardCount spec) .minishard)
+      check-of (firstNumber (fileChecks spec (noSuchShard spec shard) file)) (firstFault f 0 (minishardCount spec))
       ∙ sym
       (first-both (fileChecks spec (noSuchShard spec shard) file) (minishardsChecks spec shard index d 0 (minishardCount spec)) (file-in spec (noSuchShard spec shard) file)
       ∙ ap (orElse (firstNumber (fileChecks spec (noSuchShard spec shard) file))) (minishards-number spec shard index d 0 (minishardCount spec)))
@@ -167,12 +170,12 @@ module _ (spec : Sharding) (shard : ℕ) (file : List ℕ) where
   -- 1, 5 and 6 come alone
   pub check-refuses : Refuses (checkAnswer spec shard file) Refused (fileChecks spec (noSuchShard spec shard) file)
   unfolding checkAnswer fileChecks
-  check-refuses = refuses Refused (λ j k e. cc) (fileChecks spec (noSuchShard spec shard) file) _ refl (never-refused _ _)
+  check-refuses = refuses Refused (λ j k e. cc) (fileChecks spec (noSuchShard spec shard) file) _ refl (never-refused _ _ _)
 
   pub check-passes-sound : checkAnswer spec shard file ≡ Sound → SoundShard spec shard file
   unfolding checkAnswer shardFault
   check-passes-sound p =
-      let q = given-sound _ _ _ p in
+      let q = given-sound _ _ _ _ p in
       let c = file-called spec (noSuchShard spec shard) file (q .0) in
       record {
         permitted = c .permitted;
@@ -194,16 +197,16 @@ module _ (spec : Sharding) (shard : ℕ) (file : List ℕ) where
   -- it passes exactly where no check of the shard holds
   pub check-passes : (checkAnswer spec shard file ≡ Sound) ↔ (firstNumber (shardChecks spec shard file) ≡ 0)
   unfolding checkAnswer
-  check-passes = ((λ e. sym check-number ∙ ap checkNumber e), (λ z. given-none _ _ _ (check-number ∙ z)))
+  check-passes = ((λ e. sym check-number ∙ ap checkNumber e), (λ z. given-none _ _ _ _ (check-number ∙ z)))
 
-  -- it names minishard m with k exactly where m is the first with a fault and k is the first number that holds of it
-  pub check-names : (k m : ℕ) → (checkAnswer spec shard file ≡ Faulty k m) ↔ FirstFaultIs spec shard file k m
+  -- it names minishard m with k and p exactly where m is the first with a fault, k is the first number that holds of it and p its position
+  pub check-names : (k m p : ℕ) → (checkAnswer spec shard file ≡ Faulty k m p) ↔ FirstFaultIs spec shard file k m p
   unfolding checkAnswer shardFault unless
-  check-names k m = ((λ p. told p), (λ g. tells g))
+  check-names k m p = ((λ e. told e), (λ g. tells g))
     where
-      told : unless Refused (firstNumber (fileChecks spec (noSuchShard spec shard) file)) (verdict (firstFault f 0 (minishardCount spec))) ≡ Faulty k m → FirstFaultIs spec shard file k m
-      told p =
-          let v = given-faulty _ _ _ k m p in
+      told : unless Refused (firstNumber (fileChecks spec (noSuchShard spec shard) file)) (verdict (firstFault f 0 (minishardCount spec))) ≡ Faulty k m p → FirstFaultIs spec shard file k m p
+      told t =
+          let v = given-faulty _ _ _ _ k m p t in
           let h = first-faulty f 0 (minishardCount spec) (v .1) in
           let same = v .3 in
           record {
@@ -211,17 +214,21 @@ module _ (spec : Sharding) (shard : ℕ) (file : List ℕ) where
             below = omega (arith, h .below, same);
             earlier = λ j l. passes-minishard spec shard index d j (h .earlier j (omega arith) (omega (arith, same)));
             number = minishard-number spec shard index d m ∙ (rw same at (h .number)) ∙ v .2;
+            position = minishard-position spec shard index d m (λ z. v .1 (sym (rw same at (h .number)) ∙ z)) ∙ ap some ((rw same at (h .position)) ∙ v .4);
             faulty = λ z. v .1 (v .2 ∙ z);
           }
 
-      tells : FirstFaultIs spec shard file k m → unless Refused (firstNumber (fileChecks spec (noSuchShard spec shard) file)) (verdict (firstFault f 0 (minishardCount spec))) ≡ Faulty k m
+      tells : FirstFaultIs spec shard file k m p → unless Refused (firstNumber (fileChecks spec (noSuchShard spec shard) file)) (verdict (firstFault f 0 (minishardCount spec))) ≡ Faulty k m p
       tells g =
           let number : f m .number ≡ k = sym (minishard-number spec shard index d m) ∙ g .number in
+          let same = sym (minishard-position spec shard index d m (λ z. g .faulty (sym number ∙ z))) ∙ g .position in
+          let place : f m .position ≡ p = cc in
           rw (
             g .called,
             first-is f 0 (minishardCount spec) m (omega arith) (omega (arith, g .below))
                 (λ j a b. ap (λ (x : Fault). x .number) (minishard-passes spec shard index d j (g .earlier j b)))
                 (λ z. g .faulty (sym number ∙ z)),
             number,
+            place,
           )
-          (sym (unless-some (λ j. Faulty j m) k Sound (g .faulty)))
+          (sym (unless-some (λ j. Faulty j m p) k Sound (g .faulty)))

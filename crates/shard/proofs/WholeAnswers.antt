@@ -50,8 +50,8 @@ module _ (spec : Sharding) (shard : ℕ) (file : List ℕ) {b : Bool} (p : b ≡
           (e : f ≡ shardFault spec shard (indexPart spec file) (dataPart spec file)) where
         pub check-sound : f .number ≡ 0 → Sound ≡ checkAnswer spec shard file
         check-sound z =
-            rw (check-picks spec shard file, told-yes p q, ← u, lt-leb c shard l, length-good spec w k h, ← e) (unless-none (λ j. Faulty j (f .minishard)) _ _ z)
+            rw (check-picks spec shard file, told-yes p q, ← u, lt-leb c shard l, length-good spec w k h, ← e) (unless-none (λ j. Faulty j (f .minishard) (f .position)) _ _ z)
 
-        pub check-fault : (f .number ≡ 0 → ⊥) → Faulty (f .number) (f .minishard) ≡ checkAnswer spec shard file
+        pub check-fault : (f .number ≡ 0 → ⊥) → Faulty (f .number) (f .minishard) (f .position) ≡ checkAnswer spec shard file
         check-fault z =
-            rw (check-picks spec shard file, told-yes p q, ← u, lt-leb c shard l, length-good spec w k h, ← e) (unless-some (λ j. Faulty j (f .minishard)) _ _ z)
+            rw (check-picks spec shard file, told-yes p q, ← u, lt-leb c shard l, length-good spec w k h, ← e) (unless-some (λ j. Faulty j (f .minishard) (f .position)) _ _ z)

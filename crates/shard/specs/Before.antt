@@ -38,9 +38,9 @@ outsideBefore n starts size i = ltb n (exactStart starts size i + size i)
 
 unfoldable pub entryTestsBefore : Sharding → ℕ → ℕ → List ℕ → ℕ → ℕ → List EntryTest
 entryTestsBefore spec shard m d s n =
-    entryTest 9 (badIdBefore (idSteps d s))
-    ∷ entryTest 10 (foreignBefore spec shard m (idSteps d s))
-    ∷ entryTest 11 (outsideBefore (length d) (startSteps d s n) (sizes d s n))
+    entryTest 9 0 (badIdBefore (idSteps d s))
+    ∷ entryTest 10 0 (foreignBefore spec shard m (idSteps d s))
+    ∷ entryTest 11 1 (outsideBefore (length d) (startSteps d s n) (sizes d s n))
     ∷ []
 
 -- the checks of minishard m, of k minishards from m on, and of a shard
@@ -49,7 +49,7 @@ minishardChecksBefore spec shard index d m =
     let s = entryStart index m in
     let e = entryEnd index m in
     let n = entryCount s e in
-    check 7 (badEntry d s e) ∷ check 8 (badLength s e) ∷ entryChecks n (entryTestsBefore spec shard m d s n)
+    check 7 (badEntry d s e) ∷ check 8 (badLength s e) ∷ entryChecks (length index + s) n (entryTestsBefore spec shard m d s n)
 
 unfoldable pub minishardsChecksBefore : Sharding → ℕ → List ℕ → List ℕ → ℕ → ℕ → List Check
 minishardsChecksBefore spec shard index d m zero = []

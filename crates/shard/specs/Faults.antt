@@ -1,6 +1,7 @@
 -- The tests 7 to 11 of a minishard (01, 'Refusal numbers'): each runs over all entries before the next.
--- A fault has the number of the test and the entry, counted from 0, that fails it first (0 for 7 and 8, which speak of no entry); number 0 is no fault.
-use Prim.Native.Nat.{ℕ, zero, suc, _-_, _%_}
+-- A fault has the number of the test and its position (02, order 6): the place of the bytes that fail it, counted from the beginning of the shard.
+-- Number 0 is no fault.
+use Prim.Native.Nat.{ℕ, zero, suc, _+_, _*_, _-_, _%_}
 use mathlib.Core.Bool.{Bool, not, _||_, _&&_}
 use mathlib.Core.List.{List, [], _∷_}
 use lib.Dec.{ltb, eqb}
@@ -16,7 +17,19 @@ use Rattle.shard.specs.declared.judge.ShardFault.{ShardFault}
 use Rattle.shard.specs.Index.{entryStart, entryEnd, entryCount, idSteps, startSteps, sizes, idAt, endAt}
 
 abbrev pub fault : ℕ → ℕ → Fault
-fault number entry = record { number = number; entry = entry }
+fault number position = record { number = number; position = position }
+
+-- ---- positions
+
+-- of 7 and 8: the entry of minishard m in the shard index
+abbrev pub entryPlace : ℕ → ℕ
+entryPlace m = 16 * m
+
+-- of the others: the number of entry i in one of the three rows (0 id steps, 1 start steps, 2 sizes) of the minishard index of n entries at p
+abbrev pub rowPlace : ℕ → ℕ → ℕ → ℕ → ℕ
+rowPlace p n row i = p + 8 * (row * n + i)
+
+-- ---- the tests
 
 -- test 7 of an entry of the shard index: start after end, or start before end and its end past the file
 unfoldable pub badEntry : List ℕ → ℕ → ℕ → Bool
@@ -43,54 +56,59 @@ outside n starts size i = ltb n (endAt starts size i)
 
 -- ---- the tests over entries, as a list
 
--- a test: its number, and whether entry i fails it
+-- a test: its number, the row that its position points at, and whether entry i fails it
 pub record EntryTest : Type 0 where
   pub number : ℕ
+  pub row : ℕ
   pub fails : ℕ → Bool
 
-abbrev pub entryTest : ℕ → (ℕ → Bool) → EntryTest
-entryTest number fails = record { number = number; fails = fails }
+abbrev pub entryTest : ℕ → ℕ → (ℕ → Bool) → EntryTest
+entryTest number row fails = record { number = number; row = row; fails = fails }
 
 -- those of the minishard index of n entries at s
 abbrev pub idTest : List ℕ → ℕ → EntryTest
-idTest d s = entryTest 9 (badId (idSteps d s))
+idTest d s = entryTest 9 0 (badId (idSteps d s))
 
 abbrev pub placeTest : Sharding → ℕ → ℕ → List ℕ → ℕ → EntryTest
-placeTest spec shard m d s = entryTest 10 (foreignAt spec shard m (idSteps d s))
+placeTest spec shard m d s = entryTest 10 0 (foreignAt spec shard m (idSteps d s))
 
 abbrev pub endTest : List ℕ → ℕ → ℕ → EntryTest
-endTest d s n = entryTest 11 (outside (length d) (startSteps d s n) (sizes d s n))
+endTest d s n = entryTest 11 1 (outside (length d) (startSteps d s n) (sizes d s n))
 
 -- in the order in which they run
 unfoldable pub entryTests : Sharding → ℕ → ℕ → List ℕ → ℕ → ℕ → List EntryTest
 entryTests spec shard m d s n = idTest d s ∷ placeTest spec shard m d s ∷ endTest d s n ∷ []
 
--- each test runs over all n entries before the next: the first that some entry fails, with the first entry that fails it
-unfoldable pub firstOf : ℕ → List EntryTest → Fault
-firstOf n [] = fault 0 0
-firstOf n (t ∷ ts) = pick (anyBelow n (t .fails)) (fault (t .number) (first (t .fails) n)) (firstOf n ts)
+-- where a test points in the minishard index of n entries at p: at the first entry that fails it
+abbrev pub testPlace : ℕ → ℕ → EntryTest → ℕ
+testPlace p n t = rowPlace p n (t .row) (first (t .fails) n)
+
+-- each test runs over all n entries before the next: the first that some entry fails
+unfoldable pub firstOf : ℕ → ℕ → List EntryTest → Fault
+firstOf p n [] = fault 0 0
+firstOf p n (t ∷ ts) = pick (anyBelow n (t .fails)) (fault (t .number) (testPlace p n t)) (firstOf p n ts)
 
 -- ---- a minishard
 
--- the fault of minishard m, whose minishard index stands in d from s to e
-unfoldable pub faultAt : Sharding → ℕ → ℕ → List ℕ → ℕ → ℕ → Fault
-faultAt spec shard m d s e =
+-- the fault of minishard m, whose minishard index stands in d from s to e, behind a shard index of `base` bytes
+unfoldable pub faultAt : Sharding → ℕ → ℕ → ℕ → List ℕ → ℕ → ℕ → Fault
+faultAt spec shard m base d s e =
     let n = entryCount s e in
-    pick (badEntry d s e) (fault 7 0)
-    (pick (badLength s e) (fault 8 0)
-    (firstOf n (entryTests spec shard m d s n)))
+    pick (badEntry d s e) (fault 7 (entryPlace m))
+    (pick (badLength s e) (fault 8 (entryPlace m))
+    (firstOf (base + s) n (entryTests spec shard m d s n)))
 
 unfoldable pub faultOf : Sharding → ℕ → List ℕ → List ℕ → ℕ → Fault
-faultOf spec shard index d m = faultAt spec shard m d (entryStart index m) (entryEnd index m)
+faultOf spec shard index d m = faultAt spec shard m (length index) d (entryStart index m) (entryEnd index m)
 
 -- ---- minishards in number order, the first with a fault
 
 abbrev pub noFault : ShardFault
-noFault = record { number = 0; minishard = 0; entry = 0 }
+noFault = record { number = 0; minishard = 0; position = 0 }
 
 -- the fault of minishard m, or, where it has none, what comes later
 unfoldable pub orLater : ℕ → Fault → ShardFault → ShardFault
-orLater m f later = pick (eqb (f .number) 0) later (record { number = f .number; minishard = m; entry = f .entry })
+orLater m f later = pick (eqb (f .number) 0) later (record { number = f .number; minishard = m; position = f .position })
 
 -- of k minishards from m on, with the faults f
 unfoldable pub firstFault : (ℕ → Fault) → ℕ → ℕ → ShardFault

@@ -46,9 +46,9 @@ shardChecks spec shard file =
 
 -- ---- the whole-shard check
 
--- what it says of the first fault: 7 to 11 come with the minishard
+-- what it says of the first fault: 7 to 11 come with the minishard and the position (02, order 6)
 abbrev pub verdict : ShardFault → CheckAnswer
-verdict f = unless (λ k. Faulty k (f .minishard)) (f .number) Sound
+verdict f = unless (λ k. Faulty k (f .minishard) (f .position)) (f .number) Sound
 
 unfoldable pub checkAnswer : Sharding → ℕ → List ℕ → CheckAnswer
 checkAnswer spec shard file =
@@ -59,4 +59,4 @@ checkAnswer spec shard file =
 abbrev pub checkNumber : CheckAnswer → ℕ
 checkNumber Sound = 0
 checkNumber (Refused k) = k
-checkNumber (Faulty k m) = k
+checkNumber (Faulty k m p) = k

@@ -4,8 +4,9 @@ use mathlib.Core.Path.{_≡_}
 use mathlib.Core.Bool.{true}
 use mathlib.Core.Logic.{_⊎_}
 use mathlib.Core.List.{List}
+use mathlib.Core.Option.{some}
 use lib.ListN.{length}
-use Rattle.refusal.specs.Checks.{firstNumber}
+use Rattle.refusal.specs.Checks.{firstNumber, firstPosition}
 use Rattle.sharding.specs.declared.Sharding.{Sharding}
 use Rattle.sharding.specs.Specification.{allowed, minishardCount, shardCount, noSuchShard}
 use Rattle.sharding.specs.Place.{shardOf, minishardOf}
@@ -41,10 +42,11 @@ pub record SoundShard (spec : Sharding) (shard : ℕ) (file : List ℕ) : Type 0
 
 -- ---- which are not
 
--- none of 1, 5 and 6 holds; minishard m is the first, in number order, with a fault, and k is the first number that holds of it
-pub record FirstFaultIs (spec : Sharding) (shard : ℕ) (file : List ℕ) (k m : ℕ) : Type 0 where
+-- none of 1, 5 and 6 holds; minishard m is the first, in number order, with a fault, k is the first number that holds of it, and p its position
+pub record FirstFaultIs (spec : Sharding) (shard : ℕ) (file : List ℕ) (k m p : ℕ) : Type 0 where
   pub called : firstNumber (fileChecks spec (noSuchShard spec shard) file) ≡ 0
   pub below : m < minishardCount spec
   pub earlier : (j : ℕ) → j < m → SoundMinishard spec shard (indexPart spec file) (dataPart spec file) j
   pub number : firstNumber (minishardChecks spec shard (indexPart spec file) (dataPart spec file) m) ≡ k
+  pub position : firstPosition (minishardChecks spec shard (indexPart spec file) (dataPart spec file) m) ≡ some p
   pub faulty : k ≡ 0 → ⊥

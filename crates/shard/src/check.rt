@@ -33,7 +33,7 @@ fn first_fault_in(spec: Sharding, shard: u64, file: &[u8]) -> ShardFault
     )
 }
 
-// Whether a shard is sound; else the refusal or the fault, with the first faulty minishard.
+// Whether a shard is sound; else the refusal or the fault, with the first faulty minishard and the position.
 pub fn check(spec: Sharding, shard: u64, file: &[u8]) -> CheckAnswer
     ensures answer { λ r. ⌜ r ≡ checkAnswer spec shard (now (file .entry)) ⌝ }
 {
@@ -56,5 +56,6 @@ pub fn check(spec: Sharding, shard: u64, file: &[u8]) -> CheckAnswer
     CheckAnswer::Faulty {
         number: found.number,
         minishard: found.minishard,
+        position: found.position,
     }
 }

@@ -5,24 +5,25 @@ ghost use Prim.Native.Nat.{_+_, _*_, _-_, _<_, _≤_};
 ghost use lib.ListN.{length};
 ghost use Rattle.sharding.specs.Specification.{allowed, minishardCount};
 ghost use Rattle.shard.specs.Index.{entryStart, entryEnd};
-ghost use Rattle.shard.specs.Faults.{foreign, faultOf, firstFault};
+ghost use Rattle.shard.specs.Faults.{entryPlace, foreign, faultOf, firstFault};
 ghost use Rattle.shard.specs.File.{mostShardBytes, indexLength};
 use endian::inner::read_u64;
 use sharding::Sharding;
 use sharding::inner::place;
 use twice::inner::first_twice;
 
-// The first test that a minishard fails, with the entry that fails it first; number 0 where it is sound.
+// The first test that a minishard fails, with the byte position, counted from the beginning of the shard, of what fails it;
+// number 0 where it is sound.
 pub struct Fault {
     pub number: u8,
-    pub entry: u64,
+    pub position: u64,
 }
 
 // The same of several minishards: of the first that has one.
 pub struct ShardFault {
     pub number: u8,
     pub minishard: u64,
-    pub entry: u64,
+    pub position: u64,
 }
 
 pub fn entry_start(index: &[u8], m: u64) -> u64
@@ -48,14 +49,30 @@ fn is_foreign(spec: Sharding, shard: u64, m: u64, id: u64) -> bool
     (at.shard != shard) | (at.minishard != m)
 }
 
-fn fault_at(number: u8, minishard: u64, entry: usize) -> ShardFault
-    ensures { λ r. ⌜ r ≡ record { number = number; minishard = minishard; entry = entry } ⌝ }
+fn fault_at(number: u8, minishard: u64, position: usize) -> ShardFault
+    ensures { λ r. ⌜ r ≡ record { number = number; minishard = minishard; position = position } ⌝ }
 {
     ShardFault {
         number,
         minishard,
-        entry: entry as u64,
+        position: position as u64,
     }
+}
+
+// 7 and 8 point at the minishard's entry in the shard index.
+fn entry_fault(number: u8, minishard: u64) -> ShardFault
+    requires { ⌜ minishard < 1073741824 ⌝ }
+    ensures { λ r. ⌜ r ≡ record { number = number; minishard = minishard; position = entryPlace minishard } ⌝ }
+{
+    fault_at(number, minishard, 16 * minishard as usize)
+}
+
+// The others at number i of a row, which begins in the data at `row`, behind a shard index of `base` bytes.
+fn row_fault(number: u8, minishard: u64, base: usize, row: usize, i: usize) -> ShardFault
+    requires { ⌜ base + row + 8 * i < 18446744073709551616 ⌝ }
+    ensures { λ r. ⌜ r ≡ record { number = number; minishard = minishard; position = base + row + 8 * i } ⌝ }
+{
+    fault_at(number, minishard, base + row + 8 * i)
 }
 
 // Of the minishards from `from` up to `to`, end excluded, the first with a fault. A minishard's tests 9, 10 and 11 run over
@@ -72,6 +89,7 @@ pub fn first_fault(
     requires { ⌜ (length (now index) ≡ indexLength spec) × (length (now «data») ≤ mostShardBytes) × (to ≤ minishardCount spec) ⌝ }
     ensures { λ r. ⌜ r ≡ firstFault (faultOf spec shard (now (index .entry)) (now («data» .entry))) from (to - from) ⌝ }
 {
+    let base = index.len();
     let len = data.len() as u64;
     let mut found = fault_at(0, 0, 0);
     let mut m = from;
@@ -79,23 +97,23 @@ pub fn first_fault(
         let s = entry_start(index, m);
         let e = entry_end(index, m);
         if e < s {
-            found = fault_at(7, m, 0);
+            found = entry_fault(7, m);
             break 'minishards;
         }
         if s < e {
             if len < e {
-                found = fault_at(7, m, 0);
+                found = entry_fault(7, m);
                 break 'minishards;
             }
             if (e - s) % 24 != 0 {
-                found = fault_at(8, m, 0);
+                found = entry_fault(8, m);
                 break 'minishards;
             }
             let p = s as usize;
             let n = ((e - s) / 24) as usize;
             let again = first_twice(data, p, n);
             if again < n {
-                found = fault_at(9, m, again);
+                found = row_fault(9, m, base, p, again);
                 break 'minishards;
             }
             let mut own: u64 = 0;
@@ -103,7 +121,7 @@ pub fn first_fault(
             'places: while j < n {
                 own = std::num::wrapping_add_u64(own, read_u64(data, p + 8 * j));
                 if is_foreign(spec, shard, m, own) {
-                    found = fault_at(10, m, j);
+                    found = row_fault(10, m, base, p, j);
                     break 'minishards;
                 }
                 j += 1;
@@ -116,11 +134,11 @@ pub fn first_fault(
                 let start = std::num::wrapping_add_u64(end, read_u64(data, q + 8 * k));
                 let size = read_u64(data, t + 8 * k);
                 if len < start {
-                    found = fault_at(11, m, k);
+                    found = row_fault(11, m, base, q, k);
                     break 'minishards;
                 }
                 if len - start < size {
-                    found = fault_at(11, m, k);
+                    found = row_fault(11, m, base, q, k);
                     break 'minishards;
                 }
                 end = start + size;
@@ -142,6 +160,6 @@ pub fn judge(spec: Sharding, shard: u64, index: &[u8], data: &[u8], m: u64) -> F
     let found = first_fault(spec, shard, index, data, m, m + 1);
     Fault {
         number: found.number,
-        entry: found.entry,
+        position: found.position,
     }
 }

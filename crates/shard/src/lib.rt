@@ -3,9 +3,14 @@ pub mod check;
 pub mod inner;
 pub mod judge;
 
-// What the whole-shard check answers: 7 to 11 come with the first faulty minishard.
+// What the whole-shard check answers: 7 to 11 come with the first faulty minishard and the byte position of what is wrong there,
+// counted from the beginning of the shard.
 pub enum CheckAnswer {
     Sound,
     Refused(u8),
-    Faulty { number: u8, minishard: u64 },
+    Faulty {
+        number: u8,
+        minishard: u64,
+        position: u64,
+    },
 }

@@ -2,7 +2,6 @@
 use mathlib.Core.Path.{ap, _∙_}
 use mathlib.Core.Logic.{inl, inr}
 use native.Mathlib.Omega.{arith, by-contra}
-use Rattle.refusal.specs.declared.Written.the-variants.{Length}
 use Rattle.grid.proofs.Laws.{keyed, cell-gives-key-gives-cell, accepted-key}
 use Rattle.shard.proofs.Leads.{volume-leads}
 use Rattle.shard.proofs.Chunks.{same-listing-is-same-chunks}
@@ -13,6 +12,7 @@ use Rattle.lookup.proofs.Depends.{lookup-depends-only-on-these}
 use Rattle.listing.proofs.Refused.{count-refuses, listing-refuses, listing-kept}
 use Rattle.listing.proofs.Listed.{listing-says-what-is-listed}
 use Rattle.form.proofs.Demand3.{file-form-length, demand-3-one-form, demand-3-same, demand-3-form-passes, demand-3-form-lists}
+use Rattle.settle.specs.declared.SettleAnswer.the-variants.{Length}
 use Rattle.settle.proofs.Refused.{length-refuses, settle-refuses, settle-kept}
 use Rattle.settle.proofs.Demand3.{demand-3-form-settles, demand-3-length, demand-3-length-refused, demand-3-refused, demand-3-written}
 use Rattle.card.proofs.Meaning.{one-meaning-one-card}

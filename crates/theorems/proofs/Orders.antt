@@ -25,7 +25,8 @@ use Rattle.shard.proofs.Earlier.{earlier-sound, earlier-passes}
 use Rattle.form.proofs.Earlier.{earlier-form}
 use Rattle.settle.proofs.Demand3.{demand-3-written}
 use Rattle.cover.proofs.Laws.{listed-is, cell-listed, keys-rise, reversed-lists-none, outside-lists-none, keys-written}
-use Rattle.theorems.specs.Orders.{Order2, Order4, Order5}
+use Rattle.positions.proofs.Points.{check-points, lookup-points, count-points, listing-points, length-named, settle-named}
+use Rattle.theorems.specs.Orders.{Order2, Order4, Order5, Order6}
 
 pub order-2 : Order2
 order-2 = record {
@@ -88,3 +89,6 @@ order-5 = record {
   beside = outside-lists-none;
   written = keys-written;
 }
+
+pub order-6 : Order6
+order-6 = record { check = check-points; lookup = lookup-points; count = count-points; listing = listing-points; formLength = length-named; settle = settle-named }

@@ -5,7 +5,7 @@ use mathlib.Core.List.{List, [], _∷_, map}
 use lib.Dec.{eqb}
 use lib.Ieee.{ofBits, toBits, add, mul, ofInt}
 use Rattle.refusal.specs.Choice.{pick}
-use Rattle.refusal.specs.Checks.{firstNumber, unless}
+use Rattle.refusal.specs.Checks.{firstNumber, firstPosition, unless}
 use Rattle.endian.specs.Little.{le, leAt, row}
 use Rattle.endian.specs.Range.{sumTo, every, anyBelow, first}
 use Rattle.grid.specs.Grid.{gridSize, gridOf, hasZero, zeroExtent, inGrid}
@@ -49,5 +49,5 @@ others [] = []
 others (x ∷ xs) = xs
 
 pub cases-hold : map answered table ≡ table
-unfolding others answered table voxels shifted buffer content settledFile otherFile zeros real items manifest ofBits toBits add mul ofInt firstNumber unless le leAt row sumTo every anyBelow first gridSize gridOf hasZero zeroExtent inGrid bitOf used count step steps keyOf keyBits tooManyBits into stepBack stepsBack cellOf isKey beginOf endOf beginPoint endPoint boundsOf noCell gridChecks gridAnswer keyChecks keyAnswer cellChecks cellAnswer boundsChecks boundsAnswer allowed hashedId shardOf minishardOf placeChecks placeAnswer digitByte digits shardDigits shardName shardNameChecks shardNameAnswer shardNameLeft idAt startAt badEntry badLength repeats foreign foreignAt outside entryTests entryChecks minishardChecks minishardsChecks badFileLength fileChecks shardChecks leadLength itemOf itemAt isId chunkOf chosenChecks chosenChunk lookupChecks lookupAnswer notAbove insertBy sortBy chunksOf chunksLength idRow startRow sizeRow indexOf partOf partLength partsFrom partsLength entryBegin entryFinish entriesFrom settled settledLength itemsFrom itemsAt byId contentFrom contentOf formOf formLength tooLong settleCheck settleChecks settleAnswer settleLeft zDigit zFrom wordAt isReal countOf sizeAt finiteBits aboveZero realAt rightLength realFits realsFit inOrder levelRises riseAt nodesRise manifestChecks headerAt hasNode levelBytes fragmentStart nodeIn nodeAt nodeChecks finite nearOf farOf nearCorner farCorner boxOf placed finiteCorner boxChecks cornersChecks cornersAnswer
+unfolding others answered table voxels shifted buffer content settledFile otherFile zeros real items manifest ofBits toBits add mul ofInt firstNumber firstPosition unless le leAt row sumTo every anyBelow first gridSize gridOf hasZero zeroExtent inGrid bitOf used count step steps keyOf keyBits tooManyBits into stepBack stepsBack cellOf isKey beginOf endOf beginPoint endPoint boundsOf noCell gridChecks gridAnswer keyChecks keyAnswer cellChecks cellAnswer boundsChecks boundsAnswer allowed hashedId shardOf minishardOf placeChecks placeAnswer digitByte digits shardDigits shardName shardNameChecks shardNameAnswer shardNameLeft idAt startAt badEntry badLength repeats foreign foreignAt outside entryTests entryChecks minishardChecks minishardsChecks badFileLength fileChecks shardChecks leadLength itemOf itemAt isId chunkOf chosenChecks chosenChunk lookupChecks lookupAnswer notAbove insertBy sortBy chunksOf chunksLength idRow startRow sizeRow indexOf partOf partLength partsFrom partsLength entryBegin entryFinish entriesFrom settled settledLength itemsFrom itemsAt byId contentFrom contentOf formOf formLength tooLong settleCheck settleChecks settleAnswer settleLeft zDigit zFrom wordAt isReal countOf sizeAt finiteBits aboveZero realAt rightLength realFits realsFit inOrder levelRises riseAt nodesRise manifestChecks headerAt hasNode levelBytes fragmentStart nodeIn nodeAt nodeChecks finite nearOf farOf nearCorner farCorner boxOf placed finiteCorner boxChecks cornersChecks cornersAnswer
 cases-hold = λ i. cells (voxels 1 1 1) (λ k. only k i) ∷ others table

@@ -35,6 +35,8 @@ use Rattle.lookup.specs.declared.LookupAnswer.the-variants.{Found, Refused as N
 use Rattle.lookup.specs.Find.{lookupAnswer}
 use Rattle.shard.specs.Items.{Item}
 use Rattle.form.specs.Content.{fileContent, fileForm, fileFormLength}
+use Rattle.settle.specs.declared.SettleAnswer.{SettleAnswer}
+use Rattle.settle.specs.declared.SettleAnswer.the-variants.{Length as SettledLength}
 use Rattle.settle.specs.Answers.{settleAnswer, settleLeft}
 use Rattle.corners.specs.declared.Corner.{Corner}
 use Rattle.corners.specs.declared.CornersAnswer.{CornersAnswer}
@@ -58,7 +60,7 @@ pub data Case : Type 0 where
   -- settling it as that shard number into a lent output, and the output then; the lookup of an id
   lists : Sharding → List ℕ → List (List Item) → Case
   form : Sharding → List ℕ → List ℕ → ℕ → Case
-  settles : Sharding → ℕ → List ℕ → List ℕ → Written → List ℕ → Case
+  settles : Sharding → ℕ → List ℕ → List ℕ → SettleAnswer → List ℕ → Case
   lookup : Sharding → ℕ → List ℕ → ℕ → LookupAnswer → Case
   -- of a manifest: the corners of a level's node
   corners : List ℕ → ℕ → ℕ → CornersAnswer → Case
@@ -197,8 +199,8 @@ table =
     ∷ lists (plain 0 1 0) settledFile content
     ∷ form (plain 0 1 0) otherFile settledFile 85
     ∷ form (plain 0 1 0) settledFile settledFile 85
-    ∷ settles (plain 0 1 0) 0 otherFile (zeros 87) (Length 85) (settledFile ++ 0 ∷ 0 ∷ [])
-    ∷ settles (plain 0 1 0) 0 settledFile (zeros 85) (Length 85) settledFile
+    ∷ settles (plain 0 1 0) 0 otherFile (zeros 87) (SettledLength 85) (settledFile ++ 0 ∷ 0 ∷ [])
+    ∷ settles (plain 0 1 0) 0 settledFile (zeros 85) (SettledLength 85) settledFile
     -- id 10 is bytes 34 up to 37, end excluded; ids 6 and 7 give 12
     ∷ lookup (plain 0 1 0) 0 settledFile 10 (Found 34 3)
     ∷ lookup (plain 0 1 0) 0 settledFile 6 (NotFound 12)

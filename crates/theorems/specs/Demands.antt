@@ -4,10 +4,11 @@ use mathlib.Core.Path.{_≡_}
 use mathlib.Core.Bool.{false}
 use mathlib.Core.Logic.{_↔_, _⊎_}
 use mathlib.Core.List.{List, _++_}
+use mathlib.Core.Option.{Option, none}
 use lib.ListN.{length}
-use Rattle.refusal.specs.Checks.{firstNumber, Refuses}
+use Rattle.refusal.specs.Checks.{firstNumber, refusal, Refuses, RefusesAt}
 use Rattle.refusal.specs.Buffer.{over}
-use Rattle.refusal.specs.declared.Written.the-variants.{Length, Refused}
+use Rattle.refusal.specs.declared.Written.the-variants.{Refused}
 use Rattle.endian.specs.Place.{Holds}
 use Rattle.grid.specs.declared.Volume.{Volume}
 use Rattle.grid.specs.declared.Cell.{Cell}
@@ -40,6 +41,7 @@ use Rattle.listing.specs.declared.CountAnswer.the-variants as N
 use Rattle.listing.specs.Listing.{listingOf, countChecks, countAnswer, listingChecks, listingAnswer, listingLeft}
 use Rattle.listing.specs.Triples.{Says}
 use Rattle.form.specs.Content.{fileForm, fileFormLength}
+use Rattle.settle.specs.declared.SettleAnswer.the-variants as S
 use Rattle.settle.specs.Answers.{lengthChecks, lengthAnswer, settleChecks, settleAnswer, settleLeft}
 use Rattle.card.specs.declared.Card.{Card}
 use Rattle.card.specs.declared.CardAnswer.the-variants as D
@@ -62,7 +64,8 @@ use Rattle.corners.specs.Boxes.{cornersChecks, cornersAnswer}
 
 -- That every entry point takes any numbers and bytes and ends is the checker's own: no entry point's contract has a `requires`, and each function is proved to end.
 pub record Demand1 : Type 0 where
-  -- A refusal gives one number of the table: that of the first check, in the call's fixed order, that holds. Of each call:
+  -- A refusal gives one number of the table: that of the first check, in the call's fixed order, that holds. 7 to 11 carry a position, that of
+  -- the same check; the others carry none (order 6). Of each call:
   pub grid : (v : Volume) → Refuses (gridAnswer v) G.Refused (gridChecks v)
   pub key : (v : Volume) (c : Cell) → Refuses (keyAnswer v c) K.Refused (keyChecks v c)
   pub keys : (v : Volume) (cells : List Cell) (out : List ℕ) → Refuses (keysAnswer v cells out) Refused (keysChecks v cells out)
@@ -73,16 +76,16 @@ pub record Demand1 : Type 0 where
   pub places : (spec : Sharding) (ids shards minishards : List ℕ) → Refuses (placesAnswer spec ids shards minishards) Refused (placesChecks spec ids shards minishards)
   pub chunkName : (v : Volume) (c : Cell) (out : List ℕ) → Refuses (chunkNameAnswer v c out) Refused (chunkNameChecks v c out)
   pub shardName : (spec : Sharding) (shard : ℕ) (out : List ℕ) → Refuses (shardNameAnswer spec shard out) Refused (shardNameChecks spec shard out)
-  pub lookup : (spec : Sharding) (shard : ℕ) (file : List ℕ) (id : ℕ) → Refuses (lookupAnswer spec shard file id) L.Refused (lookupChecks spec shard file id)
-  pub count : (spec : Sharding) (shard : ℕ) (file : List ℕ) (m : ℕ) → Refuses (countAnswer spec shard file m) N.Refused (countChecks spec shard file m)
-  pub listing : (spec : Sharding) (shard : ℕ) (file : List ℕ) (m : ℕ) (out : List ℕ) → Refuses (listingAnswer spec shard file m out) N.Refused (listingChecks spec shard file m out)
-  -- (of the whole-shard check: 1, 5 and 6 come alone, 7 to 11 with the first minishard, in number order, that has a fault)
+  pub lookup : (spec : Sharding) (shard : ℕ) (file : List ℕ) (id : ℕ) → RefusesAt (lookupAnswer spec shard file id) L.Refused L.Faulty (lookupChecks spec shard file id)
+  pub count : (spec : Sharding) (shard : ℕ) (file : List ℕ) (m : ℕ) → RefusesAt (countAnswer spec shard file m) N.Refused N.Faulty (countChecks spec shard file m)
+  pub listing : (spec : Sharding) (shard : ℕ) (file : List ℕ) (m : ℕ) (out : List ℕ) → RefusesAt (listingAnswer spec shard file m out) N.Refused N.Faulty (listingChecks spec shard file m out)
+  -- (of the whole-shard check: 1, 5 and 6 come alone, 7 to 11 with the first minishard, in number order, that has a fault, and their position)
   pub check : (spec : Sharding) (shard : ℕ) (file : List ℕ) → Refuses (checkAnswer spec shard file) CheckRefused (fileChecks spec (noSuchShard spec shard) file)
   pub checked : (spec : Sharding) (shard : ℕ) (file : List ℕ) → checkNumber (checkAnswer spec shard file) ≡ firstNumber (shardChecks spec shard file)
   pub passed : (spec : Sharding) (shard : ℕ) (file : List ℕ) → (checkAnswer spec shard file ≡ Sound) ↔ (firstNumber (shardChecks spec shard file) ≡ 0)
-  pub named : (spec : Sharding) (shard : ℕ) (file : List ℕ) (k m : ℕ) → (checkAnswer spec shard file ≡ Faulty k m) ↔ FirstFaultIs spec shard file k m
-  pub formLength : (spec : Sharding) (shard : ℕ) (file : List ℕ) → Refuses (lengthAnswer spec shard file) Refused (lengthChecks spec shard file)
-  pub settle : (spec : Sharding) (shard : ℕ) (file out : List ℕ) → Refuses (settleAnswer spec shard file out) Refused (settleChecks spec shard file out)
+  pub named : (spec : Sharding) (shard : ℕ) (file : List ℕ) (k m p : ℕ) → (checkAnswer spec shard file ≡ Faulty k m p) ↔ FirstFaultIs spec shard file k m p
+  pub formLength : (spec : Sharding) (shard : ℕ) (file : List ℕ) → RefusesAt (lengthAnswer spec shard file) S.Refused S.Faulty (lengthChecks spec shard file)
+  pub settle : (spec : Sharding) (shard : ℕ) (file out : List ℕ) → RefusesAt (settleAnswer spec shard file out) S.Refused S.Faulty (settleChecks spec shard file out)
   pub cardRead : (s : List ℕ) → Refuses (readAnswer s) D.Refused (readChecks s)
   pub cardWritten : (c : Card) (out : List ℕ) → Refuses (writeAnswer c out) Refused (writeChecks c out)
   pub infoRead : (s : List ℕ) (k : ℕ) → Refuses (infoAnswer s k) D.Refused (infoChecks s k)
@@ -99,8 +102,8 @@ pub record Demand1 : Type 0 where
       → (shardsLeft spec ids shards minishards ≡ shards) × (minishardsLeft spec ids shards minishards ≡ minishards)
   pub chunkNameKept : (v : Volume) (c : Cell) (out : List ℕ) (k : ℕ) → chunkNameAnswer v c out ≡ Refused k → chunkNameLeft v c out ≡ out
   pub shardNameKept : (spec : Sharding) (shard : ℕ) (out : List ℕ) (k : ℕ) → shardNameAnswer spec shard out ≡ Refused k → shardNameLeft spec shard out ≡ out
-  pub listingKept : (spec : Sharding) (shard : ℕ) (file : List ℕ) (m : ℕ) (out : List ℕ) (k : ℕ) → listingAnswer spec shard file m out ≡ N.Refused k → listingLeft spec shard file m out ≡ out
-  pub settleKept : (spec : Sharding) (shard : ℕ) (file out : List ℕ) (k : ℕ) → settleAnswer spec shard file out ≡ Refused k → settleLeft spec shard file out ≡ out
+  pub listingKept : (spec : Sharding) (shard : ℕ) (file : List ℕ) (m : ℕ) (out : List ℕ) (k : ℕ) (p : Option ℕ) → listingAnswer spec shard file m out ≡ refusal N.Refused N.Faulty k p → listingLeft spec shard file m out ≡ out
+  pub settleKept : (spec : Sharding) (shard : ℕ) (file out : List ℕ) (k : ℕ) (p : Option ℕ) → settleAnswer spec shard file out ≡ refusal S.Refused S.Faulty k p → settleLeft spec shard file out ≡ out
   pub cardKept : (c : Card) (out : List ℕ) (k : ℕ) → writeAnswer c out ≡ Refused k → writeLeft c out ≡ out
   pub nodesKept : (s : List ℕ) (l : ℕ) (out : List ℕ) (k : ℕ) → nodesAnswer s l out ≡ Refused k → nodesLeft s l out ≡ out
 
@@ -157,7 +160,7 @@ TooLong spec a out = (length out < length (fileForm spec a)) ⊎ (mostShardBytes
 
 -- settling `a` into `out` reports the length of `form` and writes exactly it: past it the output is as it was
 abbrev pub Settles : Sharding → ℕ → List ℕ → List ℕ → List ℕ → Type 0
-Settles spec shard a form out = (settleAnswer spec shard a out ≡ Length (length form)) × (settleLeft spec shard a out ≡ over form out)
+Settles spec shard a form out = (settleAnswer spec shard a out ≡ S.Length (length form)) × (settleLeft spec shard a out ≡ over form out)
 
 pub record Demand3 : Type 0 where
   -- To pass the check is to be sound.
@@ -177,14 +180,14 @@ pub record Demand3 : Type 0 where
   -- and settles to itself in every output that is long enough for it.
   pub again : (spec : Sharding) (shard : ℕ) (a out : List ℕ) → SoundShard spec shard a → Short spec a
       → length (fileForm spec a) ≤ length out → Settles spec shard (fileForm spec a) (fileForm spec a) out
-  -- Settling a sound shard is refused exactly when its form is longer than the output or than 1 GiB, and then with 13;
+  -- Settling a sound shard is refused exactly when its form is longer than the output or than 1 GiB, and then with 13, which has no position;
   pub refused : (spec : Sharding) (shard : ℕ) (a out : List ℕ) → SoundShard spec shard a
-      → (number : ℕ) → (settleAnswer spec shard a out ≡ Refused number) ↔ ((number ≡ 13) × TooLong spec a out)
+      → (number : ℕ) (p : Option ℕ) → (settleAnswer spec shard a out ≡ refusal S.Refused S.Faulty number p) ↔ ((number ≡ 13) × (p ≡ none) × TooLong spec a out)
   -- otherwise it writes exactly that form and reports its length.
   pub written : (spec : Sharding) (shard : ℕ) (a out : List ℕ) → SoundShard spec shard a
       → (TooLong spec a out → ⊥) → Settles spec shard a (fileForm spec a) out
   -- The form is as long as its length, a whole number of any size, says; the settled length of a sound shard is answered with it, or
   -- with 13 where it is above 1 GiB.
   pub long : (spec : Sharding) (a : List ℕ) → length (fileForm spec a) ≡ fileFormLength spec a
-  pub measured : (spec : Sharding) (shard : ℕ) (a : List ℕ) → SoundShard spec shard a → Short spec a → lengthAnswer spec shard a ≡ Length (fileFormLength spec a)
-  pub unmeasured : (spec : Sharding) (shard : ℕ) (a : List ℕ) → SoundShard spec shard a → mostShardBytes < fileFormLength spec a → lengthAnswer spec shard a ≡ Refused 13
+  pub measured : (spec : Sharding) (shard : ℕ) (a : List ℕ) → SoundShard spec shard a → Short spec a → lengthAnswer spec shard a ≡ S.Length (fileFormLength spec a)
+  pub unmeasured : (spec : Sharding) (shard : ℕ) (a : List ℕ) → SoundShard spec shard a → mostShardBytes < fileFormLength spec a → lengthAnswer spec shard a ≡ S.Refused 13

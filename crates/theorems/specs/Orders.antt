@@ -19,16 +19,22 @@ use Rattle.cover.specs.Cover.{coverKeys, coverAnswer, coverLeft}
 use Rattle.cover.specs.Meaning.{SharesVoxel, RisingFrom, reversed, outside}
 use Rattle.sharding.specs.declared.Sharding.{Sharding}
 use Rattle.sharding.specs.Specification.{minishardBits, allowed, noSuchShard}
-use Rattle.sharding.specs.Place.{placeChecks}
+use Rattle.sharding.specs.Place.{minishardOf, placeChecks}
 use Rattle.sharding.specs.Batch.{shardsOf, minishardsOf, placesChecks}
 use Rattle.sharding.specs.Before.{mostMinishardBitsBefore, allowedBefore}
 use Rattle.names.specs.Shards.{shardName, shardNameChecks}
-use Rattle.shard.specs.declared.CheckAnswer.the-variants.{Sound}
+use Rattle.shard.specs.declared.CheckAnswer.the-variants.{Sound, Faulty}
 use Rattle.shard.specs.File.{mostShardBytes, badFileLength, fileChecks, checkAnswer}
 use Rattle.shard.specs.Before.{PassedBefore}
+use Rattle.lookup.specs.declared.LookupAnswer.the-variants as L
+use Rattle.lookup.specs.Find.{lookupAnswer}
+use Rattle.listing.specs.declared.CountAnswer.the-variants as N
+use Rattle.listing.specs.Listing.{countAnswer, listingAnswer}
 use Rattle.form.specs.Content.{fileForm}
 use Rattle.form.specs.Before.{fileFormBefore}
-use Rattle.settle.specs.Answers.{settleAnswer, settleLeft}
+use Rattle.settle.specs.declared.SettleAnswer.the-variants as S
+use Rattle.settle.specs.Answers.{lengthAnswer, settleAnswer, settleLeft}
+use Rattle.positions.specs.Points.{PointsAt, Named}
 use Rattle.card.specs.declared.Card.{Card}
 use Rattle.card.specs.declared.CardAnswer.the-variants.{Says, Refused}
 use Rattle.card.specs.Layout.{cardBytes, Ranged}
@@ -43,7 +49,7 @@ pub record Order2 : Type 0 where
   pub form : (spec : Sharding) (shard : ℕ) (a : List ℕ) → PassedBefore spec shard a → fileForm spec a ≡ fileFormBefore spec a
   -- and where that has room, settling writes these bytes and reports their length.
   pub settles : (spec : Sharding) (shard : ℕ) (a out : List ℕ) → PassedBefore spec shard a → length (fileFormBefore spec a) ≤ length out → length (fileFormBefore spec a) ≤ mostShardBytes
-      → (settleAnswer spec shard a out ≡ Length (length (fileFormBefore spec a))) × (settleLeft spec shard a out ≡ over (fileFormBefore spec a) out)
+      → (settleAnswer spec shard a out ≡ S.Length (length (fileFormBefore spec a))) × (settleLeft spec shard a out ≡ over (fileFormBefore spec a) out)
 
 -- Order 4: "Existing shards and cards keep their bytes and meaning."
 pub record Order4 : Type 0 where
@@ -88,3 +94,17 @@ pub record Order5 : Type 0 where
   pub written : (v : Volume) (lower upper : Point) (out : List ℕ) → zeroExtent v ≡ false → tooManyBits (gridOf v) ≡ false
       → length (coverKeys v lower upper) ≤ length out
       → (coverAnswer v lower upper out ≡ Length (length (coverKeys v lower upper))) × (coverLeft v lower upper out ≡ over (coverKeys v lower upper) out)
+
+-- Order 6: "Refusals 7 to 11 now carry a byte position in the shard: for 7 and 8 the index entry, for 9 and 10 the id step of the first
+-- offending entry, for 11 its start step. For 9 the offending entry is the later of the pair."
+pub record Order6 : Type 0 where
+  -- the position that comes with a refusal is the place of the very bytes: of the minishard that the check names,
+  pub check : (spec : Sharding) (shard : ℕ) (file : List ℕ) (k m p : ℕ) → checkAnswer spec shard file ≡ Faulty k m p → PointsAt spec shard file m k p
+  -- of the minishard of the id that is looked up,
+  pub lookup : (spec : Sharding) (shard : ℕ) (file : List ℕ) (id k p : ℕ) → lookupAnswer spec shard file id ≡ L.Faulty k p → PointsAt spec shard file (minishardOf spec id) k p
+  -- of the minishard that is listed.
+  pub count : (spec : Sharding) (shard : ℕ) (file : List ℕ) (m k p : ℕ) → countAnswer spec shard file m ≡ N.Faulty k p → PointsAt spec shard file m k p
+  pub listing : (spec : Sharding) (shard : ℕ) (file : List ℕ) (m : ℕ) (out : List ℕ) (k p : ℕ) → listingAnswer spec shard file m out ≡ N.Faulty k p → PointsAt spec shard file m k p
+  -- Settling gives what the check gives, without the minishard.
+  pub formLength : (spec : Sharding) (shard : ℕ) (file : List ℕ) (k p : ℕ) → lengthAnswer spec shard file ≡ S.Faulty k p → Named spec shard file k p
+  pub settle : (spec : Sharding) (shard : ℕ) (file out : List ℕ) (k p : ℕ) → settleAnswer spec shard file out ≡ S.Faulty k p → Named spec shard file k p

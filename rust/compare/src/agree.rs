@@ -22,11 +22,11 @@ pub fn same<T: PartialEq + Debug, E: Into<reference::Refusal>>(
 /// Lets both write into equal buffers and panics unless they answer the same
 /// and leave the same items in and around them, all of them as they were where
 /// they refuse. Gives the refusal's number, 0 for success.
-pub fn same_writing<T: Clone + PartialEq>(
+pub fn same_writing<T: Clone + PartialEq, E: Into<reference::Refusal>>(
     question: Arguments,
     lent: &Lent<T>,
     library: impl FnOnce(&mut [T]) -> Result<usize, Refusal>,
-    expected: impl FnOnce(&mut [T]) -> Result<usize, u8>,
+    expected: impl FnOnce(&mut [T]) -> Result<usize, E>,
 ) -> u8 {
     let (mut ours, mut theirs) = (lent.clone(), lent.clone());
     let met = same(question, library(ours.part()), expected(theirs.part()));
@@ -70,10 +70,18 @@ mod tests {
     }
 
     #[test]
-    #[should_panic(expected = "the reference Err(Refusal { number: 7, minishard: Some(3) })")]
+    #[should_panic(expected = "the reference Err(Refusal { number: 7, minishard: Some(3), ")]
     fn other_minishards_differ() {
-        let expected = reference::Refusal::in_minishard(7, 3);
+        let expected = reference::Refusal::bare(7).in_minishard(3);
         same::<u8, _>(format_args!("q"), Err(refused(7)), Err(expected));
+    }
+
+    #[test]
+    #[should_panic(expected = "minishard: None, position: Some(48) })")]
+    fn other_positions_differ() {
+        let expected = reference::Refusal::at(7, 48);
+        let library = refusal(reference::Refusal::at(7, 32));
+        same::<u8, _>(format_args!("q"), Err(library), Err(expected));
     }
 
     /// Writes on both sides, into an output of four bytes.

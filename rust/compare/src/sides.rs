@@ -59,10 +59,18 @@ pub fn node(node: reference::manifest::Node) -> Node {
     }
 }
 
-/// A refusal of the reference, as a number or with a minishard.
+/// A refusal of the reference, as a number or with a minishard and a position.
 pub fn refusal(refusal: impl Into<reference::Refusal>) -> Refusal {
-    let reference::Refusal { number, minishard } = refusal.into();
-    Refusal { number, minishard }
+    let reference::Refusal {
+        number,
+        minishard,
+        position,
+    } = refusal.into();
+    Refusal {
+        number,
+        minishard,
+        position,
+    }
 }
 
 /// An answer of the reference.

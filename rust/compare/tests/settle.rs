@@ -2,7 +2,7 @@
 //! around the limit, and the case of the paper.
 
 use compare::sides::{answer, sharding};
-use coronagamba::Shard;
+use coronagamba::{Refusal, Shard};
 use reference::settle;
 use reference::sharding::Sharding;
 use testkit::shards::{self, Content, Difference, Sample};
@@ -12,7 +12,7 @@ use testkit::{same_writing, Lent, Rng};
 const PAIRS: usize = 10_000;
 
 /// Settles on both sides into an output of this length.
-fn same_settling(rng: &mut Rng, sample: &Sample, room: usize) -> Result<usize, u8> {
+fn same_settling(rng: &mut Rng, sample: &Sample, room: usize) -> Result<usize, Refusal> {
     let Sample {
         sharding: specification,
         number,
@@ -20,25 +20,21 @@ fn same_settling(rng: &mut Rng, sample: &Sample, room: usize) -> Result<usize, u
     } = sample;
     same_writing(
         &Lent::new(rng, room),
-        |out| {
-            Shard::open(sharding(specification), *number, file)
-                .settle(out)
-                .map_err(|refusal| refusal.number)
-        },
-        |out| settle::settle(specification, *number, file, out),
+        |out| Shard::open(sharding(specification), *number, file).settle(out),
+        |out| answer(settle::settle(specification, *number, file, out)),
     )
 }
 
 /// Asks both for the settled length.
-fn same_length(sample: &Sample) -> Result<u64, u8> {
+fn same_length(sample: &Sample) -> Result<u64, Refusal> {
     let Sample {
         sharding: specification,
         number,
         file,
     } = sample;
-    let expected = settle::length_of(specification, *number, file);
+    let expected = answer(settle::length_of(specification, *number, file));
     let shard = Shard::open(sharding(specification), *number, file);
-    assert_eq!(shard.settled_length(), answer(expected), "{sample:?}");
+    assert_eq!(shard.settled_length(), expected, "{sample:?}");
     expected
 }
 
@@ -130,7 +126,7 @@ fn outputs_of_every_length() {
         shards += 1;
         for room in 0..=needed + 3 {
             let expected = if room < needed { Err(13) } else { Ok(needed) };
-            assert_eq!(same_settling(&mut rng, &sample, room), expected);
+            assert_eq!(same_settling(&mut rng, &sample, room), answer(expected));
         }
     }
 }

@@ -13,7 +13,7 @@ fn open(sample: &Sample) -> Shard<'_> {
 }
 
 /// Asks both for an id, and for the bytes where it is listed.
-fn same_lookup(sample: &Sample, id: u64) -> Result<(), u8> {
+fn same_lookup(sample: &Sample, id: u64) -> Result<(), reference::Refusal> {
     let Sample {
         sharding,
         number,

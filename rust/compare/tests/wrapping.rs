@@ -83,9 +83,18 @@ fn same_answers(file: &[u8], ids: &[u64]) -> Result<(), Refusal> {
     expected
 }
 
-/// The fault of the one minishard.
-fn fault(number: u8) -> Result<(), Refusal> {
-    Err(Refusal::in_minishard(number, 0))
+/// Where the rows begin.
+const ROWS: u64 = BASE + DATA.len() as u64;
+
+/// Refusal 9 of the one minishard, at this entry's id step.
+fn twice(entry: usize) -> Result<(), Refusal> {
+    Err(Refusal::at(9, ROWS + 8 * entry as u64).in_minishard(0))
+}
+
+/// Refusal 11 of the one minishard, at this entry's start step of so many.
+fn past_the_end(entry: usize, entries: usize) -> Result<(), Refusal> {
+    let position = ROWS + 8 * (entries + entry) as u64;
+    Err(Refusal::at(11, position).in_minishard(0))
 }
 
 const MOST: u64 = u64::MAX;
@@ -143,26 +152,29 @@ fn sound_ones() {
 
 #[test]
 fn ids_that_stand_twice() {
-    let cases: [(&str, &[u64]); 10] = [
-        ("next to each other", &[4, 4]),
-        ("0 twice", &[0, 0]),
-        ("the largest id twice", &[MOST, MOST]),
-        ("the largest id twice, far", &[MOST, 3, 0, MOST]),
-        ("far, rising between", &[4, 5, 6, 4]),
-        ("far, falling between", &[4, 3, 2, 4]),
-        ("the first and the last of many", &[4, 9, 1, 8, 2, 7, 4]),
-        ("by a whole turn", &[0, MOST, 0]),
-        ("three times", &[4, 1, 4, 4]),
-        ("two pairs", &[1, 2, 2, 1]),
+    // The last number is the later entry of the pair that is whole first.
+    let cases: [(&str, &[u64], usize); 12] = [
+        ("next to each other", &[4, 4], 1),
+        ("0 twice", &[0, 0], 1),
+        ("the largest id twice", &[MOST, MOST], 1),
+        ("the largest id twice, far", &[MOST, 3, 0, MOST], 3),
+        ("far, rising between", &[4, 5, 6, 4], 3),
+        ("far, falling between", &[4, 3, 2, 4], 3),
+        ("the first and the last of many", &[4, 9, 1, 8, 2, 7, 4], 6),
+        ("by a whole turn", &[0, MOST, 0], 2),
+        ("three times", &[4, 1, 4, 4], 2),
+        ("one pair around another", &[1, 2, 2, 1], 2),
+        ("two pairs, one after the other", &[7, 7, 1, 1], 1),
+        ("the least id is not the first pair", &[9, 1, 9, 1], 2),
     ];
-    for (name, ids) in cases {
+    for (name, ids, later) in cases {
         let rows: Vec<Row> = ids.iter().map(|id| (*id, 0, 1)).collect();
-        assert_eq!(same_answers(&listing(&rows), ids), fault(9), "{name}");
+        assert_eq!(same_answers(&listing(&rows), ids), twice(later), "{name}");
         // 9 goes before 11, wherever the chunk past the file is.
         for at in 0..rows.len() {
             let mut past = rows.clone();
             past[at].2 = 1 << 40;
-            assert_eq!(same_answers(&listing(&past), ids), fault(9), "{name}");
+            assert_eq!(same_answers(&listing(&past), ids), twice(later), "{name}");
         }
     }
 }
@@ -195,15 +207,17 @@ fn ends_around_the_file_and_around_2_to_the_64() {
         (1 << 32, 0, false),
         (0, 1 << 32, false),
     ] {
-        let expected = if sound { Ok(()) } else { fault(11) };
-        for first in [true, false] {
-            let mut rows = vec![(7, start, size), (3, 1, 2)];
-            if !first {
-                rows.reverse();
-            }
+        for entry in [0, 1] {
+            let mut rows = vec![(3, 1, 2)];
+            rows.insert(entry, (7, start, size));
+            let expected = if sound {
+                Ok(())
+            } else {
+                past_the_end(entry, 2)
+            };
             let file = listing(&rows);
             let told = same_answers(&file, &[3, 7, 4]);
-            assert_eq!(told, expected, "{start} {size} {first}");
+            assert_eq!(told, expected, "{start} {size} {entry}");
         }
     }
 }
@@ -244,7 +258,7 @@ fn many_entries() {
             assert_eq!(same_answers(&listing(&rows), &asked), Ok(()));
             let later = 1 + rng.index(count - 1);
             rows[later].0 = rows[rng.index(later)].0;
-            assert_eq!(same_answers(&listing(&rows), &asked[..1]), fault(9));
+            assert_eq!(same_answers(&listing(&rows), &asked[..1]), twice(later));
             let extremes = if rng.once_in(2) {
                 ids.iter().min()
             } else {
@@ -252,7 +266,15 @@ fn many_entries() {
             };
             let mut rows: Vec<Row> = ids.iter().map(chunk).collect();
             rows.push(chunk(extremes.expect("there are ids")));
-            assert_eq!(same_answers(&listing(&rows), &[]), fault(9));
+            assert_eq!(same_answers(&listing(&rows), &[]), twice(count));
+            // The last chunk past the file, then one before it too.
+            let mut rows: Vec<Row> = ids.iter().map(chunk).collect();
+            rows[count - 1].2 = 1 << 40;
+            let told = same_answers(&listing(&rows), &asked[..1]);
+            assert_eq!(told, past_the_end(count - 1, count));
+            rows[later].1 = 1 << 31;
+            let told = same_answers(&listing(&rows), &asked[..1]);
+            assert_eq!(told, past_the_end(later, count));
         }
     }
 }

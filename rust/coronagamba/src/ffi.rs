@@ -66,7 +66,7 @@ mod tests {
     }
 
     #[test]
-    fn the_word_of_the_check_names_the_minishard() {
+    fn the_word_of_the_check_names_minishard_and_position() {
         let two = Sharding {
             minishard_bits: 1,
             ..NO_BITS
@@ -76,8 +76,32 @@ mod tests {
         file[16] = 1;
         // SAFETY: pointer and count are those of one array.
         unsafe {
-            assert_eq!(coronagamba_check(two, 0, file.as_ptr(), 32), 7 + 256 * 2);
+            let word = 7 + 256 * 2 + (17 << 32);
+            assert_eq!(coronagamba_check(two, 0, file.as_ptr(), 32), word);
             assert_eq!(coronagamba_check(two, 1, file.as_ptr(), 32), 5);
         }
+    }
+
+    /// The others pass the position on, and no minishard.
+    #[test]
+    fn the_other_words_name_the_position_alone() {
+        let (file, mut result) = ([1, 0, 0, 0, 0, 0, 0, 0, 0, 0, 0, 0, 0, 0, 0, 0], [9; 2]);
+        let (bytes, word) = (file.as_ptr(), 7 + (1 << 32));
+        let [first, second] = &mut result;
+        // SAFETY: pointer and count are those of one array, results go to live
+        // values, and no items may come as a null pointer.
+        unsafe {
+            let told = coronagamba_lookup(NO_BITS, 0, bytes, 16, 0, first, second);
+            assert_eq!(told, word);
+            let told = coronagamba_listed_count(NO_BITS, 0, bytes, 16, 0, first);
+            assert_eq!(told, word);
+            let told = coronagamba_listing(NO_BITS, 0, bytes, 16, 0, null_mut(), 0, first);
+            assert_eq!(told, word);
+            let told = coronagamba_settled_length(NO_BITS, 0, bytes, 16, first);
+            assert_eq!(told, word);
+            let told = coronagamba_settle(NO_BITS, 0, bytes, 16, null_mut(), 0, first);
+            assert_eq!(told, word);
+        }
+        assert_eq!(result, [9; 2]);
     }
 }

@@ -5,7 +5,7 @@
 use crate::refusal::Refusal;
 
 /// The version that these declarations belong to: major, minor, patch.
-pub const VERSION: [u64; 3] = [0, 2, 0];
+pub const VERSION: [u64; 3] = [0, 3, 0];
 
 /// A sharding's hash that leaves an id as it is.
 pub const HASH_IDENTITY: u8 = 0;

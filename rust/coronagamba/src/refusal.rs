@@ -4,17 +4,18 @@ use crate::numbers::SENTENCES;
 use std::error::Error;
 use std::fmt;
 
-/// Why a call refused: a number from the archive's table and, where the
-/// whole-shard check names one, the minishard with the fault.
+/// Why a call refused: a number from the archive's table, with 7 to 11 the
+/// place of what offends and, from the whole-shard check, the minishard that it
+/// is in.
 ///
 /// ```
 /// use coronagamba::Refusal;
 ///
-/// let refusal = Refusal { number: 9, minishard: Some(3) };
+/// let refusal = Refusal { number: 9, minishard: Some(3), position: Some(460) };
 /// assert_eq!(
 ///     refusal.to_string(),
 ///     "refused 9: An id stands twice in a minishard. \
-///      The fault is in minishard 3."
+///      The fault is in minishard 3, at byte 460."
 /// );
 /// ```
 #[derive(Clone, Copy, Debug, PartialEq, Eq, Hash)]
@@ -23,6 +24,13 @@ pub struct Refusal {
     pub number: u8,
     /// The minishard with the fault, from the whole-shard check only.
     pub minishard: Option<u64>,
+    /// With 7 to 11, the byte to look at, counted from the start of the shard.
+    ///
+    /// With 7 and 8 the minishard's entry in the shard index begins there, 16
+    /// bytes; with 9 and 10 the id step of the first entry that offends, with 11
+    /// its start step, 8 bytes each. Of an id that stands twice it is the later
+    /// entry.
+    pub position: Option<u64>,
 }
 
 impl Refusal {
@@ -56,7 +64,7 @@ impl Refusal {
     /// ```
     /// use coronagamba::Refusal;
     ///
-    /// let refusal = Refusal { number: 14, minishard: None };
+    /// let refusal = Refusal { number: 14, minishard: None, position: None };
     /// assert_eq!(refusal.sentence(), "The card is malformed.");
     /// ```
     pub fn sentence(&self) -> &'static str {
@@ -67,9 +75,16 @@ impl Refusal {
 impl fmt::Display for Refusal {
     fn fmt(&self, f: &mut fmt::Formatter<'_>) -> fmt::Result {
         write!(f, "refused {}: {}", self.number, self.sentence())?;
-        match self.minishard {
-            Some(minishard) => write!(f, " The fault is in minishard {minishard}."),
-            None => Ok(()),
+        match (self.minishard, self.position) {
+            (Some(minishard), Some(position)) => {
+                write!(
+                    f,
+                    " The fault is in minishard {minishard}, at byte {position}."
+                )
+            }
+            (Some(minishard), None) => write!(f, " The fault is in minishard {minishard}."),
+            (None, Some(position)) => write!(f, " The fault is at byte {position}."),
+            (None, None) => Ok(()),
         }
     }
 }
@@ -78,8 +93,7 @@ impl Error for Refusal {}
 
 /// The meaning of an answer word: 0 is success, else the low byte is the
 /// refusal's number. The next 24 bits are 0 where the word names no minishard,
-/// else one more than it; the last 32 do the same for a position, which no call
-/// names yet.
+/// else one more than it; the last 32 do the same for a position.
 pub(crate) fn answer(word: u64) -> Result<(), Refusal> {
     if word == 0 {
         return Ok(());
@@ -87,6 +101,7 @@ pub(crate) fn answer(word: u64) -> Result<(), Refusal> {
     Err(Refusal {
         number: word as u8,
         minishard: (word >> 8 & 0xff_ffff).checked_sub(1),
+        position: (word >> 32).checked_sub(1),
     })
 }
 
@@ -109,14 +124,30 @@ mod tests {
 
     #[test]
     fn words() {
-        let refusal = |number, minishard| Err(Refusal { number, minishard });
+        let refusal = |number, minishard, position| {
+            Err(Refusal {
+                number,
+                minishard,
+                position,
+            })
+        };
         assert_eq!(answer(0), Ok(()));
-        assert_eq!(answer(13), refusal(13, None));
-        assert_eq!(answer(7 + 256), refusal(7, Some(0)));
-        assert_eq!(answer(11 + 256 * 4096), refusal(11, Some(4095)));
-        assert_eq!(answer(9 + 256 * 65536), refusal(9, Some(65535)));
-        assert_eq!(answer(9 + 256 * 4 + (77 << 32)), refusal(9, Some(3)));
-        assert_eq!(answer(6 + (77 << 32)), refusal(6, None));
+        assert_eq!(answer(13), refusal(13, None, None));
+        assert_eq!(answer(7 + 256), refusal(7, Some(0), None));
+        assert_eq!(answer(11 + 256 * 4096), refusal(11, Some(4095), None));
+        assert_eq!(answer(9 + 256 * 65536), refusal(9, Some(65535), None));
+        assert_eq!(
+            answer(9 + 256 * 4 + (77 << 32)),
+            refusal(9, Some(3), Some(76))
+        );
+        assert_eq!(answer(7 + (1 << 32)), refusal(7, None, Some(0)));
+        // The last byte of the longest shard, and the greatest of each part.
+        let last = (1 << 30) - 1;
+        assert_eq!(answer(11 + (1 << 62)), refusal(11, None, Some(last)));
+        assert_eq!(
+            answer(u64::MAX),
+            refusal(255, Some((1 << 24) - 2), Some((1 << 32) - 2))
+        );
     }
 
     #[test]
@@ -132,14 +163,24 @@ mod tests {
     }
 
     #[test]
-    fn a_minishard_is_shown() {
-        let refusal = Refusal {
-            number: 12,
-            minishard: Some(3),
-        };
-        assert_eq!(
-            refusal.to_string(),
-            "refused 12: The id is not listed. The fault is in minishard 3."
-        );
+    fn the_place_is_shown() {
+        for (minishard, position, place) in [
+            (None, None, ""),
+            (Some(3), None, " The fault is in minishard 3."),
+            (None, Some(0), " The fault is at byte 0."),
+            (
+                Some(0),
+                Some(460),
+                " The fault is in minishard 0, at byte 460.",
+            ),
+        ] {
+            let refusal = Refusal {
+                number: 11,
+                minishard,
+                position,
+            };
+            let sentence = "refused 11: A chunk ends past the file.";
+            assert_eq!(refusal.to_string(), format!("{sentence}{place}"));
+        }
     }
 }

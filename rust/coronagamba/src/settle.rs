@@ -6,7 +6,8 @@ use crate::shard::Shard;
 
 impl Shard<'_> {
     /// The length of the settled form, or refusal 1, 5 to 11, or 13 where it
-    /// would pass 1 GiB.
+    /// would pass 1 GiB; 7 to 11 are those of [`check`](Shard::check), with the
+    /// position and without the minishard.
     pub fn settled_length(&self) -> Result<u64, Refusal> {
         // SAFETY: pointer and count are those of one live slice; the result is
         // a live number, lent to this call alone.
@@ -22,7 +23,7 @@ impl Shard<'_> {
     }
 
     /// The settled form, or refusal 1, 5 to 11, or 13 where it would pass
-    /// 1 GiB.
+    /// 1 GiB; 7 to 11 name a position.
     ///
     /// Two sound shards of one specification and number have the same settled
     /// form exactly when they list the same ids with the same bytes:
@@ -56,8 +57,8 @@ impl Shard<'_> {
     }
 
     /// Writes the settled form to the front of `out` and gives its length, or
-    /// refusal 1, 5 to 11 or 13. Nothing past that length is touched, and
-    /// nothing at all where it refuses.
+    /// refusal 1, 5 to 11 or 13; 7 to 11 name a position. Nothing past that
+    /// length is touched, and nothing at all where it refuses.
     ///
     /// ```
     /// use coronagamba::{Shard, Sharding};

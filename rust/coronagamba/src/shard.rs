@@ -92,8 +92,8 @@ impl<'a> Shard<'a> {
         self.file
     }
 
-    /// The place and length of an id's chunk, or refusal 1 or 5 to 12. Of the
-    /// minishards it judges the id's own alone.
+    /// The place and length of an id's chunk, or refusal 1 or 5 to 12; 7 to 11
+    /// name a position. Of the minishards it judges the id's own alone.
     ///
     /// ```
     /// # use coronagamba::{Shard, Sharding, Span};
@@ -133,7 +133,7 @@ impl<'a> Shard<'a> {
     }
 
     /// Passes exactly the sound shards, else refusal 1 or 5 to 11; 7 to 11
-    /// name the first minishard with a fault.
+    /// name the first minishard with a fault, and a position.
     ///
     /// ```
     /// use coronagamba::{Refusal, Shard, Sharding};
@@ -144,7 +144,7 @@ impl<'a> Shard<'a> {
     ///
     /// // The second entry of the shard index starts after its end.
     /// file[16] = 1;
-    /// let refusal = Refusal { number: 7, minishard: Some(1) };
+    /// let refusal = Refusal { number: 7, minishard: Some(1), position: Some(16) };
     /// assert_eq!(Shard::open(sharding, 0, &file).check(), Err(refusal));
     /// ```
     pub fn check(&self) -> Result<(), Refusal> {
@@ -160,7 +160,7 @@ impl<'a> Shard<'a> {
     }
 
     /// How many chunks a minishard lists, or refusal 1, 5 (also for a minishard
-    /// that is not there), 6, or 7 to 11 of that minishard.
+    /// that is not there), 6, or 7 to 11 of that minishard with a position.
     pub fn listed_count(&self, minishard: u64) -> Result<u64, Refusal> {
         // SAFETY: pointer and count are those of one live slice; the result is
         // a live number, lent to this call alone.
@@ -179,7 +179,7 @@ impl<'a> Shard<'a> {
     /// Writes id, start and length of each chunk that a minishard lists, in
     /// stored order, to the front of `out` and gives how many numbers these
     /// are; or refusal 1, 5 (also for a minishard that is not there), 6, 7 to
-    /// 11 of that minishard, or 13.
+    /// 11 of that minishard with a position, or 13.
     pub fn write_listing(&self, minishard: u64, out: &mut [u64]) -> Result<usize, Refusal> {
         // SAFETY: each pointer and count are those of one live slice; `out`
         // and the result are lent to this call alone.
@@ -199,7 +199,7 @@ impl<'a> Shard<'a> {
 
     /// The chunks that a minishard lists, in stored order, or refusal 1, 5
     /// (also for a minishard that is not there), 6, or 7 to 11 of that
-    /// minishard.
+    /// minishard with a position.
     ///
     /// ```
     /// # use coronagamba::{Shard, Sharding, Span};

@@ -23,12 +23,24 @@ fn items(items: &[u32]) -> Vec<u8> {
     bytes.collect()
 }
 
-/// The check of a shard of two minishards, of which the second lists these
-/// rows behind five chunk bytes.
-fn check(entry: [u64; 2], rows: &[u64]) -> Result<(), Refusal> {
+/// A shard of two minishards, of which the second lists these rows behind five
+/// chunk bytes, from byte 37 on.
+fn second(entry: [u64; 2], rows: &[u64]) -> Vec<u8> {
     let [start, end] = entry;
-    let file = [row(&[0, 0, start, end]), b"abcde".to_vec(), row(rows)].concat();
-    Shard::open(TWO, 0, &file).check()
+    [row(&[0, 0, start, end]), b"abcde".to_vec(), row(rows)].concat()
+}
+
+/// A shard whose second minishard has the fault of this number, and where.
+fn faulty(number: u8) -> (Vec<u8>, u64) {
+    let whole = [5, 53];
+    match number {
+        7 => (second([53, 5], &[5, 6, 0, 0, 2, 3]), 16),
+        8 => (second([5, 52], &[5, 6, 0, 0, 2, 3]), 16),
+        9 => (second(whole, &[5, 0, 0, 0, 2, 3]), 45),
+        10 => (second(whole, &[5, 5, 0, 0, 2, 3]), 45),
+        11 => (second(whole, &[5, 6, 0, 0, 2, 52]), 61),
+        _ => panic!("{number} is no fault of a minishard"),
+    }
 }
 
 /// A manifest of one level with two nodes at these x positions.
@@ -42,7 +54,6 @@ fn manifest(shape: f32, x: [u32; 2]) -> Vec<u8> {
 /// A call that gives the refusal of this number.
 fn refused(number: u8) -> Refusal {
     let grid = |size: [u32; 3]| Volume::new(size, [1; 3], [0; 3]);
-    let whole = [5, 53];
     let answer = match number {
         1 => Sharding {
             preshift: 64,
@@ -56,11 +67,7 @@ fn refused(number: u8) -> Refusal {
         4 => grid([5, 3, 1]).cell(20).map(|_| ()),
         5 => Shard::open(TWO, 1, &[0; 32]).check(),
         6 => Shard::open(TWO, 0, &[0; 31]).check(),
-        7 => check([53, 5], &[5, 6, 0, 0, 2, 3]),
-        8 => check([5, 52], &[5, 6, 0, 0, 2, 3]),
-        9 => check(whole, &[5, 0, 0, 0, 2, 3]),
-        10 => check(whole, &[5, 5, 0, 0, 2, 3]),
-        11 => check(whole, &[5, 6, 0, 0, 2, 52]),
+        7..=11 => Shard::open(TWO, 0, &faulty(number).0).check(),
         12 => Shard::open(TWO, 0, &[0; 32]).chunk(6).map(|_| ()),
         13 => Shard::open(TWO, 0, &[0; 32])
             .settle(&mut [0; 31])
@@ -90,24 +97,61 @@ fn each_number_is_given_and_has_its_sentence() {
 }
 
 #[test]
-fn the_check_alone_names_a_minishard() {
+fn the_check_names_a_minishard_and_a_position_with_7_to_11() {
     for number in Refusal::numbers() {
         let refusal = refused(number);
         let shown = format!("refused {number}: {}", refusal.sentence());
         if (7..=11).contains(&number) {
+            let (_, position) = faulty(number);
             assert_eq!(refusal.minishard, Some(1));
-            let shown = format!("{shown} The fault is in minishard 1.");
+            assert_eq!(refusal.position, Some(position));
+            let shown = format!("{shown} The fault is in minishard 1, at byte {position}.");
             assert_eq!(refusal.to_string(), shown);
         } else {
-            assert_eq!(refusal.minishard, None);
+            assert_eq!((refusal.minishard, refusal.position), (None, None));
             assert_eq!(refusal.to_string(), shown);
         }
     }
 }
 
+/// All calls that read a shard pass the position on; the check alone names the
+/// minishard.
+#[test]
+fn each_call_passes_the_position_on() {
+    for number in 7..=11 {
+        let (file, position) = faulty(number);
+        let shard = Shard::open(TWO, 0, &file);
+        let told = Refusal {
+            number,
+            minishard: None,
+            position: Some(position),
+        };
+        let checked = Refusal {
+            minishard: Some(1),
+            ..told
+        };
+        assert_eq!(shard.check(), Err(checked));
+        assert_eq!(shard.chunks().map(|_| ()), Err(checked));
+        assert_eq!(shard.lookup(5), Err(told));
+        assert_eq!(shard.chunk(5), Err(told));
+        assert_eq!(shard.listed_count(1), Err(told));
+        assert_eq!(shard.write_listing(1, &mut []), Err(told));
+        assert_eq!(shard.listing(1), Err(told));
+        assert_eq!(shard.settled_length(), Err(told));
+        assert_eq!(shard.settle(&mut []), Err(told));
+        assert_eq!(shard.settled(), Err(told));
+        let shown = format!("The fault is at byte {position}.");
+        assert!(told.to_string().ends_with(&shown));
+        // The first minishard is sound, and empty.
+        assert_eq!(shard.lookup(4).unwrap_err().number, 12);
+        assert_eq!(shard.listed_count(0), Ok(0));
+    }
+}
+
 #[test]
 fn the_untouched_shard_and_manifest_are_sound() {
-    assert_eq!(check([5, 53], &[5, 6, 0, 0, 2, 3]), Ok(()));
+    let sound = second([5, 53], &[5, 6, 0, 0, 2, 3]);
+    assert_eq!(Shard::open(TWO, 0, &sound).check(), Ok(()));
     assert_eq!(Manifest::open(&manifest(1.0, [0, 1])).check(), Ok(()));
 }
 

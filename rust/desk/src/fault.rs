@@ -211,6 +211,7 @@ mod tests {
         let refusal = Refusal {
             number: 11,
             minishard,
+            position: Some(61),
         };
         Refused::file(Path::new("a/0.shard"), refusal, diagnosis)
     }

@@ -222,6 +222,7 @@ mod tests {
         let refusal = Refusal {
             number: 11,
             minishard: Some(2),
+            position: Some(460),
         };
         let refused = Refused::file(Path::new("0.shard"), refusal, diagnosis);
         assert_eq!(

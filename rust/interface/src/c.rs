@@ -51,16 +51,22 @@ fn comment(text: &str) -> String {
     format!("/* {text} */\n")
 }
 
-/// Which answer words name a minishard or a position.
+/// Which answer words name a minishard or a position: functions that do with
+/// the same refusals stand together.
 fn carried(refusals: &[Refusal]) -> String {
     let carriers = |names: fn(&Refusal) -> &Vec<String>| {
-        let mut functions: Vec<&String> = refusals.iter().flat_map(names).collect();
-        functions.sort();
-        functions.dedup();
-        let told = functions.into_iter().map(|function| {
+        let mut groups: Vec<(Vec<u8>, Vec<String>)> = Vec::new();
+        for function in refusals.iter().flat_map(names) {
             let with = refusals.iter().filter(|r| names(r).contains(function));
-            let numbers: Vec<String> = with.map(|r| r.number.to_string()).collect();
-            format!("{function} with {}", listed(&numbers))
+            let numbers: Vec<u8> = with.map(|r| r.number).collect();
+            match groups.iter_mut().find(|(known, _)| *known == numbers) {
+                Some((_, functions)) if functions.contains(function) => {}
+                Some((_, functions)) => functions.push(function.clone()),
+                None => groups.push((numbers, vec![function.clone()])),
+            }
+        }
+        let told = groups.iter().map(|(numbers, functions)| {
+            format!("{} with {}", listed(functions), listed(&runs(numbers)))
         });
         told.collect::<Vec<_>>()
     };
@@ -71,6 +77,16 @@ fn carried(refusals: &[Refusal]) -> String {
     let minishard = told("a minishard", carriers(|refusal| &refusal.minishard));
     let position = told("a position", carriers(|refusal| &refusal.position));
     lines(" * ", &format!("{minishard} {position}"), WIDTH)
+}
+
+/// Rising numbers, three or more in a row as `7 to 11`.
+fn runs(numbers: &[u8]) -> Vec<String> {
+    let runs = numbers.chunk_by(|one, next| one + 1 == *next);
+    let told = runs.flat_map(|run| match run {
+        [first, _, .., last] => vec![format!("{first} to {last}")],
+        _ => run.iter().map(u8::to_string).collect(),
+    });
+    told.collect()
 }
 
 fn version([major, minor, patch]: [u64; 3]) -> String {
@@ -254,4 +270,44 @@ fn function_in_c(function: &Function) -> String {
         column += parameter.len() + end.len();
     }
     format!("{}{text}\n", comment(&about))
+}
+
+#[cfg(test)]
+mod tests {
+    use super::*;
+
+    #[test]
+    fn numbers_in_a_row() {
+        assert_eq!(runs(&[7, 8, 9, 10, 11]), ["7 to 11"]);
+        assert_eq!(runs(&[1, 5, 6, 8, 9, 10]), ["1", "5", "6", "8 to 10"]);
+        assert!(runs(&[]).is_empty());
+    }
+
+    fn refusal(number: u8, minishard: &[&str], position: &[&str]) -> Refusal {
+        let names = |of: &[&str]| of.iter().map(|name| name.to_string()).collect();
+        Refusal {
+            number,
+            name: String::new(),
+            says: String::new(),
+            given: String::new(),
+            cause: String::new(),
+            remedy: String::new(),
+            minishard: names(minishard),
+            position: names(position),
+        }
+    }
+
+    #[test]
+    fn functions_that_carry_alike_stand_together() {
+        let table = [
+            refusal(6, &[], &["c"]),
+            refusal(7, &["a"], &["a", "b", "c"]),
+            refusal(8, &[], &["a", "b", "c"]),
+        ];
+        assert_eq!(
+            carried(&table),
+            " * What names a minishard: a with 7. What names a position: c with 6 to 8; a and\n \
+             * b with 7 and 8.\n"
+        );
+    }
 }

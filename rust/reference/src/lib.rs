@@ -23,30 +23,50 @@ pub mod vectors;
 /// The most bytes that a shard or a settled form may have: 1 GiB.
 pub const MOST_SHARD_BYTES: u64 = 1_073_741_824;
 
-/// A refusal: its number in document 01's table, and for 7 to 11 in a
-/// whole-shard check the minishard with the fault.
-#[derive(Clone, Copy, Debug, PartialEq, Eq, Hash)]
+/// A refusal: its number in document 01's table, for 7 to 11 the place of what
+/// offends (document 02, order 6), and for these in a whole-shard check the
+/// minishard with the fault.
+#[derive(Clone, Copy, Debug, PartialEq, Eq, Hash, PartialOrd, Ord)]
 pub struct Refusal {
     /// The number in document 01's table.
     pub number: u8,
     /// The faulty minishard, where the rules name one.
     pub minishard: Option<u64>,
+    /// The byte of the shard to look at, where the rules name one.
+    pub position: Option<u64>,
 }
 
 impl Refusal {
-    /// A refusal that names no minishard.
+    /// A refusal that names neither a minishard nor a position.
     pub const fn bare(number: u8) -> Self {
         Refusal {
             number,
             minishard: None,
+            position: None,
         }
     }
 
-    /// A refusal found in this minishard.
-    pub const fn in_minishard(number: u8, minishard: u64) -> Self {
+    /// A refusal of what stands at this byte of the shard.
+    pub const fn at(number: u8, position: u64) -> Self {
         Refusal {
-            number,
+            position: Some(position),
+            ..Refusal::bare(number)
+        }
+    }
+
+    /// The same refusal, found in this minishard.
+    pub const fn in_minishard(self, minishard: u64) -> Self {
+        Refusal {
             minishard: Some(minishard),
+            ..self
+        }
+    }
+
+    /// The same refusal as a call passes it on that names no minishard.
+    pub const fn passed_on(self) -> Self {
+        Refusal {
+            minishard: None,
+            ..self
         }
     }
 }

@@ -3,7 +3,7 @@
 use crate::endian::write_front;
 use crate::shard::list;
 use crate::sharding::Sharding;
-use crate::MOST_SHARD_BYTES;
+use crate::{Refusal, MOST_SHARD_BYTES};
 
 /// A listed chunk: its id and its bytes.
 pub type Listed<'a> = (u64, &'a [u8]);
@@ -69,9 +69,14 @@ pub fn settled_length(sharding: &Sharding, content: &[Listed]) -> u128 {
     u128::from(sharding.index_end()) + chunks
 }
 
-/// What a sound shard lists, or 1, 5, 6, then 7 to 11 by minishard.
-fn content<'a>(sharding: &Sharding, number: u64, file: &'a [u8]) -> Result<Vec<Listed<'a>>, u8> {
-    let entries = list(sharding, number, file).map_err(|refusal| refusal.number)?;
+/// What a sound shard lists, or 1, 5, 6, then 7 to 11 by minishard, which is
+/// not named.
+fn content<'a>(
+    sharding: &Sharding,
+    number: u64,
+    file: &'a [u8],
+) -> Result<Vec<Listed<'a>>, Refusal> {
+    let entries = list(sharding, number, file).map_err(Refusal::passed_on)?;
     Ok(entries
         .iter()
         .map(|entry| (entry.id, entry.bytes(file)))
@@ -80,23 +85,28 @@ fn content<'a>(sharding: &Sharding, number: u64, file: &'a [u8]) -> Result<Vec<L
 
 /// The length of a shard's settled form, or 1, 5, 6, then 7 to 11 by
 /// minishard, then 13 where the form would exceed 1 GiB.
-pub fn length_of(sharding: &Sharding, number: u64, file: &[u8]) -> Result<u64, u8> {
+pub fn length_of(sharding: &Sharding, number: u64, file: &[u8]) -> Result<u64, Refusal> {
     let length = settled_length(sharding, &content(sharding, number, file)?);
     if length > u128::from(MOST_SHARD_BYTES) {
-        return Err(13);
+        return Err(Refusal::bare(13));
     }
     Ok(length as u64)
 }
 
 /// Settles a shard: writes its settled form to the front of `out` and gives
 /// its length, or 1, 5, 6, then 7 to 11 by minishard, then 13.
-pub fn settle(sharding: &Sharding, number: u64, file: &[u8], out: &mut [u8]) -> Result<usize, u8> {
+pub fn settle(
+    sharding: &Sharding,
+    number: u64,
+    file: &[u8],
+    out: &mut [u8],
+) -> Result<usize, Refusal> {
     let content = content(sharding, number, file)?;
     let length = settled_length(sharding, &content);
     if length > out.len() as u128 || length > u128::from(MOST_SHARD_BYTES) {
-        return Err(13);
+        return Err(Refusal::bare(13));
     }
-    write_front(&settled_form(sharding, &content), out)
+    Ok(write_front(&settled_form(sharding, &content), out)?)
 }
 
 #[cfg(test)]
@@ -128,8 +138,8 @@ mod tests {
         assert_eq!(numbers(&form[37..]), [4, 6, 0, 0, 2, 3]);
         let entry = lookup(&ONE, 0, 10, &form).unwrap();
         assert_eq!((entry.start, entry.start + entry.length), (34, 37));
-        assert_eq!(lookup(&ONE, 0, 6, &form), Err(12));
-        assert_eq!(lookup(&ONE, 0, 7, &form), Err(12));
+        assert_eq!(lookup(&ONE, 0, 6, &form), Err(Refusal::bare(12)));
+        assert_eq!(lookup(&ONE, 0, 7, &form), Err(Refusal::bare(12)));
     }
 
     #[test]
@@ -157,6 +167,19 @@ mod tests {
         assert_eq!(out, settled_form(&ONE, &[(4, b"bc"), (10, b"ab")]));
     }
 
+    /// A fault of the check is passed on with its position and without its
+    /// minishard.
+    #[test]
+    fn faults_are_passed_on() {
+        let mut form = settled_form(&ONE, &[(2, b"xyz"), (3, b"q"), (5, b"rs")]);
+        // Minishard 1 is at byte 32 + 30; its second id step says 3 again.
+        form[62 + 8] = 0;
+        let refusal = Refusal::at(9, 70);
+        assert_eq!(check(&ONE, 0, &form), Err(refusal.in_minishard(1)));
+        assert_eq!(length_of(&ONE, 0, &form), Err(refusal));
+        assert_eq!(settle(&ONE, 0, &form, &mut []), Err(refusal));
+    }
+
     #[test]
     fn later_minishards_name_their_place() {
         let form = settled_form(&ONE, &[(2, b"xyz"), (3, b"q"), (5, b"rs")]);
@@ -168,7 +191,8 @@ mod tests {
     fn a_short_output_stays_as_it_was() {
         let form = settled_form(&ONE, &[(4, b"ab")]);
         let mut out = vec![7; form.len() - 1];
-        assert_eq!(settle(&ONE, 0, &form, &mut out), Err(13));
+        let told = settle(&ONE, 0, &form, &mut out);
+        assert_eq!(told, Err(Refusal::bare(13)));
         assert!(out.iter().all(|byte| *byte == 7));
     }
 }

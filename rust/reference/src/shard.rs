@@ -1,10 +1,11 @@
 //! Reading a shard: lookup, the whole-shard check and listings (source
-//! document 002; document 01, "From id to shard"; document 02, order 2).
+//! document 002; document 01, "From id to shard"; document 02, orders 2 and 6).
 
 use crate::endian::read_u64;
 use crate::sharding::Sharding;
 use crate::{Refusal, MOST_SHARD_BYTES};
 use std::collections::HashSet;
+use std::ops::Range;
 
 /// A chunk that a minishard index lists, with its place in the file.
 #[derive(Clone, Copy, Debug, PartialEq, Eq, Hash)]
@@ -30,6 +31,10 @@ struct RawEntry {
     /// Counted from the end of the shard index.
     start: u64,
     size: u64,
+    /// The byte of the file at which its id step begins.
+    id_step: u64,
+    /// The byte of the file at which its start step begins.
+    start_step: u64,
 }
 
 impl RawEntry {
@@ -62,36 +67,37 @@ fn length_allowed(sharding: &Sharding, file: &[u8]) -> Result<(), u8> {
     Ok(())
 }
 
-/// The minishard index that the shard index names, after tests 7 and 8;
-/// `None` for an empty entry.
-fn minishard_index<'a>(
+/// The bytes of the file that the minishard index fills, after tests 7 and 8,
+/// which look at the entry in the shard index; no bytes for an empty entry.
+fn minishard_index(
     sharding: &Sharding,
-    file: &'a [u8],
+    file: &[u8],
     minishard: u64,
-) -> Result<Option<&'a [u8]>, u8> {
+) -> Result<Range<usize>, Refusal> {
     let at = 16 * minishard as usize;
     let start = read_u64(file, at);
     let end = read_u64(file, at + 8);
     if start == end {
-        return Ok(None);
+        return Ok(0..0);
     }
     let index_end = u128::from(sharding.index_end());
     if start > end || index_end + u128::from(end) > file.len() as u128 {
-        return Err(7);
+        return Err(Refusal::at(7, at as u64));
     }
     if !(end - start).is_multiple_of(24) {
-        return Err(8);
+        return Err(Refusal::at(8, at as u64));
     }
-    let part = &file[sharding.index_end() as usize..][..end as usize];
-    Ok(Some(&part[start as usize..]))
+    let base = sharding.index_end() as usize;
+    Ok(base + start as usize..base + end as usize)
 }
 
 /// The entries of a minishard index: three rows of n numbers. An id is the sum
 /// of the id steps so far, a start the sum of the start steps so far and the
 /// sizes before it, both modulo 2^64.
-fn raw_entries(index: &[u8]) -> Vec<RawEntry> {
+fn raw_entries(file: &[u8], index: Range<usize>) -> Vec<RawEntry> {
     let n = index.len() / 24;
-    let row = |number: usize, i: usize| u128::from(read_u64(index, 8 * (number * n + i)));
+    let place = |number: usize, i: usize| index.start + 8 * (number * n + i);
+    let row = |number: usize, i: usize| u128::from(read_u64(file, place(number, i)));
     let mut entries = Vec::with_capacity(n);
     let mut ids = 0;
     let mut starts = 0;
@@ -102,19 +108,20 @@ fn raw_entries(index: &[u8]) -> Vec<RawEntry> {
             id: modulo(ids),
             start: modulo(starts),
             size: row(2, i) as u64,
+            id_step: place(0, i) as u64,
+            start_step: place(1, i) as u64,
         });
         starts += row(2, i);
     }
     entries
 }
 
-/// Test 9: no id stands twice.
-fn ids_differ(entries: &[RawEntry]) -> Result<(), u8> {
+/// Test 9: no id stands twice. What offends is the later of the pair.
+fn ids_differ(entries: &[RawEntry]) -> Result<(), Refusal> {
     let mut seen = HashSet::new();
-    if entries.iter().all(|entry| seen.insert(entry.id)) {
-        Ok(())
-    } else {
-        Err(9)
+    match entries.iter().find(|entry| !seen.insert(entry.id)) {
+        None => Ok(()),
+        Some(entry) => Err(Refusal::at(9, entry.id_step)),
     }
 }
 
@@ -124,25 +131,24 @@ fn ids_belong(
     number: u64,
     minishard: u64,
     entries: &[RawEntry],
-) -> Result<(), u8> {
-    let belong = entries.iter().all(|entry| {
+) -> Result<(), Refusal> {
+    let elsewhere = |entry: &&RawEntry| {
         let place = sharding.place(entry.id);
-        place.shard == number && place.minishard == minishard
-    });
-    if belong {
-        Ok(())
-    } else {
-        Err(10)
+        place.shard != number || place.minishard != minishard
+    };
+    match entries.iter().find(elsewhere) {
+        None => Ok(()),
+        Some(entry) => Err(Refusal::at(10, entry.id_step)),
     }
 }
 
 /// Test 11: no chunk's bytes end past the file.
-fn chunks_fit(file: &[u8], index_end: u64, entries: &[RawEntry]) -> Result<(), u8> {
+fn chunks_fit(file: &[u8], index_end: u64, entries: &[RawEntry]) -> Result<(), Refusal> {
     let length = file.len() as u128;
-    if entries.iter().all(|entry| entry.end(index_end) <= length) {
-        Ok(())
-    } else {
-        Err(11)
+    let past = |entry: &&RawEntry| entry.end(index_end) > length;
+    match entries.iter().find(past) {
+        None => Ok(()),
+        Some(entry) => Err(Refusal::at(11, entry.start_step)),
     }
 }
 
@@ -153,12 +159,9 @@ fn judged_minishard(
     number: u64,
     file: &[u8],
     minishard: u64,
-) -> Result<Vec<Entry>, u8> {
-    let Some(index) = minishard_index(sharding, file, minishard)? else {
-        return Ok(Vec::new());
-    };
+) -> Result<Vec<Entry>, Refusal> {
     let index_end = sharding.index_end();
-    let raw = raw_entries(index);
+    let raw = raw_entries(file, minishard_index(sharding, file, minishard)?);
     ids_differ(&raw)?;
     ids_belong(sharding, number, minishard, &raw)?;
     chunks_fit(file, index_end, &raw)?;
@@ -177,10 +180,10 @@ pub fn list_minishard(
     number: u64,
     file: &[u8],
     minishard: u64,
-) -> Result<Vec<Entry>, u8> {
+) -> Result<Vec<Entry>, Refusal> {
     sharding.allowed()?;
     if number >= sharding.shard_count() || minishard >= sharding.minishard_count() {
-        return Err(5);
+        return Err(Refusal::bare(5));
     }
     length_allowed(sharding, file)?;
     judged_minishard(sharding, number, file, minishard)
@@ -195,12 +198,12 @@ pub fn write_listing(
     file: &[u8],
     minishard: u64,
     out: &mut [u64],
-) -> Result<usize, u8> {
+) -> Result<usize, Refusal> {
     let numbers: Vec<u64> = list_minishard(sharding, number, file, minishard)?
         .iter()
         .flat_map(|entry| [entry.id, entry.start, entry.length])
         .collect();
-    let front = out.get_mut(..numbers.len()).ok_or(13)?;
+    let front = out.get_mut(..numbers.len()).ok_or(Refusal::bare(13))?;
     front.copy_from_slice(&numbers);
     Ok(numbers.len())
 }
@@ -212,7 +215,7 @@ pub fn list(sharding: &Sharding, number: u64, file: &[u8]) -> Result<Vec<Entry>,
     let mut all = Vec::new();
     for minishard in 0..sharding.minishard_count() {
         let entries = judged_minishard(sharding, number, file, minishard)
-            .map_err(|fault| Refusal::in_minishard(fault, minishard))?;
+            .map_err(|fault| fault.in_minishard(minishard))?;
         all.extend(entries);
     }
     Ok(all)
@@ -224,17 +227,17 @@ pub fn check(sharding: &Sharding, number: u64, file: &[u8]) -> Result<(), Refusa
 }
 
 /// The entry of an id, or 1, 5, 6, then 7 to 11 of its minishard, then 12.
-pub fn lookup(sharding: &Sharding, number: u64, id: u64, file: &[u8]) -> Result<Entry, u8> {
+pub fn lookup(sharding: &Sharding, number: u64, id: u64, file: &[u8]) -> Result<Entry, Refusal> {
     sharding.allowed()?;
     let place = sharding.place(id);
     if number >= sharding.shard_count() || place.shard != number {
-        return Err(5);
+        return Err(Refusal::bare(5));
     }
     length_allowed(sharding, file)?;
     judged_minishard(sharding, number, file, place.minishard)?
         .into_iter()
         .find(|entry| entry.id == id)
-        .ok_or(12)
+        .ok_or(Refusal::bare(12))
 }
 
 /// The bytes of an id, as the part of the file; where the lookup refuses, the
@@ -271,7 +274,7 @@ mod tests {
     }
 
     /// A shard of two minishards: the first has this index behind 5 chunk
-    /// bytes, the second has this entry.
+    /// bytes, so that it begins at byte 37; the second has this entry.
     fn with_rows(rows: &[u64], second: [u64; 2]) -> Vec<u8> {
         let mut file = row(&[5, 5 + 8 * rows.len() as u64, second[0], second[1]]);
         file.extend(b"abcde");
@@ -279,8 +282,14 @@ mod tests {
         file
     }
 
-    fn fault(number: u8, minishard: u64) -> Result<(), Refusal> {
-        Err(Refusal::in_minishard(number, minishard))
+    /// The check's verdict on a fault of this minishard at this byte.
+    fn fault(number: u8, minishard: u64, position: u64) -> Result<(), Refusal> {
+        Err(Refusal::at(number, position).in_minishard(minishard))
+    }
+
+    /// A refusal that names no place.
+    fn bare<T>(number: u8) -> Result<T, Refusal> {
+        Err(Refusal::bare(number))
     }
 
     #[test]
@@ -298,8 +307,8 @@ mod tests {
         );
         assert_eq!(lookup_part(&ONE, 0, 10, &file), b"cde");
         assert_eq!(lookup_part(&ONE, 0, 4, &file), b"ab");
-        assert_eq!(lookup(&ONE, 0, 6, &file), Err(12));
-        assert_eq!(lookup(&ONE, 0, 7, &file), Err(12));
+        assert_eq!(lookup(&ONE, 0, 6, &file), bare(12));
+        assert_eq!(lookup(&ONE, 0, 7, &file), bare(12));
         assert_eq!(lookup_part(&ONE, 0, 7, &file).as_ptr(), file.as_ptr());
     }
 
@@ -310,17 +319,17 @@ mod tests {
             minishard_bits: 17,
             ..ONE
         };
-        assert_eq!(lookup(&bad, 9, 4, &[]), Err(1));
-        assert_eq!(check(&bad, 9, &[]), Err(Refusal::bare(1)));
-        assert_eq!(lookup(&ONE, 1, 4, &[]), Err(5));
-        assert_eq!(check(&ONE, 1, &[]), Err(Refusal::bare(5)));
+        assert_eq!(lookup(&bad, 9, 4, &[]), bare(1));
+        assert_eq!(check(&bad, 9, &[]), bare(1));
+        assert_eq!(lookup(&ONE, 1, 4, &[]), bare(5));
+        assert_eq!(check(&ONE, 1, &[]), bare(5));
         let two = Sharding {
             shard_bits: 1,
             ..ONE
         };
-        assert_eq!(lookup(&two, 1, 4, &[]), Err(5));
-        assert_eq!(lookup(&two, 0, 4, &file[..31]), Err(6));
-        assert_eq!(check(&ONE, 0, &file[..31]), Err(Refusal::bare(6)));
+        assert_eq!(lookup(&two, 1, 4, &[]), bare(5));
+        assert_eq!(lookup(&two, 0, 4, &file[..31]), bare(6));
+        assert_eq!(check(&ONE, 0, &file[..31]), bare(6));
     }
 
     #[test]
@@ -330,12 +339,12 @@ mod tests {
             minishard_bits: 17,
             ..ONE
         };
-        assert_eq!(list_minishard(&bad, 1, &[], 2), Err(1));
+        assert_eq!(list_minishard(&bad, 1, &[], 2), bare(1));
         for (number, minishard) in [(0, 2), (0, 1 << 32), (0, u64::MAX), (1, 0), (1, 2)] {
-            assert_eq!(list_minishard(&ONE, number, &[], minishard), Err(5));
-            assert_eq!(list_minishard(&ONE, number, &file, minishard), Err(5));
+            assert_eq!(list_minishard(&ONE, number, &[], minishard), bare(5));
+            assert_eq!(list_minishard(&ONE, number, &file, minishard), bare(5));
         }
-        assert_eq!(list_minishard(&ONE, 0, &[], 1), Err(6));
+        assert_eq!(list_minishard(&ONE, 0, &[], 1), bare(6));
         assert_eq!(list_minishard(&ONE, 0, &file, 1), Ok(Vec::new()));
     }
 
@@ -343,9 +352,9 @@ mod tests {
     fn a_listing_is_written_whole_or_not_at_all() {
         let file = example();
         let mut out = [7; 7];
-        assert_eq!(write_listing(&ONE, 0, &file, 2, &mut []), Err(5));
+        assert_eq!(write_listing(&ONE, 0, &file, 2, &mut []), bare(5));
         assert_eq!(write_listing(&ONE, 0, &file, 1, &mut []), Ok(0));
-        assert_eq!(write_listing(&ONE, 0, &file, 0, &mut out[..5]), Err(13));
+        assert_eq!(write_listing(&ONE, 0, &file, 0, &mut out[..5]), bare(13));
         assert_eq!(out, [7; 7]);
         assert_eq!(write_listing(&ONE, 0, &file, 0, &mut out), Ok(6));
         assert_eq!(out, [4, 32, 2, 10, 34, 3, 7]);
@@ -354,11 +363,11 @@ mod tests {
     #[test]
     fn a_shard_of_more_than_a_gibibyte_is_refused() {
         let mut file = vec![0; MOST_SHARD_BYTES as usize + 1];
-        assert_eq!(check(&ONE, 0, &file), Err(Refusal::bare(6)));
-        assert_eq!(lookup(&ONE, 0, 4, &file), Err(6));
+        assert_eq!(check(&ONE, 0, &file), bare(6));
+        assert_eq!(lookup(&ONE, 0, 4, &file), bare(6));
         file.pop();
         assert_eq!(check(&ONE, 0, &file), Ok(()));
-        assert_eq!(lookup(&ONE, 0, 4, &file), Err(12));
+        assert_eq!(lookup(&ONE, 0, 4, &file), bare(12));
     }
 
     #[test]
@@ -366,23 +375,23 @@ mod tests {
         let sound = [4, 6, 0, 0, 2, 3];
         for second in [[1, 0], [0, 54], [0, u64::MAX], [u64::MAX - 1, u64::MAX]] {
             let file = with_rows(&sound, second);
-            assert_eq!(check(&ONE, 0, &file), fault(7, 1));
-            assert_eq!(lookup(&ONE, 0, 5, &file), Err(7));
+            assert_eq!(check(&ONE, 0, &file), fault(7, 1, 16));
+            assert_eq!(lookup(&ONE, 0, 5, &file), Err(Refusal::at(7, 16)));
             assert_eq!(lookup_part(&ONE, 0, 10, &file), b"cde");
         }
         for at in [0, 1, 54, 1 << 40, u64::MAX] {
             let file = with_rows(&sound, [at, at]);
             assert_eq!(check(&ONE, 0, &file), Ok(()));
-            assert_eq!(lookup(&ONE, 0, 5, &file), Err(12));
+            assert_eq!(lookup(&ONE, 0, 5, &file), bare(12));
         }
     }
 
     #[test]
     fn an_index_of_another_length_is_8() {
         let file = with_rows(&[4, 6, 0, 0, 2, 3], [0, 52]);
-        assert_eq!(check(&ONE, 0, &file), fault(8, 1));
+        assert_eq!(check(&ONE, 0, &file), fault(8, 1, 16));
         let file = with_rows(&[4, 6, 0, 0, 2, 3], [0, 1]);
-        assert_eq!(check(&ONE, 0, &file), fault(8, 1));
+        assert_eq!(check(&ONE, 0, &file), fault(8, 1, 16));
     }
 
     /// The step from one number to another, modulo 2^64.
@@ -393,14 +402,17 @@ mod tests {
     #[test]
     fn an_id_that_stands_twice_is_9() {
         let file = with_rows(&[4, 0, 0, 0, 2, 3], [0, 0]);
-        assert_eq!(check(&ONE, 0, &file), fault(9, 0));
-        // 4, 10, 4: the pair need not be neighbours.
-        let far = [4, 6, step(10, 4), 0, 0, 0, 2, 3, 0];
-        assert_eq!(check(&ONE, 0, &with_rows(&far, [0, 0])), fault(9, 0));
-        assert_eq!(lookup(&ONE, 0, 10, &with_rows(&far, [0, 0])), Err(9));
+        assert_eq!(check(&ONE, 0, &file), fault(9, 0, 45));
+        // 4, 10, 4: the pair need not be neighbours, and the later one offends.
+        let far = with_rows(&[4, 6, step(10, 4), 0, 0, 0, 2, 3, 0], [0, 0]);
+        assert_eq!(check(&ONE, 0, &far), fault(9, 0, 53));
+        assert_eq!(lookup(&ONE, 0, 10, &far), Err(Refusal::at(9, 53)));
+        // 4, 10, 10, 4: the pair that is whole first, not the one that begins first.
+        let nested = with_rows(&[4, 6, 0, step(10, 4), 0, 0, 0, 0, 0, 0, 0, 0], [0, 0]);
+        assert_eq!(check(&ONE, 0, &nested), fault(9, 0, 53));
         // 0 as the first id and 0 again by a whole turn.
         let turn = [0, u64::MAX, 1, 0, 0, 0, 2, 3, 0];
-        assert_eq!(check(&ONE, 0, &with_rows(&turn, [0, 0])), fault(9, 0));
+        assert_eq!(check(&ONE, 0, &with_rows(&turn, [0, 0])), fault(9, 0, 53));
         let file = with_rows(&[0, 2, 0, 0, 2, 3], [0, 0]);
         assert_eq!(lookup_part(&ONE, 0, 0, &file), b"ab");
     }
@@ -438,37 +450,48 @@ mod tests {
     #[test]
     fn ids_of_another_place_are_10() {
         let file = with_rows(&[4, 7, 0, 0, 2, 300], [0, 0]);
-        assert_eq!(check(&ONE, 0, &file), fault(10, 0));
+        assert_eq!(check(&ONE, 0, &file), fault(10, 0, 45));
+        // Minishard 1 names the same index: its first id is at fault there.
+        let file = with_rows(&[4, 6, 0, 0, 2, 3], [5, 53]);
+        assert_eq!(check(&ONE, 0, &file), fault(10, 1, 37));
+        assert_eq!(
+            list_minishard(&ONE, 0, &file, 0).map(|all| all.len()),
+            Ok(2)
+        );
+        let told = list_minishard(&ONE, 0, &file, 1);
+        assert_eq!(told, Err(Refusal::at(10, 37)));
         let two = Sharding {
             shard_bits: 1,
             ..ONE
         };
+        // Id 10 is binary 1010: shard 1, minishard 0.
         let file = with_rows(&[4, 6, 0, 0, 2, 3], [0, 0]);
-        assert_eq!(check(&two, 0, &file), fault(10, 0));
+        assert_eq!(check(&two, 0, &file), fault(10, 0, 45));
     }
 
     #[test]
     fn chunks_past_the_file_are_11() {
-        for (rows, sound) in [
-            ([4, 6, 0, 0, 2, 51], true),
-            ([4, 6, 0, 0, 2, 52], false),
-            ([4, 6, 0, 51, 2, 0], true),
-            ([4, 6, 0, 52, 2, 0], false),
+        // The start steps stand at bytes 53 and 61.
+        let (sound, first, second) = (Ok(()), fault(11, 0, 53), fault(11, 0, 61));
+        for (rows, expected) in [
+            ([4, 6, 0, 0, 2, 51], sound),
+            ([4, 6, 0, 0, 2, 52], second),
+            ([4, 6, 0, 51, 2, 0], sound),
+            ([4, 6, 0, 52, 2, 0], second),
             // A step of 2^64-1 goes one byte back, to a start of 1.
-            ([4, 6, 0, u64::MAX, 2, 3], true),
-            ([4, 6, 0, u64::MAX, 2, 52], true),
-            ([4, 6, 0, u64::MAX, 2, 53], false),
+            ([4, 6, 0, u64::MAX, 2, 3], sound),
+            ([4, 6, 0, u64::MAX, 2, 52], sound),
+            ([4, 6, 0, u64::MAX, 2, 53], second),
             // Starts and ends are added up exactly: none of these wraps.
-            ([4, 6, u64::MAX, 0, 0, 0], false),
-            ([4, 6, u64::MAX, 1, 0, 0], false),
-            ([4, 6, 0, 0, 2, u64::MAX], false),
-            ([4, 6, 5, 0, 2, u64::MAX - 6], false),
-            ([4, 6, 0, u64::MAX - 1, 2, 0], true),
-            ([4, 6, 0, u64::MAX - 2, 2, 0], false),
-            ([4, 6, 0, u64::MAX - 2, 2, 1], false),
-            ([4, 6, 0, u64::MAX - 31 - 2, 2, 0], false),
+            ([4, 6, u64::MAX, 0, 0, 0], first),
+            ([4, 6, u64::MAX, 1, 0, 0], first),
+            ([4, 6, 0, 0, 2, u64::MAX], second),
+            ([4, 6, 5, 0, 2, u64::MAX - 6], second),
+            ([4, 6, 0, u64::MAX - 1, 2, 0], sound),
+            ([4, 6, 0, u64::MAX - 2, 2, 0], second),
+            ([4, 6, 0, u64::MAX - 2, 2, 1], second),
+            ([4, 6, 0, u64::MAX - 31 - 2, 2, 0], second),
         ] {
-            let expected = if sound { Ok(()) } else { fault(11, 0) };
             assert_eq!(check(&ONE, 0, &with_rows(&rows, [0, 0])), expected);
         }
     }
@@ -477,9 +500,39 @@ mod tests {
     fn each_test_runs_over_all_entries_before_the_next() {
         // The second entry breaks 9, the first breaks 10 and 11.
         let file = with_rows(&[5, 0, 0, 0, 999, 3], [1, 0]);
-        assert_eq!(check(&ONE, 0, &file), fault(9, 0));
+        assert_eq!(check(&ONE, 0, &file), fault(9, 0, 45));
         // Minishard 0 breaks 11, minishard 1 breaks 7.
         let file = with_rows(&[4, 6, 0, 0, 999, 3], [1, 0]);
-        assert_eq!(check(&ONE, 0, &file), fault(11, 0));
+        assert_eq!(check(&ONE, 0, &file), fault(11, 0, 53));
+    }
+
+    /// Positions count from the start of the shard, past its index and past
+    /// other minishards; each call passes on that of its own minishard.
+    #[test]
+    fn positions_of_a_later_minishard() {
+        // Minishard 0 at bytes 37 to 85, minishard 1 at bytes 85 to 157 with
+        // ids 3, 7, 3: its rows begin at bytes 85, 109 and 133.
+        let second = [3, 4, step(7, 3), 0, 0, 0, 1, 1, 1];
+        let both = |first: &[u64], second: &[u64]| {
+            let mut file = with_rows(first, [53, 53 + 8 * second.len() as u64]);
+            file.extend(row(second));
+            file
+        };
+        let file = both(&[4, 6, 0, 0, 2, 3], &second);
+        assert_eq!(check(&ONE, 0, &file), fault(9, 1, 101));
+        assert_eq!(lookup(&ONE, 0, 7, &file), Err(Refusal::at(9, 101)));
+        assert_eq!(lookup_part(&ONE, 0, 10, &file), b"cde");
+        let told = list_minishard(&ONE, 0, &file, 1);
+        assert_eq!(told, Err(Refusal::at(9, 101)));
+        let told = write_listing(&ONE, 0, &file, 1, &mut []);
+        assert_eq!(told, Err(Refusal::at(9, 101)));
+        // Where minishard 0 has a fault too, the check speaks of that one.
+        let file = both(&[4, 6, 0, 0, 2, 999], &second);
+        assert_eq!(check(&ONE, 0, &file), fault(11, 0, 61));
+        assert_eq!(lookup(&ONE, 0, 7, &file), Err(Refusal::at(9, 101)));
+        // The third chunk ends past the file; the fourth would too.
+        let second = [3, 4, 4, 4, 0, 0, 999, 0, 1, 1, 1, 1];
+        let file = both(&[4, 6, 0, 0, 2, 3], &second);
+        assert_eq!(check(&ONE, 0, &file), fault(11, 1, 85 + 8 * 4 + 8 * 2));
     }
 }

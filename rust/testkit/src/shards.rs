@@ -545,8 +545,8 @@ fn change(rng: &mut Rng, file: &mut [u8], at: usize, length: usize) {
 }
 
 /// Damages the file in one place: a flipped bit or another number in any of
-/// its parts, an id that stands twice, a chunk elsewhere, a cut end, or bytes
-/// added behind it. It may stay sound.
+/// its parts, one or two ids that stand twice, a chunk elsewhere, a cut end, or
+/// bytes added behind it. It may stay sound.
 pub fn damage(rng: &mut Rng, sharding: &Sharding, file: &mut Vec<u8>) {
     let base = sharding.index_end() as usize;
     let length = file.len().saturating_sub(base);
@@ -575,7 +575,9 @@ pub fn damage(rng: &mut Rng, sharding: &Sharding, file: &mut Vec<u8>) {
             let index = index_numbers(rng, sharding, file).filter(|(_, count)| *count >= 3);
             if let Some((start, count)) = index {
                 if rng.once_in(2) {
-                    repeat_id(rng, file, start, count / 3);
+                    for _ in 0..rng.within(1, 2) {
+                        repeat_id(rng, file, start, count / 3);
+                    }
                 } else {
                     move_start(rng, file, base, start, count / 3);
                 }
@@ -729,6 +731,7 @@ mod tests {
     use crate::Met;
     use reference::settle::{length_of, settled_form};
     use reference::shard::{check, list, list_minishard, lookup};
+    use reference::Refusal;
     use std::collections::BTreeSet;
 
     #[test]
@@ -833,7 +836,8 @@ mod tests {
         for _ in 0..20 {
             let sample = brimming(&mut rng);
             assert_eq!(check(&sample.sharding, sample.number, &sample.file), Ok(()));
-            lengths.insert(length_of(&sample.sharding, sample.number, &sample.file));
+            let length = length_of(&sample.sharding, sample.number, &sample.file);
+            lengths.insert(length.map_err(|refusal| refusal.number));
         }
         let gibibyte = 1 << 30;
         assert!(lengths
@@ -944,6 +948,98 @@ mod tests {
             }
         }
         assert!(near > 100 && far > 100, "{near} {far}");
+    }
+
+    /// The entries of a minishard without 7 and 8 for which this test does not
+    /// hold, rising.
+    fn offending(sample: &Sample, minishard: u64, number: u8) -> Vec<usize> {
+        let base = sample.sharding.index_end();
+        let (ids, starts) = exact_sums(&sample.file, base as usize, minishard as usize);
+        let ids: Vec<u64> = ids.iter().map(|id| *id as u64).collect();
+        let offends = |entry: &usize| match number {
+            9 => ids[..*entry].contains(&ids[*entry]),
+            10 => {
+                let place = sample.sharding.place(ids[*entry]);
+                (place.shard, place.minishard) != (sample.number, minishard)
+            }
+            _ => {
+                let (start, size) = starts[*entry];
+                let end = u128::from(base) + u128::from(start as u64) + u128::from(size);
+                end > sample.file.len() as u128
+            }
+        };
+        (0..ids.len()).filter(offends).collect()
+    }
+
+    /// In which ways a wrong position would show in the fault of a minishard:
+    /// `first` is the first one with a fault. The reference's position must be
+    /// the place of the first entry that offends.
+    fn told_apart(
+        sample: &Sample,
+        first: u64,
+        minishard: u64,
+        refusal: Refusal,
+    ) -> Vec<&'static str> {
+        let mut ways = vec![if minishard == 0 {
+            "in the first minishard"
+        } else {
+            "in a later minishard"
+        }];
+        if minishard > first {
+            ways.push("behind another faulty minishard");
+        }
+        if refusal.number < 9 {
+            assert_eq!(refusal.position, Some(16 * minishard));
+            return ways;
+        }
+        let entries = offending(sample, minishard, refusal.number);
+        let at = |place: u64| read_u64(&sample.file, place as usize);
+        let start = at(16 * minishard);
+        let count = (at(16 * minishard + 8) - start) / 24;
+        let row = if refusal.number == 11 { count } else { 0 };
+        let entry = entries[0] as u64;
+        let place = sample.sharding.index_end() + start + 8 * (row + entry);
+        assert_eq!(refusal.position, Some(place));
+        for (way, holds) in [
+            ("index not at the data's start", start > 0),
+            ("not the first entry", entry > 0),
+            ("not the last entry", entry + 1 < count),
+            ("other entries offend too", entries.len() > 1),
+        ] {
+            ways.extend(holds.then_some(way));
+        }
+        ways
+    }
+
+    /// Faults of each number stand where a wrong position would show.
+    #[test]
+    fn faults_stand_in_every_place() {
+        let mut rng = Rng::new(12);
+        let mut met = BTreeMap::new();
+        for _ in 0..20_000 {
+            let sample = damaged(&mut rng, 12);
+            let Sample {
+                sharding,
+                number,
+                file,
+            } = &sample;
+            let checked = check(sharding, *number, file);
+            let Some(first) = checked.err().and_then(|refusal| refusal.minishard) else {
+                continue;
+            };
+            for minishard in first..sharding.minishard_count() {
+                let listed = list_minishard(sharding, *number, file, minishard);
+                let Err(refusal) = listed else {
+                    continue;
+                };
+                for way in told_apart(&sample, first, minishard, refusal) {
+                    *met.entry((refusal.number, way)).or_insert(0) += 1;
+                }
+            }
+        }
+        // 7 and 8 have no entry and three ways, the others seven.
+        assert_eq!(met.len(), 2 * 3 + 3 * 7, "{met:?}");
+        assert!(met.values().all(|count| *count > 100), "{met:?}");
     }
 
     #[test]

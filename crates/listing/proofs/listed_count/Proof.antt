@@ -1,6 +1,7 @@
--- The count of a listing.
+-- The count of a listing: the refusals 1, 5 and 6, then over two parts.
 use borrow.Author.Needs.{needs}
-use Rattle.listing.proofs.Listings.{count-refused, is-permitted, index-held, entry-held, parts-order, count-given}
+use Rattle.refusal.proofs.Tests.{told-yes}
+use Rattle.listing.proofs.Listings.{count-spec, count-shard, count-minishard, count-short, count-long, count-parts}
 use Rattle.listing.proofs.listed_count.Statement.{statement}
 use Rattle.listing.proofs.listed_count.Tie as tie
 
@@ -9,8 +10,13 @@ listed-count-spec =
     tie.close
     (tie.spec
     (λ c κs. search needs)
-    (λ c. search count-refused)
-    (λ c κs. search is-permitted)
-    (λ c. search index-held)
-    (λ c κs. (search entry-held, search parts-order))
-    (λ c. search count-given))
+    (λ c. search count-spec)
+    (λ c κs. search told-yes)
+    (λ c. search count-shard)
+    (λ c κs. search told-yes)
+    (λ c. search count-minishard)
+    (λ c κs. search told-yes)
+    (λ c. search count-short)
+    (λ c. search count-long)
+    (λ c κs. (search told-yes, (search needs, search needs)))
+    (λ c. search count-parts))

@@ -1,6 +1,6 @@
 -- The listing: refused, too long, or written whole.
 use borrow.Author.Needs.{needs}
-use Rattle.listing.proofs.Listings.{answer-refused, out-refused, is-permitted, index-held, index-within, entry-held, parts-order, parts-readable, has-room, answer-short, out-short, answer-whole, out-whole}
+use Rattle.listing.proofs.Listings.{answer-refused, out-refused, answer-faulty, out-faulty, is-permitted, index-held, index-within, parts-readable, has-room, answer-short, out-short, answer-whole, out-whole}
 use Rattle.listing.proofs.listing.Statement.{statement}
 use Rattle.listing.proofs.listing.Tie as tie
 
@@ -9,11 +9,9 @@ listing-spec =
     tie.close
     (tie.spec
     (λ c κs. search needs)
-    (λ c. (search answer-refused, search out-refused))
-    (λ c κs. search is-permitted)
-    (λ c. search index-held)
-    (λ c κs. (search entry-held, search parts-order))
+    (λ c. search needs)
     (λ c. (search answer-short, search out-short))
+    (λ c κs. search is-permitted)
     (λ c. search index-held)
     (λ c. search index-within)
     (λ c. search index-within)
@@ -21,4 +19,8 @@ listing-spec =
     (λ c κs. (search parts-readable, search has-room))
     (λ c. search needs)
     (λ c. search needs)
-    (λ c. (search answer-whole, search out-whole)))
+    (λ c. search needs)
+    (λ c. search needs)
+    (λ c. (search answer-whole, search out-whole))
+    (λ c. (search answer-refused, search out-refused))
+    (λ c. (search answer-faulty, search out-faulty)))

@@ -1,7 +1,7 @@
 -- The part handed out: its bytes and its place.
 use mathlib.Core.Path.{refl}
 use borrow.Author.Needs.{needs}
-use Rattle.lookup.proofs.Handed.{part-inside, part-fits, part-bytes, part-place, none-bytes, none-place}
+use Rattle.lookup.proofs.Handed.{part-inside, part-fits, part-bytes, part-place, none-bytes, none-place, fault-bytes, fault-place}
 use Rattle.lookup.proofs.part.Statement.{statement}
 use Rattle.lookup.proofs.part.Tie as tie
 
@@ -19,5 +19,10 @@ part-spec =
     (λ c. search needs)
     (λ c. search needs)
     (λ c. search needs)
+    (λ c. search needs)
+    (λ c. search needs)
+    (λ c. search needs)
+    (λ c. search needs)
     (λ c. (search part-bytes, (refl, search part-place)))
-    (λ c. (search none-bytes, (refl, search none-place))))
+    (λ c. (search none-bytes, (refl, search none-place)))
+    (λ c. (search fault-bytes, (refl, search fault-place))))

@@ -8,6 +8,7 @@ use coronagamba::Shard;
 use reference::settle;
 use reference::shard::list;
 use reference::sharding::Sharding;
+use reference::Refusal;
 use std::collections::BTreeMap;
 use testkit::shards::{self, Difference, Sample};
 use testkit::{Lent, Rng};
@@ -56,8 +57,8 @@ fn compare_settled_length(bytes: &[u8]) -> u8 {
 type Content<'a> = BTreeMap<u64, &'a [u8]>;
 
 /// What a shard lists, by the reference, or its refusal.
-fn content<'a>(sharding: &Sharding, number: u64, file: &'a [u8]) -> Result<Content<'a>, u8> {
-    let entries = list(sharding, number, file).map_err(|refusal| refusal.number)?;
+fn content<'a>(sharding: &Sharding, number: u64, file: &'a [u8]) -> Result<Content<'a>, Refusal> {
+    let entries = list(sharding, number, file)?;
     let pair = |entry: reference::shard::Entry| (entry.id, entry.bytes(file));
     Ok(entries.into_iter().map(pair).collect())
 }
@@ -105,7 +106,7 @@ fn settled<'a>(
     sharding: &Sharding,
     number: u64,
     file: &'a [u8],
-) -> Result<(Vec<u8>, Content<'a>), u8> {
+) -> Result<(Vec<u8>, Content<'a>), Refusal> {
     let opened = Shard::open(sides::sharding(sharding), number, file);
     let length = settle::length_of(sharding, number, file);
     same(
@@ -114,7 +115,7 @@ fn settled<'a>(
         length,
     );
     if length? > LONGEST_ANSWER as u64 {
-        return Err(13);
+        return Err(Refusal::bare(13));
     }
     let content = content(sharding, number, file)?;
     let listed: Vec<_> = content.iter().map(|(id, bytes)| (*id, *bytes)).collect();
@@ -148,7 +149,7 @@ fn compare_same(bytes: &[u8]) -> u8 {
                     LISTS_DIFFER
                 }
             }
-            [Err(refused), _] | [_, Err(refused)] => refused,
+            [Err(refused), _] | [_, Err(refused)] => refused.number,
         }
     })
 }

@@ -21,7 +21,7 @@ pub const LOOKUP: Part = Part {
 /// The whole-shard check.
 pub const CHECK: Part = Part {
     name: "check",
-    about: "the whole-shard check and the minishard that it names",
+    about: "the whole-shard check, the minishard and the position that it names",
     meets: &[0, 1, 5, 6, 7, 8, 9, 10, 11],
     compare: compare_check,
     sample: sample_check,

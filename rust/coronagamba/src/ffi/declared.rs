@@ -200,7 +200,7 @@ extern "C" {
     /// file's first byte, to `start`, and its number of bytes to `length`. Of the minishards it
     /// judges the id's own alone.
     ///
-    /// Refusals: 1, 5, 6, 7 to 11 of the id's minishard, 12
+    /// Refusals: 1, 5, 6, 7 to 11 of the id's minishard with the position, 12
     pub fn coronagamba_lookup(
         sharding: Sharding,
         shard: u64,
@@ -212,14 +212,15 @@ extern "C" {
     ) -> u64;
 
     /// Whether the whole shard is sound. Writes nothing. Where a minishard has a fault, the answer
-    /// word names the first such minishard.
+    /// word names the first such minishard and the position.
     ///
-    /// Refusals: 1, 5, 6, 7 to 11 with the minishard
+    /// Refusals: 1, 5, 6, 7 to 11 with the minishard and the position
     pub fn coronagamba_check(sharding: Sharding, shard: u64, file: *const u8, count: usize) -> u64;
 
     /// How many chunks a minishard lists. Writes the number to `chunks`.
     ///
-    /// Refusals: 1, 5 (also for a minishard that is not there), 6, 7 to 11 of that minishard
+    /// Refusals: 1, 5 (also for a minishard that is not there), 6, 7 to 11 of that minishard with
+    /// the position
     pub fn coronagamba_listed_count(
         sharding: Sharding,
         shard: u64,
@@ -233,8 +234,8 @@ extern "C" {
     /// front of `out`: id, start counted from the file's first byte, length in bytes. Writes how
     /// many numbers these are, three times what coronagamba_listed_count gives, to `length`.
     ///
-    /// Refusals: 1, 5 (also for a minishard that is not there), 6, 7 to 11 of that minishard, 13
-    /// where `out` has room for fewer
+    /// Refusals: 1, 5 (also for a minishard that is not there), 6, 7 to 11 of that minishard with
+    /// the position, 13 where `out` has room for fewer
     pub fn coronagamba_listing(
         sharding: Sharding,
         shard: u64,
@@ -248,7 +249,8 @@ extern "C" {
 
     /// How many bytes a shard's settled form has. Writes the number to `length`.
     ///
-    /// Refusals: 1, 5, 6, 7 to 11 of the first faulty minishard, 13 where the form would pass 1 GiB
+    /// Refusals: 1, 5, 6, 7 to 11 of the first faulty minishard with the position, 13 where the
+    /// form would pass 1 GiB
     pub fn coronagamba_settled_length(
         sharding: Sharding,
         shard: u64,
@@ -260,8 +262,8 @@ extern "C" {
     /// A shard's settled form. Writes it to the front of `out`, which needs the room that
     /// coronagamba_settled_length tells, and its number of bytes to `length`.
     ///
-    /// Refusals: 1, 5, 6, 7 to 11 of the first faulty minishard, 13 where `out` is shorter than the
-    /// form or the form would pass 1 GiB
+    /// Refusals: 1, 5, 6, 7 to 11 of the first faulty minishard with the position, 13 where `out`
+    /// is shorter than the form or the form would pass 1 GiB
     pub fn coronagamba_settle(
         sharding: Sharding,
         shard: u64,

@@ -1,6 +1,6 @@
 //! Each call that writes, refused in each way that the header names for it:
-//! the answer is the refusal's number alone, and every byte that was lent is as
-//! it was, whatever it was.
+//! the answer is the refusal's number, with 7 to 11 the position too and nothing
+//! else, and every byte that was lent is as it was, whatever it was.
 
 use super::*;
 use crate::{Cell, Point, Sharding, Volume};
@@ -62,19 +62,19 @@ fn contents() -> Vec<Vec<u64>> {
         .collect()
 }
 
-/// A call, and the number with which it refuses.
+/// A call, and the word with which it refuses.
 struct Case<'a> {
     name: &'static str,
-    number: u64,
+    word: u64,
     call: Box<dyn Fn(&mut Memory) -> u64 + 'a>,
 }
 
-/// Cases from lines of a number and a call, in which `lent` is the memory.
+/// Cases from lines of a word and a call, in which `lent` is the memory.
 macro_rules! cases {
-    ($lent:ident: $($number:expr => $name:ident($($argument:expr),* $(,)?);)*) => {
+    ($lent:ident: $($word:expr => $name:ident($($argument:expr),* $(,)?);)*) => {
         [$(Case {
             name: stringify!($name),
-            number: $number,
+            word: $word,
             // SAFETY: each pointer and count are those of one live slice or of
             // a part of the memory, and each part is lent once.
             call: Box::new(move |$lent: &mut Memory| unsafe { $name($($argument),*) }),
@@ -161,8 +161,13 @@ fn shard(entry: [u64; 2], rows: [u64; 6]) -> Vec<u8> {
 const ROWS: [u64; 6] = [5, 6, 0, 0, 2, 3];
 
 /// A specification, a shard number and a file that each call on a shard
-/// refuses with the number in front.
+/// refuses with the word in front.
 type Faulty = (u64, Sharding, u64, Vec<u8>);
+
+/// The word of a number and a position.
+const fn at(number: u64, position: u64) -> u64 {
+    number + ((position + 1) << 32)
+}
 
 fn faulty_shards() -> Vec<Faulty> {
     let sound = shard([5, 53], ROWS);
@@ -170,24 +175,25 @@ fn faulty_shards() -> Vec<Faulty> {
         (1, FORBIDDEN, 0, sound.clone()),
         (5, TWO, 1, sound.clone()),
         (6, TWO, 0, sound[..31].to_vec()),
-        (7, TWO, 0, shard([53, 5], ROWS)),
-        (8, TWO, 0, shard([5, 52], ROWS)),
-        (9, TWO, 0, shard([5, 53], [5, 0, 0, 0, 2, 3])),
-        (10, TWO, 0, shard([5, 53], [5, 5, 0, 0, 2, 3])),
-        (11, TWO, 0, shard([5, 53], [5, 6, 0, 0, 2, 52])),
+        (at(7, 16), TWO, 0, shard([53, 5], ROWS)),
+        (at(8, 16), TWO, 0, shard([5, 52], ROWS)),
+        // The rows begin at bytes 37, 53 and 69; the second entry offends.
+        (at(9, 45), TWO, 0, shard([5, 53], [5, 0, 0, 0, 2, 3])),
+        (at(10, 45), TWO, 0, shard([5, 53], [5, 5, 0, 0, 2, 3])),
+        (at(11, 61), TWO, 0, shard([5, 53], [5, 6, 0, 0, 2, 52])),
     ]
 }
 
 /// The calls that write, on a shard whose second minishard is faulty.
-fn on_faulty_shard((number, sharding, shard, file): &Faulty) -> Vec<Case<'_>> {
-    let (number, sharding, shard) = (*number, *sharding, *shard);
+fn on_faulty_shard((word, sharding, shard, file): &Faulty) -> Vec<Case<'_>> {
+    let (word, sharding, shard) = (*word, *sharding, *shard);
     let (from, count) = (file.as_ptr(), file.len());
     Vec::from(cases! { lent:
-        number => coronagamba_lookup(sharding, shard, from, count, 5, lent.one(), lent.one());
-        number => coronagamba_listed_count(sharding, shard, from, count, 1, lent.one());
-        number => coronagamba_listing(sharding, shard, from, count, 1, lent.many(9), 9, lent.one());
-        number => coronagamba_settled_length(sharding, shard, from, count, lent.one());
-        number => coronagamba_settle(sharding, shard, from, count, lent.many(99), 99, lent.one());
+        word => coronagamba_lookup(sharding, shard, from, count, 5, lent.one(), lent.one());
+        word => coronagamba_listed_count(sharding, shard, from, count, 1, lent.one());
+        word => coronagamba_listing(sharding, shard, from, count, 1, lent.many(9), 9, lent.one());
+        word => coronagamba_settled_length(sharding, shard, from, count, lent.one());
+        word => coronagamba_settle(sharding, shard, from, count, lent.many(99), 99, lent.one());
     })
 }
 
@@ -346,10 +352,10 @@ fn on_sound_manifest(bytes: &[u8]) -> Vec<Case<'_>> {
 /// Makes each case's call on memory of all contents, and sees that it stays.
 fn stays(cases: &[Case]) {
     for content in contents() {
-        for Case { name, number, call } in cases {
+        for Case { name, word, call } in cases {
             let mut memory = Memory::holding(&content);
-            assert_eq!(call(&mut memory), *number, "{name}");
-            assert!(memory.words == content, "{name}, {number}: a byte changed");
+            assert_eq!(call(&mut memory), *word, "{name}");
+            assert!(memory.words == content, "{name}, {word}: a byte changed");
         }
     }
 }
@@ -412,7 +418,7 @@ fn a_refusal_leaves_every_lent_byte() {
         .collect();
     let tried: BTreeSet<_> = cases
         .iter()
-        .map(|case| (case.name.to_string(), case.number))
+        .map(|case| (case.name.to_string(), case.word & 0xff))
         .collect();
     assert_eq!(tried, named(), "the refusals tried and those of the header");
     stays(&cases);

@@ -1,5 +1,6 @@
-//! Both readings agree: whatever the library refuses, the diagnosis finds the
-//! place.
+//! Whatever the library refuses, the diagnosis finds words for it. Where the
+//! library names a position, that is the byte it tells; elsewhere both readings
+//! agree.
 
 use std::collections::BTreeSet;
 
@@ -27,6 +28,10 @@ impl Explained {
         let told = explain(refusal);
         assert_ne!(told, Diagnosis::not_found_again(), "{refusal:?}");
         assert!(!told.found.is_empty() && !told.look_at.is_empty());
+        if let Some(position) = refusal.position {
+            assert_eq!(told.byte, Some(position), "{refusal:?}");
+            assert_eq!(told.entry.is_some(), refusal.number > 8);
+        }
         self.numbers.insert(refusal.number);
         Some(told)
     }

@@ -1,6 +1,6 @@
 //! What stands behind a refusal, in words: what was found, what was expected,
 //! where to look. It reads the same bytes beside the library and explains; the
-//! number and the minishard are always the library's.
+//! number, the minishard and the position are always the library's.
 //!
 //! Bytes, minishards, entries, levels and nodes are counted from 0, lines and
 //! columns of a text from 1.
@@ -33,8 +33,7 @@ pub struct Diagnosis {
     /// The line and the column to look at in a text, counted from 1; the first
     /// of them.
     pub line: Option<(u64, u64)>,
-    /// The entry of the minishard index that is at fault, and its id, which may
-    /// need more than 64 bits.
+    /// The entry of the minishard index that is at fault, and its id.
     pub entry: Option<(u64, u64)>,
 }
 

@@ -225,6 +225,7 @@ mod tests {
         Refusal {
             number,
             minishard: None,
+            position: None,
         }
     }
 

@@ -1,8 +1,7 @@
-//! Refusals of a shard: 5 to 13.
+//! Refusals of a shard: 5 to 13. Where a fault stands is what the library says;
+//! here the numbers at that place are read and put into words.
 
-use std::collections::HashMap;
-
-use coronagamba::{Refusal, Sharding};
+use coronagamba::{Refusal, Shard, Sharding};
 
 use super::places::MOST_MINISHARD_BITS;
 use super::{of_shard_number, of_sharding, u64_at, Diagnosis, Place};
@@ -30,13 +29,12 @@ pub fn of_shard(sharding: &Sharding, number: u64, file: &[u8], refusal: Refusal)
         number,
         file,
     };
-    match (refusal.number, refusal.minishard) {
-        (1, _) => of_sharding(sharding),
-        (5, _) => of_shard_number(sharding, number),
-        (6, _) => seen.length(),
-        (7..=11, Some(minishard)) => told(seen.fault(minishard, refusal.number)),
-        (7..=11, None) => told(seen.first_fault(refusal.number)),
-        (13, _) => seen.settled_length(),
+    match refusal.number {
+        1 => of_sharding(sharding),
+        5 => of_shard_number(sharding, number),
+        6 => seen.length(),
+        7..=11 => told(seen.first_fault(refusal)),
+        13 => told(seen.settled_length()),
         _ => Diagnosis::not_found_again(),
     }
 }
@@ -56,7 +54,7 @@ pub fn of_listing(
     };
     match refusal.number {
         5 if minishard >= seen.minishards() => seen.no_minishard(minishard),
-        7..=11 => told(seen.fault(minishard, refusal.number)),
+        7..=11 => told(seen.fault(minishard, refusal)),
         _ => of_shard(sharding, number, file, refusal),
     }
 }
@@ -79,7 +77,7 @@ pub fn of_lookup(
     };
     match refusal.number {
         5 if sharding.shard_name(number).is_ok() => seen.other_shard(id),
-        7..=11 => told(seen.fault(place.minishard, refusal.number)),
+        7..=11 => told(seen.fault(place.minishard, refusal)),
         12 => told(seen.not_listed(id, place.minishard)),
         _ => of_shard(sharding, number, file, refusal),
     }
@@ -160,49 +158,54 @@ impl Seen<'_> {
         )
     }
 
-    /// The first fault in number order of minishards, where it is this one.
-    fn first_fault(&self, number: u8) -> Option<Diagnosis> {
-        let faults = |minishard| (7..=11).map(move |number| (minishard, number));
-        let mut all = (0..self.minishards()).flat_map(faults);
-        let (found, diagnosis) =
-            all.find_map(|(minishard, number)| Some((number, self.fault(minishard, number)?)))?;
-        (found == number).then_some(diagnosis)
+    /// A fault of the whole shard. Settling does not name its minishard, so the
+    /// check is asked.
+    fn first_fault(&self, refusal: Refusal) -> Option<Diagnosis> {
+        let shard = Shard::open(*self.sharding, self.number, self.file);
+        let minishard = match refusal.minishard {
+            Some(minishard) => minishard,
+            None => shard.check().err()?.minishard?,
+        };
+        self.fault(minishard, refusal)
     }
 
-    /// The fault of this number in a minishard that has none of a lower number.
-    fn fault(&self, minishard: u64, number: u8) -> Option<Diagnosis> {
-        match number {
-            7 => self.bad_entry(minishard),
-            8 => self.bad_length(minishard),
-            9 => self.repeated_id(minishard),
-            10 => self.bad_place(minishard),
-            11 => self.bad_end(minishard),
+    /// A fault of a minishard, at the place that the library names.
+    fn fault(&self, minishard: u64, refusal: Refusal) -> Option<Diagnosis> {
+        let position = refusal.position?;
+        match refusal.number {
+            7 => self.bad_entry(minishard, position),
+            8 => self.bad_length(minishard, position),
+            9 => self.repeated_id(minishard, position),
+            10 => self.bad_place(minishard, position),
+            11 => self.bad_end(minishard, position),
             _ => None,
         }
     }
 
     /// Start and end of a minishard index, counted from the end of the shard
-    /// index.
-    fn entry(&self, minishard: u64) -> Option<(u64, u64)> {
-        let place = ENTRY * minishard;
-        Some((u64_at(self.file, place)?, u64_at(self.file, place + 8)?))
+    /// index, by the entry at this byte.
+    fn entry(&self, position: u64) -> Option<(u64, u64)> {
+        Some((
+            u64_at(self.file, position)?,
+            u64_at(self.file, position + 8)?,
+        ))
     }
 
     /// Refusal 7.
-    fn bad_entry(&self, minishard: u64) -> Option<Diagnosis> {
-        let (start, end) = self.entry(minishard)?;
-        let what = format!("shard index, entry of minishard {minishard}");
+    fn bad_entry(&self, minishard: u64, position: u64) -> Option<Diagnosis> {
+        let (start, end) = self.entry(position)?;
+        let look_at = byte(
+            position,
+            &format!("shard index, entry of minishard {minishard}: start, then end"),
+        );
         if start > end {
             return Some(Diagnosis::new(
                 format!("start {start} is after end {end}"),
                 "a start that is at most the end",
-                byte(ENTRY * minishard, &format!("{what}: start, then end")),
+                look_at,
             ));
         }
         let last = u128::from(self.index_length()) + u128::from(end);
-        if start == end || last <= u128::from(self.file_length()) {
-            return None;
-        }
         Some(Diagnosis::new(
             format!(
                 "start {start} and end {end}, counted from byte {}: the end is byte {last}, the \
@@ -214,118 +217,100 @@ impl Seen<'_> {
                 "an end of at most {}",
                 self.file_length().saturating_sub(self.index_length())
             ),
-            byte(ENTRY * minishard + 8, &format!("{what}: end")),
+            look_at,
         ))
     }
 
     /// Refusal 8.
-    fn bad_length(&self, minishard: u64) -> Option<Diagnosis> {
-        let (start, end) = self.entry(minishard)?;
+    fn bad_length(&self, minishard: u64, position: u64) -> Option<Diagnosis> {
+        let (start, end) = self.entry(position)?;
         let length = end.checked_sub(start)?;
         let rest = length % ROWS;
-        (rest != 0).then(|| {
-            Diagnosis::new(
-                format!("a minishard index of {length} bytes, {rest} more than a multiple of 24"),
-                "a multiple of 24: three numbers of 8 bytes for each chunk",
-                byte(
-                    ENTRY * minishard,
-                    &format!(
-                        "shard index, entry of minishard {minishard}: start {start}, end {end}"
-                    ),
-                ),
-            )
+        Some(Diagnosis::new(
+            format!("a minishard index of {length} bytes, {rest} more than a multiple of 24"),
+            "a multiple of 24: three numbers of 8 bytes for each chunk",
+            byte(
+                position,
+                &format!("shard index, entry of minishard {minishard}: start {start}, end {end}"),
+            ),
+        ))
+    }
+
+    /// The rows of a minishard that has neither 7 nor 8: none where its entry is
+    /// empty, wherever that points.
+    fn rows(&self, minishard: u64) -> Option<Rows<'_>> {
+        let base = self.index_length();
+        let (start, end) = match self.entry(ENTRY * minishard)? {
+            (start, end) if start == end => (base, base),
+            (start, end) => (base.checked_add(start)?, base.checked_add(end)?),
+        };
+        let place = |byte| usize::try_from(byte).ok();
+        let bytes = self.file.get(place(start)?..place(end)?)?;
+        Some(Rows {
+            bytes,
+            begin: start,
         })
     }
 
-    /// The entries of a minishard that has neither 7 nor 8.
-    fn entries(&self, minishard: u64) -> Option<Entries<'_>> {
-        let (start, end) = self.entry(minishard)?;
-        let length = end.checked_sub(start)?;
-        if length == 0 {
-            return Some(Entries::new(&[], 0, self.index_length()));
-        }
-        let place = self.index_length().checked_add(start)?;
-        let (from, to) = (
-            usize::try_from(place).ok()?,
-            usize::try_from(place + length).ok()?,
+    /// Refusal 9.
+    fn repeated_id(&self, minishard: u64, position: u64) -> Option<Diagnosis> {
+        let rows = self.rows(minishard)?;
+        let entry = rows.entry(ID_STEPS, position)?;
+        let id = rows.id(entry)?;
+        let earlier = rows.ids().position(|earlier| earlier == id)?;
+        let told = Diagnosis::new(
+            format!("entry {entry} has id {id}, which entry {earlier} has too"),
+            "each id once in its minishard, in any order",
+            byte(position, &format!("id steps of minishard {minishard}")),
         );
-        let rows = self.file.get(from..to).filter(|_| length % ROWS == 0)?;
-        Some(Entries::new(rows, place, self.index_length()))
-    }
-
-    /// Refusal 9: the first entry whose id an entry before it has, and that
-    /// one.
-    fn repeated_id(&self, minishard: u64) -> Option<Diagnosis> {
-        let mut seen = HashMap::new();
-        for entry in self.entries(minishard)? {
-            let Some(earlier) = seen.insert(entry.id, entry.place) else {
-                continue;
-            };
-            let told = Diagnosis::new(
-                format!(
-                    "entry {} has id {}, which entry {earlier} has too",
-                    entry.place, entry.id
-                ),
-                "each id once in its minishard, in any order",
-                byte(entry.id_step, &format!("id steps of minishard {minishard}")),
-            );
-            return Some(told.of_entry(entry.place, entry.id));
-        }
-        None
+        Some(told.of_entry(entry, id))
     }
 
     /// Refusal 10.
-    fn bad_place(&self, minishard: u64) -> Option<Diagnosis> {
-        for entry in self.entries(minishard)? {
-            let id = entry.id;
-            let place = self.sharding.place(id).ok()?;
-            if place.shard != self.number || place.minishard != minishard {
-                let told = Diagnosis::new(
-                    format!(
-                        "entry {} has id {id}, which belongs to minishard {} of shard {} ({})",
-                        entry.place,
-                        place.minishard,
-                        place.shard,
-                        self.sharding.shard_name(place.shard).unwrap_or_default()
-                    ),
-                    format!("ids of minishard {minishard} of shard {}", self.number),
-                    byte(entry.id_step, &format!("id steps of minishard {minishard}"))
-                        .and("; and the settings, if many ids are elsewhere"),
-                );
-                return Some(told.of_entry(entry.place, id));
-            }
-        }
-        None
+    fn bad_place(&self, minishard: u64, position: u64) -> Option<Diagnosis> {
+        let rows = self.rows(minishard)?;
+        let entry = rows.entry(ID_STEPS, position)?;
+        let id = rows.id(entry)?;
+        let place = self.sharding.place(id).ok()?;
+        let told = Diagnosis::new(
+            format!(
+                "entry {entry} has id {id}, which belongs to minishard {} of shard {} ({})",
+                place.minishard,
+                place.shard,
+                self.sharding.shard_name(place.shard).unwrap_or_default()
+            ),
+            format!("ids of minishard {minishard} of shard {}", self.number),
+            byte(position, &format!("id steps of minishard {minishard}"))
+                .and("; and the settings, if many ids are elsewhere"),
+        );
+        Some(told.of_entry(entry, id))
     }
 
     /// Refusal 11.
-    fn bad_end(&self, minishard: u64) -> Option<Diagnosis> {
-        let length = u128::from(self.file_length());
-        let bad = |entry: &Entry| entry.end > length;
-        let entry = self.entries(minishard)?.find(bad)?;
-        let look_at = if entry.start > length {
-            byte(
-                entry.start_step,
-                &format!("start steps of minishard {minishard}"),
-            )
-        } else {
-            byte(entry.size, &format!("sizes of minishard {minishard}"))
-        };
+    fn bad_end(&self, minishard: u64, position: u64) -> Option<Diagnosis> {
+        let rows = self.rows(minishard)?;
+        let entry = rows.entry(START_STEPS, position)?;
+        let (id, length) = (rows.id(entry)?, self.file_length());
+        let start = u128::from(self.index_length()) + u128::from(rows.start(entry));
+        let size = rows.place(SIZES, entry);
+        let end = start + u128::from(u64_at(self.file, size)?);
         let told = Diagnosis::new(
             format!(
-                "entry {}, id {}: its chunk starts at byte {} and ends at byte {}, the file ends \
-                 at byte {length}",
-                entry.place, entry.id, entry.start, entry.end
+                "entry {entry}, id {id}: its chunk starts at byte {start} and ends at byte {end}, \
+                 the file ends at byte {length}"
             ),
             format!("an end of at most {length}"),
-            look_at,
+            byte(
+                position,
+                &format!("start steps of minishard {minishard}; the size is at byte {size}"),
+            ),
         );
-        Some(told.of_entry(entry.place, entry.id))
+        Some(told.of_entry(entry, id))
     }
 
     /// Refusal 12.
     fn not_listed(&self, id: u64, minishard: u64) -> Option<Diagnosis> {
-        let (start, end) = self.entry(minishard)?;
+        let (start, end) = self.entry(ENTRY * minishard)?;
         let where_listed = format!("minishard {minishard} of shard {}", self.number);
         let expected = format!("id {id} listed in {where_listed}");
         if start == end {
@@ -340,122 +325,100 @@ impl Seen<'_> {
                 ),
             ));
         }
-        let ids = || Some(self.entries(minishard)?.map(|entry| entry.id));
-        let below = ids()?.filter(|listed| *listed < id).max();
-        let above = ids()?.filter(|listed| *listed > id).min();
+        let rows = self.rows(minishard)?;
+        let below = rows.ids().filter(|listed| *listed < id).max();
+        let above = rows.ids().filter(|listed| *listed > id).min();
         let near = match (below, above) {
             (Some(below), Some(above)) => format!("the nearest ids are {below} and {above}"),
             (Some(below), None) => format!("the greatest id is {below}"),
             (None, Some(above)) => format!("the least id is {above}"),
             (None, None) => return None,
         };
-        let place = self.index_length() + start;
         Some(Diagnosis::new(
             format!(
                 "{where_listed} lists {}, not this one; {near}",
-                counted(ids()?.count() as u64, "chunk")
+                counted(rows.count(), "chunk")
             ),
             expected,
-            byte(place, &format!("index of minishard {minishard}")),
+            byte(rows.begin, &format!("index of minishard {minishard}")),
         ))
     }
 
     /// Refusal 13 of settling: the settled form's length is that of its parts.
-    fn settled_length(&self) -> Diagnosis {
-        let parts = |minishard| {
-            let entries = self.entries(minishard)?;
-            Some(
-                entries
-                    .map(|entry| entry.end - entry.start + u128::from(ROWS))
-                    .sum(),
-            )
-        };
-        let all: Option<Vec<u128>> = (0..self.minishards()).map(parts).collect();
-        let total = all.map(|parts| u128::from(self.index_length()) + parts.iter().sum::<u128>());
-        match total {
-            Some(total) if total > u128::from(MOST_BYTES) => Diagnosis::new(
-                format!("a settled form of {total} bytes"),
-                format!("at most {MOST_BYTES} bytes"),
-                "chunks that share bytes: a settled form writes each chunk's bytes out by themselves",
-            ),
-            _ => Diagnosis::not_found_again(),
+    fn settled_length(&self) -> Option<Diagnosis> {
+        let mut total = u128::from(self.index_length());
+        for minishard in 0..self.minishards() {
+            let rows = self.rows(minishard)?;
+            total += rows.bytes.len() as u128;
+            total += rows.numbers(SIZES).map(u128::from).sum::<u128>();
         }
+        Some(Diagnosis::new(
+            format!("a settled form of {total} bytes"),
+            format!("at most {MOST_BYTES} bytes"),
+            "chunks that share bytes: a settled form writes each chunk's bytes out by themselves",
+        ))
     }
 }
 
-/// A chunk as a minishard index lists it.
-struct Entry {
-    /// Its number in the minishard.
-    place: u64,
-    id: u64,
-    /// Where the chunk starts and ends in the file, in exact numbers.
-    start: u128,
-    end: u128,
-    /// Where its three numbers stand in the file.
-    id_step: u64,
-    start_step: u64,
-    size: u64,
-}
-
-/// Goes through the three rows of a minishard index (scope, 'From id to
-/// shard'; change requests, order 2: ids and starts are sums modulo 2^64).
-struct Entries<'a> {
-    rows: &'a [u8],
-    /// Where the rows begin in the file.
+/// The three rows of a minishard index (scope, 'From id to shard').
+struct Rows<'a> {
+    bytes: &'a [u8],
+    /// Where they begin in the file.
     begin: u64,
-    /// Where the shard index ends, from which starts count.
-    index_length: u64,
-    next: u64,
-    id: u64,
-    /// Where the chunk before ends, from there on.
-    cursor: u64,
 }
 
-impl<'a> Entries<'a> {
-    fn new(rows: &'a [u8], begin: u64, index_length: u64) -> Self {
-        Entries {
-            rows,
-            begin,
-            index_length,
-            next: 0,
-            id: 0,
-            cursor: 0,
-        }
+/// A row by its number.
+const ID_STEPS: u64 = 0;
+const START_STEPS: u64 = 1;
+const SIZES: u64 = 2;
+
+impl Rows<'_> {
+    /// How many entries there are.
+    fn count(&self) -> u64 {
+        self.bytes.len() as u64 / ROWS
     }
-}
 
-impl Iterator for Entries<'_> {
-    type Item = Entry;
+    /// The byte of the file at which an entry's number in a row begins.
+    fn place(&self, row: u64, entry: u64) -> u64 {
+        self.begin + 8 * (row * self.count() + entry)
+    }
 
-    fn next(&mut self) -> Option<Entry> {
-        let row = self.rows.len() as u64 / 3;
-        let place = self.next;
-        if 8 * place >= row {
-            return None;
-        }
-        self.next += 1;
-        let [ids, starts, sizes] = [0, 1, 2].map(|number| number * row + 8 * place);
-        self.id = self.id.wrapping_add(u64_at(self.rows, ids)?);
-        let relative = self.cursor.wrapping_add(u64_at(self.rows, starts)?);
-        let size = u64_at(self.rows, sizes)?;
-        self.cursor = relative.wrapping_add(size);
-        let start = u128::from(self.index_length) + u128::from(relative);
-        Some(Entry {
-            place,
-            id: self.id,
-            start,
-            end: start + u128::from(size),
-            id_step: self.begin + ids,
-            start_step: self.begin + starts,
-            size: self.begin + sizes,
+    /// The entry whose number in a row begins at this byte of the file.
+    fn entry(&self, row: u64, position: u64) -> Option<u64> {
+        Some(position.checked_sub(self.place(row, 0))? / 8)
+    }
+
+    /// The numbers of a row.
+    fn numbers(&self, row: u64) -> impl Iterator<Item = u64> + '_ {
+        let number = move |entry| u64_at(self.bytes, self.place(row, entry) - self.begin);
+        (0..self.count()).filter_map(number)
+    }
+
+    /// The ids: sums of the id steps modulo 2^64 (change requests, order 2).
+    fn ids(&self) -> impl Iterator<Item = u64> + '_ {
+        self.numbers(ID_STEPS).scan(0u64, |id, step| {
+            *id = id.wrapping_add(step);
+            Some(*id)
         })
+    }
+
+    /// The id of an entry.
+    fn id(&self, entry: u64) -> Option<u64> {
+        self.ids().nth(usize::try_from(entry).ok()?)
+    }
+
+    /// Where an entry's chunk starts, counted from the end of the shard index:
+    /// the sum modulo 2^64 of the start steps so far and the sizes before.
+    fn start(&self, entry: u64) -> u64 {
+        let steps = self.numbers(START_STEPS).take(entry as usize + 1);
+        let sizes = self.numbers(SIZES).take(entry as usize);
+        steps.chain(sizes).fold(0, u64::wrapping_add)
     }
 }
 
 #[cfg(test)]
 mod tests {
     use super::*;
-    use coronagamba::Shard;
 
     const SHARDING: Sharding = Sharding {
         preshift: 0,
@@ -489,13 +452,14 @@ mod tests {
         file
     }
 
-    /// The check's refusal of a file, explained. Settling, which names no
-    /// minishard, must be explained in the same way.
+    /// The check's refusal of a file, explained: the byte is the library's.
+    /// Settling, which names no minishard, must be explained in the same way.
     fn told_check(file: &[u8], number: u8, minishard: Option<u64>) -> Diagnosis {
         let shard = Shard::open(SHARDING, 0, file);
         let refusal = shard.check().unwrap_err();
         assert_eq!((refusal.number, refusal.minishard), (number, minishard));
         let told = of_shard(&SHARDING, 0, file, refusal);
+        assert_eq!(told.byte, refusal.position);
         let settling = shard.settled_length().unwrap_err();
         assert_eq!((settling.number, settling.minishard), (number, None));
         assert_eq!(of_shard(&SHARDING, 0, file, settling), told);
@@ -513,12 +477,20 @@ mod tests {
         let file = sound();
         assert_eq!(file.len(), 85);
         assert_eq!(Shard::open(SHARDING, 0, &file).check(), Ok(()));
-        let seen = Seen {
-            sharding: &SHARDING,
-            number: 0,
-            file: &file,
-        };
-        assert_eq!(seen.first_fault(9), None);
+    }
+
+    /// A fault without a place is not explained, and no place is made up.
+    #[test]
+    fn no_place_no_explanation() {
+        for number in 7..=11 {
+            let refusal = Refusal {
+                number,
+                minishard: Some(0),
+                position: None,
+            };
+            let told = of_shard(&SHARDING, 0, &sound(), refusal);
+            assert_eq!(told, Diagnosis::not_found_again());
+        }
     }
 
     #[test]
@@ -547,7 +519,7 @@ mod tests {
         assert_eq!(told.expected, "an end of at most 53");
         assert_eq!(
             told.look_at,
-            "byte 24 of the file (shard index, entry of minishard 1: end)"
+            "byte 16 of the file (shard index, entry of minishard 1: start, then end)"
         );
         let told = told_check(&damaged(&[(24, u64::MAX)]), 7, Some(1));
         assert!(told.found.contains("the end is byte 18446744073709551647"));
@@ -605,6 +577,7 @@ mod tests {
         assert!(told
             .look_at
             .starts_with("byte 37 of the file (id steps of minishard 0)"));
+        assert_eq!(told.entry, Some((0, 3)));
         // Minishard 1 lists the chunks of minishard 0.
         let told = told_check(&damaged(&[(16, 5), (24, 53)]), 10, Some(1));
         assert_eq!(
@@ -624,19 +597,17 @@ mod tests {
             "entry 1, id 10: its chunk starts at byte 34 and ends at byte 86, the file ends at byte 85"
         );
         assert_eq!(told.expected, "an end of at most 85");
-        assert_eq!(told.look_at, "byte 77 of the file (sizes of minishard 0)");
+        let second = "byte 61 of the file (start steps of minishard 0; the size is at byte 77)";
+        assert_eq!((told.look_at.as_str(), told.entry), (second, Some((1, 10))));
         let told = told_check(&damaged(&[(61, 100)]), 11, Some(0));
         assert!(told
             .found
             .contains("starts at byte 134 and ends at byte 137"));
-        assert_eq!(
-            told.look_at,
-            "byte 61 of the file (start steps of minishard 0)"
-        );
+        assert_eq!(told.look_at, second);
         // One byte back from the first chunk's end, and past the file.
         let told = told_check(&damaged(&[(61, u64::MAX), (77, 53)]), 11, Some(0));
         assert!(told.found.contains("starts at byte 33 and ends at byte 86"));
-        assert_eq!(told.look_at, "byte 77 of the file (sizes of minishard 0)");
+        assert_eq!(told.look_at, second);
         let told = told_check(&damaged(&[(53, u64::MAX), (69, u64::MAX)]), 11, Some(0));
         assert!(told.found.contains(
             "entry 0, id 4: its chunk starts at byte 18446744073709551647 and ends at byte \
@@ -711,7 +682,8 @@ mod tests {
         assert_eq!(told.expected, "a number below 2 (minishard bits: 1)");
     }
 
-    /// 4,096 minishards, each with one chunk of the same 300,000 bytes.
+    /// 4,096 minishards, each with one chunk of the same 300,000 bytes, but for
+    /// the last, which is empty and points beyond the file.
     #[test]
     fn settled_forms_that_are_too_long() {
         const MINISHARDS: u64 = 4096;
@@ -721,13 +693,14 @@ mod tests {
             ..SHARDING
         };
         let mut file = Vec::new();
-        for minishard in 0..MINISHARDS {
+        for minishard in 0..MINISHARDS - 1 {
             let start = SIZE + 24 * minishard;
             file.extend(start.to_le_bytes());
             file.extend((start + 24).to_le_bytes());
         }
+        file.extend([0xff; 16]);
         file.resize(file.len() + SIZE as usize, 0);
-        for minishard in 0..MINISHARDS {
+        for minishard in 0..MINISHARDS - 1 {
             for number in [minishard, 0, SIZE] {
                 file.extend(number.to_le_bytes());
             }
@@ -737,8 +710,8 @@ mod tests {
             .unwrap_err();
         assert_eq!(refusal.number, 13);
         let told = of_shard(&sharding, 0, &file, refusal);
-        // 4096 x (16 + 24 + 300000)
-        assert_eq!(told.found, "a settled form of 1228963840 bytes");
+        // 4096 x 16 + 4095 x (24 + 300000)
+        assert_eq!(told.found, "a settled form of 1228663816 bytes");
         assert_eq!(told.expected, "at most 1073741824 bytes");
     }
 }

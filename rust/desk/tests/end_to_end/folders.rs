@@ -215,6 +215,8 @@ fn two_hundred_shards_are_told_in_json() {
                 );
                 let minishard = refusal.minishard.map(|m| m.to_string());
                 assert_eq!(object.number("minishard"), minishard.as_deref());
+                let byte = refusal.position.map(|byte| byte.to_string());
+                assert_eq!(object.number("byte"), byte.as_deref());
             }
         }
     }

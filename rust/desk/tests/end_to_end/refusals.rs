@@ -1,6 +1,6 @@
-//! Every refusal number from files and words: the number, the minishard where
-//! the rules give one, and exit status 1. What is expected follows from the
-//! scope's table; the independent program must agree.
+//! Every refusal number from files and words: the number, the minishard and the
+//! position where the rules give them, and exit status 1. What is expected
+//! follows from the scope's table; the independent program must agree.
 
 use crate::json::Json;
 use crate::shards::{example, options, with_index, ONE};
@@ -20,10 +20,22 @@ fn told(run: &Run) -> Option<Refusal> {
         let (minishard, _) = rest.split_once(':').expect("a colon behind the minishard");
         minishard.parse().expect("a minishard number")
     });
+    let number = number.parse().ok()?;
     Some(Refusal {
-        number: number.parse().ok()?,
+        number,
         minishard,
+        position: position(number, || {
+            let (_, place) = told.split_once("look at: byte ").expect("a place");
+            let end = place.find(' ').expect("a word behind the byte");
+            place[..end].parse().expect("a byte's number")
+        }),
     })
+}
+
+/// The byte told, where the number is one that has a position. Of other numbers
+/// the desk may tell a byte of its own finding.
+fn position(number: u8, byte: impl FnOnce() -> u64) -> Option<u64> {
+    (7..=11).contains(&number).then(byte)
 }
 
 /// The refusal that a run with --json told.
@@ -32,14 +44,16 @@ fn told_in_json(run: &Run) -> Option<Refusal> {
         let object = Json::read(line).unwrap_or_else(|why| panic!("{why}\n{run}"));
         object.get("refusal").is_some().then_some(object)
     })?;
-    let number = |name| {
+    let whole = |name| {
         refused
             .number(name)
             .map(|n| n.parse::<u64>().expect("whole"))
     };
+    let number = whole("refusal")? as u8;
     Some(Refusal {
-        number: number("refusal")? as u8,
-        minishard: number("minishard"),
+        number,
+        minishard: whole("minishard"),
+        position: position(number, || whole("byte").expect("a byte")),
     })
 }
 
@@ -278,7 +292,8 @@ fn number_5_another_shard() {
         shard_bits: 1,
         ..ONE
     };
-    assert_eq!(shard::lookup(&two, 0, 2, &example()), Err(5));
+    let elsewhere = shard::lookup(&two, 0, 2, &example());
+    assert_eq!(elsewhere, Err(Refusal::bare(5)));
     refused_bare(&folder, &format!("get 0.shard 2 {}", options(&two)), 5);
 }
 
@@ -300,62 +315,66 @@ fn number_6_too_short_or_too_long() {
     refused(
         &folder,
         &format!("check 0.shard {one}"),
-        Refusal::in_minishard(7, 0),
+        Refusal::at(7, 0).in_minishard(0),
     );
     let long = File::create(folder.at("0.shard")).expect("a file");
     long.set_len((1 << 30) + 1).expect("a file with a hole");
     refused_bare(&folder, &format!("check 0.shard {one}"), 6);
 }
 
-/// A faulty shard of [`ONE`] and what the whole-shard check says of it.
+/// A faulty shard of [`ONE`] and what the whole-shard check says of it. The rows
+/// begin at byte 37; two entries have their start steps at bytes 53 and 61.
 fn faulty() -> Vec<(Vec<u8>, Refusal)> {
     let sound = [4, 6, 0, 0, 2, 3];
     let first = |index: &[u64]| with_index([5, 5 + 8 * index.len() as u64, 0, 0], index);
     let second = |start, end| with_index([5, 53, start, end], &sound);
-    let fault = Refusal::in_minishard;
+    let fault = |number, minishard, byte| Refusal::at(number, byte).in_minishard(minishard);
     vec![
-        (with_index([53, 5, 0, 0], &sound), fault(7, 0)),
-        (second(1, 0), fault(7, 1)),
-        (second(0, 54), fault(7, 1)),
-        (second(u64::MAX - 1, u64::MAX), fault(7, 1)),
-        (with_index([5, 52, 0, 0], &sound), fault(8, 0)),
-        (second(0, 1), fault(8, 1)),
-        (first(&[4, 0, 0, 0, 2, 3]), fault(9, 0)),
+        (with_index([53, 5, 0, 0], &sound), fault(7, 0, 0)),
+        (second(1, 0), fault(7, 1, 16)),
+        (second(0, 54), fault(7, 1, 16)),
+        (second(u64::MAX - 1, u64::MAX), fault(7, 1, 16)),
+        (with_index([5, 52, 0, 0], &sound), fault(8, 0, 0)),
+        (second(0, 1), fault(8, 1, 16)),
+        (first(&[4, 0, 0, 0, 2, 3]), fault(9, 0, 45)),
         // 4, 10, 4: by a step that wraps.
-        (first(&[4, 6, u64::MAX - 5, 0, 0, 0, 2, 3, 0]), fault(9, 0)),
-        (with_index([5, 53, 5, 53], &sound), fault(10, 1)),
-        (first(&[4, 7, 0, 0, 2, 3]), fault(10, 0)),
-        (first(&[4, 6, 0, 0, 2, 52]), fault(11, 0)),
+        (
+            first(&[4, 6, u64::MAX - 5, 0, 0, 0, 2, 3, 0]),
+            fault(9, 0, 53),
+        ),
+        (with_index([5, 53, 5, 53], &sound), fault(10, 1, 37)),
+        (first(&[4, 7, 0, 0, 2, 3]), fault(10, 0, 45)),
+        (first(&[4, 6, 0, 0, 2, 52]), fault(11, 0, 61)),
         // Three bytes back from 2: a start of 2^64-1, and nothing wraps behind it.
-        (first(&[4, 6, 0, u64::MAX - 2, 2, 3]), fault(11, 0)),
-        (first(&[4, 6, 0, u64::MAX, 2, 53]), fault(11, 0)),
+        (first(&[4, 6, 0, u64::MAX - 2, 2, 3]), fault(11, 0, 61)),
+        (first(&[4, 6, 0, u64::MAX, 2, 53]), fault(11, 0, 61)),
         // Within a minishard lower numbers go first, and a minishard is
         // finished before the next.
-        (first(&[4, 0, 0, 0, 2, 99]), fault(9, 0)),
+        (first(&[4, 0, 0, 0, 2, 99]), fault(9, 0, 45)),
         (
             with_index([5, 53, 1, 0], &[4, 6, 0, 0, 2, 52]),
-            fault(11, 0),
+            fault(11, 0, 61),
         ),
     ]
 }
 
 #[test]
-fn numbers_7_to_11_name_the_minishard_in_a_check() {
+fn numbers_7_to_11_name_minishard_and_position_in_a_check() {
     let folder = Folder::new();
     let one = options(&ONE);
     for (file, expected) in faulty() {
         assert_eq!(shard::check(&ONE, 0, &file), Err(expected));
         folder.write("0.shard", &file);
         refused(&folder, &format!("check 0.shard {one}"), expected);
-        let bare = expected.number;
-        assert_eq!(settle::length_of(&ONE, 0, &file), Err(bare));
-        refused_bare(&folder, &format!("settle 0.shard --out o {one}"), bare);
+        let settling = expected.passed_on();
+        assert_eq!(settle::length_of(&ONE, 0, &file), Err(settling));
+        refused(&folder, &format!("settle 0.shard --out o {one}"), settling);
         assert!(!folder.at("o").exists());
     }
 }
 
 #[test]
-fn numbers_7_to_11_are_bare_in_a_lookup_of_that_minishard() {
+fn numbers_7_to_11_name_the_position_in_a_lookup_and_a_listing() {
     let folder = Folder::new();
     let one = options(&ONE);
     for (file, expected) in faulty() {
@@ -368,12 +387,16 @@ fn numbers_7_to_11_are_bare_in_a_lookup_of_that_minishard() {
                     run.expect_status(0);
                     assert_eq!(run.stdout, entry.bytes(&file));
                 }
-                Err(number) => refused_bare(&folder, &line, number),
+                Err(told) => refused(&folder, &line, told),
             }
         }
-        assert_eq!(
-            shard::lookup(&ONE, 0, expected.minishard.unwrap_or(0), &file),
-            Err(expected.number)
+        let minishard = expected.minishard.expect("7 to 11 name it");
+        let told = Err(expected.passed_on());
+        assert_eq!(shard::lookup(&ONE, 0, minishard, &file), told);
+        refused(
+            &folder,
+            &format!("list 0.shard --minishard {minishard} {one}"),
+            expected.passed_on(),
         );
     }
 }
@@ -419,7 +442,8 @@ fn number_13_a_settled_form_beyond_a_gibibyte() {
     let folder = Folder::new();
     let (sharding, file) = folded();
     assert_eq!(shard::check(&sharding, 0, &file), Ok(()));
-    assert_eq!(settle::length_of(&sharding, 0, &file), Err(13));
+    let length = settle::length_of(&sharding, 0, &file);
+    assert_eq!(length, Err(Refusal::bare(13)));
     folder.write("0.shard", &file);
     folder.write("copy/0.shard", &file);
     let options = options(&sharding);

@@ -142,11 +142,11 @@ fn the_damaged_copy_has_a_fault_of_each_kind() {
     let whole = shards(&folder, "copy-b");
     let damaged = shards(&folder, "damaged");
     let verdict = |number: u64| check(&DEPOSIT, number, &damaged[&number]);
-    let fault = |number, minishard| Err(Refusal::in_minishard(number, minishard));
+    let fault = |number, minishard, byte| Err(Refusal::at(number, byte).in_minishard(minishard));
     assert_eq!(damaged[&0], whole[&0]);
-    assert_eq!(verdict(1), fault(7, 1));
-    assert_eq!(verdict(2), fault(9, 0));
-    assert_eq!(verdict(3), fault(11, 1));
+    assert_eq!(verdict(1), fault(7, 1, 16));
+    assert_eq!(verdict(2), fault(9, 0, 460));
+    assert_eq!(verdict(3), fault(11, 1, 104));
     assert_eq!(verdict(4), Err(Refusal::bare(6)));
     assert_eq!(verdict(5), Ok(()));
     assert_eq!(damaged[&6], whole[&6]);
@@ -184,10 +184,11 @@ fn the_damage_is_shown_where_it_was_done() {
         (looked_at(2), number_at(&damaged[&2], index + 8)),
         (index + 8, 0)
     );
-    // Minishard 1 of shard 3: its last size, behind two rows.
+    // Minishard 1 of shard 3: the start step of its last chunk. Behind it stands
+    // the row of sizes, of which the last was changed.
     let index = 32 + number_at(&damaged[&3], 16) as usize;
     let end = 32 + number_at(&damaged[&3], 24) as usize;
-    assert_eq!((looked_at(3), end - index), (end - 8, 24 * 4));
+    assert_eq!((looked_at(3), end - index), (end - 8 * 4 - 8, 24 * 4));
     assert!(number_at(&damaged[&3], end - 8) > damaged[&3].len() as u64);
 }
 

@@ -1,4 +1,4 @@
-//! The README's tour, run word for word.
+//! The README's tour and the dumps of docs/POSITIONS.md, run word for word.
 //!
 //! The tour stands between two marker comments. In its blocks a line that
 //! begins with `$ ` is a command; the lines behind it are what a terminal
@@ -10,8 +10,9 @@ use std::os::unix::fs::symlink;
 use std::process::Command;
 
 const README: &str = concat!(env!("CARGO_MANIFEST_DIR"), "/../../README.md");
+const POSITIONS: &str = concat!(env!("CARGO_MANIFEST_DIR"), "/../../docs/POSITIONS.md");
 
-/// A command of the tour and what is shown behind it.
+/// A command of a document and what is shown behind it.
 struct Step {
     command: String,
     shown: String,
@@ -64,20 +65,48 @@ fn shown(folder: &Folder, command: &str) -> String {
     shown
 }
 
+/// Runs commands, each of which begins with one of these programs, in one fresh
+/// folder. Panics where one shows something else than it should.
+fn run(steps: &[Step], programs: &[&str]) {
+    let folder = Folder::new();
+    symlink(PROGRAM, folder.at("coronagamba")).expect("a link");
+    for Step { command, shown } in steps {
+        let program = command.split(' ').next().unwrap_or_default();
+        assert!(programs.contains(&program), "{command}");
+        let found = self::shown(&folder, command);
+        assert_eq!(found, *shown, "$ {command}\n{found}");
+    }
+}
+
 #[test]
 fn the_tour_shows_what_it_says() {
     let readme = fs::read_to_string(README).expect("the README");
     let steps = steps(tour(&readme));
     assert!(steps.len() >= 10, "{} commands", steps.len());
-    let folder = Folder::new();
-    symlink(PROGRAM, folder.at("coronagamba")).expect("a link");
-    for step in steps {
-        assert!(
-            step.command.starts_with("./coronagamba "),
-            "{}",
-            step.command
+    run(&steps, &["./coronagamba"]);
+}
+
+/// Each of 7 to 11 is met by a check, and the next dump begins at the byte that
+/// it tells, with as many bytes as the rules give the position.
+#[test]
+fn the_dumps_show_what_they_say() {
+    let text = fs::read_to_string(POSITIONS).expect("docs/POSITIONS.md");
+    let steps = steps(&text);
+    run(&steps, &["./coronagamba", "cp", "printf", "od"]);
+    for number in 7..=11 {
+        let refused = format!(": refused {number} in minishard ");
+        let met = steps.iter().position(|step| step.shown.contains(&refused));
+        let at = met.unwrap_or_else(|| panic!("no refusal {number}"));
+        let told = steps[at]
+            .shown
+            .split_once("look at: byte ")
+            .expect("a byte");
+        let byte = told.1.split(' ').next().expect("a byte's number");
+        let bytes = if number < 9 { 16 } else { 8 };
+        let file = steps[at].command.split(' ').nth(2).expect("a file");
+        assert_eq!(
+            steps[at + 1].command,
+            format!("od -v -A d -t x1 -w8 -j {byte} -N {bytes} {file}")
         );
-        let shown = shown(&folder, &step.command);
-        assert_eq!(shown, step.shown, "$ {}\n{shown}", step.command);
     }
 }

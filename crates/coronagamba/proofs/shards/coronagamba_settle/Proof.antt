@@ -1,6 +1,8 @@
-use Rattle.coronagamba.proofs.Writing.{writing}
+use borrow.Author.Needs.{needs}
+use Rattle.coronagamba.proofs.Checked.{fitting}
+use Rattle.coronagamba.proofs.Answered.{settling}
 use Rattle.coronagamba.proofs.shards.coronagamba_settle.Statement.{statement}
 use Rattle.coronagamba.proofs.shards.coronagamba_settle.Tie as tie
 
 pub coronagamba-settle-spec : {M : Type 1} → statement M
-coronagamba-settle-spec = tie.close (tie.spec (λ c κs. search writing) (λ c. search writing) (λ c. search writing) (λ c. search writing) (λ c. search writing) (λ c. search writing) (λ c. search writing) (λ c. search writing))
+coronagamba-settle-spec = tie.close (tie.spec (λ c κs. search needs) (λ c. search needs) (λ c. search needs) (λ c. search needs) (λ c. search needs) (λ c κs. search fitting) (λ c. search needs) (λ c. (search settling, (search settling, search settling))) (λ c. search needs) (λ c. (search settling, (search settling, search settling))) (λ c. search needs) (λ c. (search settling, (search settling, search settling))))

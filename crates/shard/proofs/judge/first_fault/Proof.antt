@@ -1,6 +1,6 @@
 -- The first fault of some minishards: each loop keeps what is left to find, each break has found it.
-use Prim.Native.Nat.{_-_, _≤_}
-use mathlib.Core.Path.{_≡_}
+use Prim.Native.Nat.{_+_, _-_, _≤_}
+use mathlib.Core.Path.{_≡_, refl}
 use mathlib.Core.List.{[], _∷_}
 use mathlib.Core.Logic.{⊎-elim}
 use native.Mathlib.Omega.{arith}
@@ -10,30 +10,31 @@ use Rattle.shard.specs.File.{mostShardBytes}
 use Rattle.shard.specs.Index.{idSteps}
 use Rattle.endian.specs.Little.{rowAt}
 use Rattle.shard.specs.Faults.{foreignAt, placeTest, endTest, faultOf, noFault}
+use Rattle.shard.proofs.Split.{index-short}
 use Rattle.shard.proofs.Walks.{Walk, walk-start, walk-end, ours-turn, Span, span-start, span-turn}
 use Rattle.shard.proofs.Loops.{Searching, Testing, search-start, search-end, search-empty, search-next, end-before, end-past, end-ragged, end-twice, test-places, test-next, end-place, end-start, end-size}
 use Rattle.shard.proofs.judge.first_fault.Statement.{statement}
 use Rattle.shard.proofs.judge.first_fault.Tie as tie
 
 abbrev Inv-places : tie.InvT-places
-Inv-places spec shard index «data» from to len found₀ m s e p n again own₀ j₀ found own j =
-    (found ≡ noFault) × Testing (faultOf spec shard index «data») from to m n (placeTest spec shard m «data» p ∷ endTest «data» p n ∷ []) × Walk (idSteps «data» p) (foreignAt spec shard m (idSteps «data» p)) n j own × (length «data» ≤ mostShardBytes)
+Inv-places spec shard index «data» from to base len found₀ m s e p n again own₀ j₀ found own j =
+    (found ≡ noFault) × Testing (faultOf spec shard index «data») from to m (length index + p) n (placeTest spec shard m «data» p ∷ endTest «data» p n ∷ []) × Walk (idSteps «data» p) (foreignAt spec shard m (idSteps «data» p)) n j own × (length «data» ≤ mostShardBytes) × (length index ≤ mostShardBytes)
 
 abbrev μ-places : tie.MeasureT-places
-μ-places spec shard index «data» from to len found₀ m s e p n again own₀ j₀ found own j = n - j
+μ-places spec shard index «data» from to base len found₀ m s e p n again own₀ j₀ found own j = n - j
 
 abbrev Inv-ends : tie.InvT-ends
-Inv-ends spec shard index «data» from to len found₀ m s e p n again own j q t end₀ k₀ found end k =
-    (found ≡ noFault) × Testing (faultOf spec shard index «data») from to m n (endTest «data» p n ∷ []) × Span (rowAt «data» q) (rowAt «data» t) (length «data») n k end × (length «data» ≤ mostShardBytes)
+Inv-ends spec shard index «data» from to base len found₀ m s e p n again own j q t end₀ k₀ found end k =
+    (found ≡ noFault) × Testing (faultOf spec shard index «data») from to m (length index + p) n (endTest «data» p n ∷ []) × Span (rowAt «data» q) (rowAt «data» t) (length «data») n k end × (length «data» ≤ mostShardBytes) × (length index ≤ mostShardBytes)
 
 abbrev μ-ends : tie.MeasureT-ends
-μ-ends spec shard index «data» from to len found₀ m s e p n again own j q t end₀ k₀ found end k = n - k
+μ-ends spec shard index «data» from to base len found₀ m s e p n again own j q t end₀ k₀ found end k = n - k
 
 abbrev Inv-minishards : tie.InvT-minishards
-Inv-minishards spec shard index «data» from to len found₀ m₀ found m = (found ≡ noFault) × Searching (faultOf spec shard index «data») from to m × (length «data» ≤ mostShardBytes)
+Inv-minishards spec shard index «data» from to base len found₀ m₀ found m = (found ≡ noFault) × Searching (faultOf spec shard index «data») from to m × (length «data» ≤ mostShardBytes) × (length index ≤ mostShardBytes)
 
 abbrev μ-minishards : tie.MeasureT-minishards
-μ-minishards spec shard index «data» from to len found₀ m₀ found m = to - m
+μ-minishards spec shard index «data» from to base len found₀ m₀ found m = to - m
 
 pub first-fault-spec : {M : Type 1} → statement M
 first-fault-spec =
@@ -46,21 +47,21 @@ first-fault-spec =
     Inv-minishards
     μ-minishards
     (λ c κs. search needs)
-    (λ c. (search needs, search-start, search needs))
+    (λ c. (search needs, search-start, search needs, search index-short))
     (λ c κs. omega arith)
     (λ c κs. omega arith)
-    (λ c κs. search needs)
-    (λ c κs. search needs)
-    (λ c κs. search needs)
     (λ c κs. omega arith)
-    (λ c κs. search needs)
-    (λ c. (search needs, search test-places, walk-start _ _ _, search needs))
+    (λ c κs. omega arith)
+    (λ c κs. omega arith)
+    (λ c κs. omega arith)
+    (λ c κs. omega arith)
+    (λ c. (search needs, search test-places, walk-start _ _ _, search needs, search needs))
     (λ c. omega arith)
     (λ c. omega arith)
     (λ c κs. omega arith)
     (λ c κs. search needs)
     (λ c κs. search needs)
-    (λ c κs. search needs)
+    (λ c κs. omega arith)
     (λ c. omega arith)
     (λ c. omega arith)
     (λ c.
@@ -70,6 +71,7 @@ first-fault-spec =
       ours-turn _ _ _ (read .before .before .places .inv .2) (omega arith) (read .read-u64 .ensures .0) (c .before .before .wrapping-add-u64 .ensures) (c .before .is-foreign .ensures)
           (c .if6 .left),
       read .before .before .places .inv .3,
+      read .before .before .places .inv .4,
     ))
     (λ c. omega arith)
     (λ c. omega arith)
@@ -77,7 +79,7 @@ first-fault-spec =
     (λ c. omega arith)
     (λ c.
     let v = c .before .places .inv in
-    (search needs, test-next (v .1) (walk-end (v .2) (search needs)), span-start _ _ _ _, v .3))
+    (search needs, test-next (v .1) (walk-end (v .2) (search needs)), span-start _ _ _ _, v .3, v .4))
     (λ c. omega arith)
     (λ c. omega arith)
     (λ c κs. omega arith)
@@ -85,8 +87,8 @@ first-fault-spec =
     (λ c. omega arith)
     (λ c. omega arith)
     (λ c κs. omega arith)
-    (λ c κs. search needs)
-    (λ c κs. search needs)
+    (λ c κs. omega arith)
+    (λ c κs. omega arith)
     (λ c. omega arith)
     (λ c. omega arith)
     (λ c. omega arith)
@@ -98,10 +100,11 @@ first-fault-spec =
       span-turn (start .before .before .ends .inv .2) (omega arith) (start .read-u642 .ensures .0) (size .before .wrapping-add-u642 .ensures) (size .read-u643 .ensures .0)
           (c .before .if7 .left) (c .if8 .left) (start .before .before .ends .inv .3),
       start .before .before .ends .inv .3,
+      start .before .before .ends .inv .4,
     ))
     (λ c. omega arith)
     (λ c. omega arith)
-    (λ c. ⊎-elim (λ w. (cc, search search-next, search needs)) (λ w. (cc, search search-empty, search needs)) (c .if2 .came))
+    (λ c. ⊎-elim (λ w. (cc, search search-next, search needs, search needs)) (λ w. (cc, search search-empty, search needs, search needs)) (c .if2 .came))
     (λ c. search search-end)
     (λ c. search end-before)
     (λ c. search end-past)
@@ -110,17 +113,17 @@ first-fault-spec =
     (λ c.
     let read = c .before .before .before .before in
     let v = read .before .before .places .inv in
-    end-place _ _ _ _ (c .fault-at6 .ensures) (v .1) (v .2) (omega arith) (read .read-u64 .ensures .0) (c .before .before .before .wrapping-add-u64 .ensures) (c .before .before .is-foreign .ensures)
+    end-place _ _ _ _ _ (c .row-fault2 .ensures) (v .1) (v .2) (omega arith) (read .read-u64 .ensures .0) (c .before .before .before .wrapping-add-u64 .ensures) (c .before .before .is-foreign .ensures)
     (c .before .if6 .taken))
     (λ c.
     let size = c .before .before in
     let start = size .before .before in
     let v = start .before .before .ends .inv in
-    end-start _ _ _ _ (c .fault-at7 .ensures) (v .1) (v .2) (omega arith) (start .read-u642 .ensures .0) (size .before .wrapping-add-u642 .ensures) (size .read-u643 .ensures .0)
+    end-start _ _ _ _ _ refl (c .row-fault3 .ensures) (v .1) (v .2) (omega arith) (start .read-u642 .ensures .0) (size .before .wrapping-add-u642 .ensures) (size .read-u643 .ensures .0)
     (c .before .if7 .taken))
     (λ c.
     let size = c .before .before .before in
     let start = size .before .before in
     let v = start .before .before .ends .inv in
-    end-size _ _ _ _ (c .fault-at8 .ensures) (v .1) (v .2) (omega arith) (start .read-u642 .ensures .0) (size .before .wrapping-add-u642 .ensures) (size .read-u643 .ensures .0)
+    end-size _ _ _ _ _ refl (c .row-fault4 .ensures) (v .1) (v .2) (omega arith) (start .read-u642 .ensures .0) (size .before .wrapping-add-u642 .ensures) (size .read-u643 .ensures .0)
     (c .before .before .if7 .left) (c .before .if8 .taken)))

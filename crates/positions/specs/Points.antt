@@ -1,0 +1,57 @@
+-- What the position of a refusal points at (02, order 6): for 7 and 8 the index entry, for 9 and 10 the id step of the first offending entry, for 11
+-- its start step.
+use Prim.Native.Nat.{ℕ, _+_, _*_, _≤_, _<_}
+use mathlib.Core.Path.{_≡_}
+use mathlib.Core.Bool.{Bool, true, false}
+use mathlib.Core.List.{List}
+use lib.ListN.{length}
+use Rattle.endian.specs.Little.{leAt}
+use Rattle.sharding.specs.declared.Sharding.{Sharding}
+use Rattle.shard.specs.declared.CheckAnswer.the-variants.{Faulty}
+use Rattle.shard.specs.Index.{entryStart, entryEnd, entryCount, idSteps, startSteps, sizes}
+use Rattle.shard.specs.Faults.{badEntry, badLength, badId, foreignAt, outside}
+use Rattle.shard.specs.File.{mostShardBytes, indexLength, indexPart, dataPart, checkAnswer}
+
+-- the 16 bytes of the file from p on are the index entry of minishard m: its start s and its end e
+pub record AtEntry (file : List ℕ) (m s e p : ℕ) : Type 0 where
+  pub placed : p ≡ 16 * m
+  pub within : p + 16 ≤ length file
+  pub start : leAt 8 file p ≡ s
+  pub end : leAt 8 file (p + 8) ≡ e
+
+-- the 8 bytes of the file from p on are the number, in the row that begins at q, of the first of n entries that fails the test
+pub record AtFirst (file : List ℕ) (n q : ℕ) (row : ℕ → ℕ) (fails : ℕ → Bool) (p : ℕ) : Type 0 where
+  pub entry : ℕ
+  pub among : entry < n
+  pub failed : fails entry ≡ true
+  pub earlier : (j : ℕ) → j < entry → fails j ≡ false
+  pub placed : p ≡ q + 8 * entry
+  pub within : p + 8 ≤ length file
+  pub number : leAt 8 file p ≡ row entry
+
+-- what stands at p where minishard m, whose minishard index stands in the data d from s to e, is refused with k: what test k holds of
+pub record PointsFrom (spec : Sharding) (shard : ℕ) (file : List ℕ) (m k p : ℕ) (d : List ℕ) (s e : ℕ) : Type 0 where
+  pub from : 7 ≤ k
+  pub to : k ≤ 11
+  -- it lies within the file, which has an allowed length
+  pub within : p + 8 ≤ length file
+  pub short : length file ≤ mostShardBytes
+  -- the index entry of the minishard,
+  pub seven : k ≡ 7 → AtEntry file m s e p × (badEntry d s e ≡ true)
+  pub eight : k ≡ 8 → AtEntry file m s e p × (badLength s e ≡ true)
+  -- the id step of the first entry that has the id of an earlier one, or whose id is of another place,
+  pub nine : k ≡ 9 → AtFirst file (entryCount s e) (indexLength spec + s) (idSteps d s) (badId (idSteps d s)) p
+  pub ten : k ≡ 10 → AtFirst file (entryCount s e) (indexLength spec + s) (idSteps d s) (foreignAt spec shard m (idSteps d s)) p
+  -- the start step of the first entry whose chunk ends past the file
+  pub eleven : k ≡ 11
+      → AtFirst file (entryCount s e) (indexLength spec + (s + 8 * entryCount s e)) (startSteps d s (entryCount s e))
+      (outside (length d) (startSteps d s (entryCount s e)) (sizes d s (entryCount s e))) p
+
+abbrev pub PointsAt : Sharding → ℕ → List ℕ → ℕ → ℕ → ℕ → Type 0
+PointsAt spec shard file m k p = PointsFrom spec shard file m k p (dataPart spec file) (entryStart (indexPart spec file) m) (entryEnd (indexPart spec file) m)
+
+-- the check names k and p, with the first faulty minishard
+pub record Named (spec : Sharding) (shard : ℕ) (file : List ℕ) (k p : ℕ) : Type 0 where
+  pub minishard : ℕ
+  pub named : checkAnswer spec shard file ≡ Faulty k minishard p
+  pub points : PointsAt spec shard file minishard k p

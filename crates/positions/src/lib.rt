@@ -1,0 +1,1 @@
+// What the position of a refusal points at. No function of its own.
