@@ -22,8 +22,7 @@ abbrev μ-loop : tie.MeasureT-loop
 pub stands-before-spec : {M : Type 1} → statement M
 stands-before-spec =
     tie.close
-    (tie.spec
-    Inv-loop μ-loop (λ c. (search sum-zero, search needs, search any-none))
+    (tie.spec Inv-loop μ-loop (λ c. (search sum-zero, search needs, search any-none))
     (λ c κs. search needs) (λ c. stands-hit _ _ _ _ (c .before .next-id .ensures) (c .if1 .taken) (search needs)) (λ c. search needs) (λ c. search needs)
     (λ c. (search id-sum, search needs, stands-turn _ _ _ (c .before .before .before .loop .inv .2) (c .before .next-id .ensures) (c .if1 .left)))
     (λ c. search any-end))

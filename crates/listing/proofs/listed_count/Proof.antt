@@ -8,15 +8,6 @@ use Rattle.listing.proofs.listed_count.Tie as tie
 pub listed-count-spec : {M : Type 1} → statement M
 listed-count-spec =
     tie.close
-    (tie.spec
-    (λ c κs. search needs)
-    (λ c. search count-spec)
-    (λ c κs. search told-yes)
-    (λ c. search count-shard)
-    (λ c κs. search told-yes)
-    (λ c. search count-minishard)
-    (λ c κs. search told-yes)
-    (λ c. search count-short)
-    (λ c. search count-long)
-    (λ c κs. (search told-yes, (search needs, search needs)))
-    (λ c. search count-parts))
+    (tie.spec (λ c κs. search needs) (λ c. search count-spec) (λ c κs. search told-yes) (λ c. search count-shard) (λ c κs. search told-yes)
+    (λ c. search count-minishard) (λ c κs. search told-yes) (λ c. search count-short) (λ c. search count-long)
+    (λ c κs. (search told-yes, (search needs, search needs))) (λ c. search count-parts))

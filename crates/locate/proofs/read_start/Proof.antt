@@ -20,14 +20,5 @@ returns c =
 pub read-start-spec : {M : Type 1} → statement M
 read-start-spec =
     tie.close
-    (tie.spec
-    (λ c κs. search handed)
-    (λ c. search handed)
-    (λ c. search handed)
-    (λ c κs. search handed)
-    (λ c. search handed)
-    slice-aggregate-read-body
-    (λ c κs. search handed)
-    (λ c. search handed)
-    (λ c. search handed)
-    returns)
+    (tie.spec (λ c κs. search handed) (λ c. search handed) (λ c. search handed) (λ c κs. search handed) (λ c. search handed) slice-aggregate-read-body
+    (λ c κs. search handed) (λ c. search handed) (λ c. search handed) returns)

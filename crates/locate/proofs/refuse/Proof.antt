@@ -9,10 +9,5 @@ slice-aggregate-write-all c = part-long (c .before .before .before .put-refused 
 pub refuse-spec : {M : Type 1} → statement M
 refuse-spec =
     tie.close
-    (tie.spec
-    (λ c κs. search handed)
-    (λ c. search handed)
-    slice-aggregate-write-all
-    (λ c κs. search handed)
-    (λ c. search handed)
+    (tie.spec (λ c κs. search handed) (λ c. search handed) slice-aggregate-write-all (λ c κs. search handed) (λ c. search handed)
     (λ c. search handed))

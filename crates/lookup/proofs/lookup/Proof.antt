@@ -8,15 +8,6 @@ use Rattle.lookup.proofs.lookup.Tie as tie
 pub lookup-spec : {M : Type 1} → statement M
 lookup-spec =
     tie.close
-    (tie.spec
-    (λ c κs. search needs)
-    (λ c. search answer-spec)
-    (λ c κs. search told-yes)
-    (λ c. search answer-shard)
-    (λ c κs. search told-yes)
-    (λ c. search answer-other)
-    (λ c κs. search told-yes)
-    (λ c. search answer-short)
-    (λ c. search answer-long)
-    (λ c κs. (search told-yes, search needs))
-    (λ c. search answer-in))
+    (tie.spec (λ c κs. search needs) (λ c. search answer-spec) (λ c κs. search told-yes) (λ c. search answer-shard) (λ c κs. search told-yes)
+    (λ c. search answer-other) (λ c κs. search told-yes) (λ c. search answer-short) (λ c. search answer-long)
+    (λ c κs. (search told-yes, search needs)) (λ c. search answer-in))

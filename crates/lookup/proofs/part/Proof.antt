@@ -8,21 +8,7 @@ use Rattle.lookup.proofs.part.Tie as tie
 pub part-spec : {M : Type 1} → statement M
 part-spec =
     tie.close
-    (tie.spec
-    (λ c κs. search needs)
-    (λ c. search needs)
-    (λ c. search part-fits)
-    (λ c. search needs)
-    (λ c. search needs)
-    (λ c. search part-inside)
-    (λ c. search needs)
-    (λ c. search needs)
-    (λ c. search needs)
-    (λ c. search needs)
-    (λ c. search needs)
-    (λ c. search needs)
-    (λ c. search needs)
-    (λ c. search needs)
-    (λ c. (search part-bytes, (refl, search part-place)))
-    (λ c. (search none-bytes, (refl, search none-place)))
+    (tie.spec (λ c κs. search needs) (λ c. search needs) (λ c. search part-fits) (λ c. search needs) (λ c. search needs) (λ c. search part-inside)
+    (λ c. search needs) (λ c. search needs) (λ c. search needs) (λ c. search needs) (λ c. search needs) (λ c. search needs) (λ c. search needs)
+    (λ c. search needs) (λ c. (search part-bytes, (refl, search part-place))) (λ c. (search none-bytes, (refl, search none-place)))
     (λ c. (search fault-bytes, (refl, search fault-place))))

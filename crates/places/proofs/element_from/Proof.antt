@@ -11,15 +11,5 @@ abbrev μ-loop : tie.MeasureT-loop
 pub element-from-spec : {M : Type 1} → statement M
 element-from-spec =
     tie.close
-    (tie.spec
-    Inv-loop
-    μ-loop
-    (λ c. search reaching)
-    (λ c κs. search reaching)
-    (λ c. search reaching)
-    (λ c. search reaching)
-    (λ c. search reaching)
-    (λ c. search reaching)
-    (λ c. search reaching)
-    (λ c. search reaching)
-    (λ c. search reaching))
+    (tie.spec Inv-loop μ-loop (λ c. search reaching) (λ c κs. search reaching) (λ c. search reaching) (λ c. search reaching) (λ c. search reaching)
+    (λ c. search reaching) (λ c. search reaching) (λ c. search reaching) (λ c. search reaching))

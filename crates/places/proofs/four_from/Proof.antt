@@ -13,18 +13,6 @@ abbrev μ-loop : tie.MeasureT-loop
 pub four-from-spec : {M : Type 1} → statement M
 four-from-spec =
     tie.close
-    (tie.spec
-    Inv-loop
-    μ-loop
-    (λ c. search walking)
-    (λ c κs. search walking)
-    (λ c κs. search walking)
-    (λ c κs. search walking)
-    (λ c κs. search walking)
-    (λ c κs. search walking)
-    (λ c κs. search walking)
-    (λ c. search walking)
-    (λ c. search walking)
-    (λ c. search walking)
-    (λ c. search walking)
-    (λ c. search walking))
+    (tie.spec Inv-loop μ-loop (λ c. search walking) (λ c κs. search walking) (λ c κs. search walking) (λ c κs. search walking)
+    (λ c κs. search walking) (λ c κs. search walking) (λ c κs. search walking) (λ c. search walking) (λ c. search walking) (λ c. search walking)
+    (λ c. search walking) (λ c. search walking))

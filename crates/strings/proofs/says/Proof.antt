@@ -13,15 +13,5 @@ abbrev μ-loop : tie.MeasureT-loop
 pub says-spec : {M : Type 1} → statement M
 says-spec =
     tie.close
-    (tie.spec
-    Inv-loop
-    μ-loop
-    (λ c. search comparing)
-    (λ c κs. search comparing)
-    (λ c. search comparing)
-    (λ c κs. search comparing)
-    (λ c. search comparing)
-    (λ c. search comparing)
-    (λ c. search comparing)
-    (λ c. search comparing)
-    (λ c. search comparing))
+    (tie.spec Inv-loop μ-loop (λ c. search comparing) (λ c κs. search comparing) (λ c. search comparing) (λ c κs. search comparing)
+    (λ c. search comparing) (λ c. search comparing) (λ c. search comparing) (λ c. search comparing) (λ c. search comparing))

@@ -13,19 +13,6 @@ abbrev μ-loop : tie.MeasureT-loop
 pub skip-string-spec : {M : Type 1} → statement M
 skip-string-spec =
     tie.close
-    (tie.spec
-    Inv-loop
-    μ-loop
-    (λ c κs. search strings)
-    (λ c. search strings)
-    (λ c. search strings)
-    (λ c. search strings)
-    (λ c κs. search strings)
-    (λ c κs. search strings)
-    (λ c. search strings)
-    (λ c. search strings)
-    (λ c κs. search strings)
-    (λ c. search strings)
-    (λ c. search strings)
-    (λ c. search strings)
-    (λ c. search strings))
+    (tie.spec Inv-loop μ-loop (λ c κs. search strings) (λ c. search strings) (λ c. search strings) (λ c. search strings) (λ c κs. search strings)
+    (λ c κs. search strings) (λ c. search strings) (λ c. search strings) (λ c κs. search strings) (λ c. search strings) (λ c. search strings)
+    (λ c. search strings) (λ c. search strings))

@@ -21,12 +21,5 @@ returns-2 c =
 pub coronagamba-manifest-corners-spec : {M : Type 1} → statement M
 coronagamba-manifest-corners-spec =
     tie.close
-    (tie.spec
-    (λ c κs. search needs)
-    (λ c. search needs)
-    (λ c κs. search near-finite)
-    (λ c κs. search far-finite)
-    (λ c. search needs)
-    (λ c. search needs)
-    returns
-    returns-2)
+    (tie.spec (λ c κs. search needs) (λ c. search needs) (λ c κs. search near-finite) (λ c κs. search far-finite) (λ c. search needs)
+    (λ c. search needs) returns returns-2)

@@ -26,13 +26,5 @@ returns-3 c =
 pub coronagamba-manifest-field-spec : {M : Type 1} → statement M
 coronagamba-manifest-field-spec =
     tie.close
-    (tie.spec
-    (λ c κs. search needs)
-    (λ c. search needs)
-    (λ c. search field-number)
-    (λ c. search needs)
-    (λ c. search needs)
-    (λ c. search needs)
-    returns
-    returns-2
-    returns-3)
+    (tie.spec (λ c κs. search needs) (λ c. search needs) (λ c. search field-number) (λ c. search needs) (λ c. search needs) (λ c. search needs)
+    returns returns-2 returns-3)

@@ -20,16 +20,5 @@ returns-2 c =
 pub coronagamba-manifest-header-spec : {M : Type 1} → statement M
 coronagamba-manifest-header-spec =
     tie.close
-    (tie.spec
-    (λ c κs. search needs)
-    (λ c. search needs)
-    (λ c. search shape-x)
-    (λ c. search shape-y)
-    (λ c. search shape-z)
-    (λ c. search origin-x)
-    (λ c. search origin-y)
-    (λ c. search origin-z)
-    (λ c. search needs)
-    (λ c. search needs)
-    returns
-    returns-2)
+    (tie.spec (λ c κs. search needs) (λ c. search needs) (λ c. search shape-x) (λ c. search shape-y) (λ c. search shape-z) (λ c. search origin-x)
+    (λ c. search origin-y) (λ c. search origin-z) (λ c. search needs) (λ c. search needs) returns returns-2)

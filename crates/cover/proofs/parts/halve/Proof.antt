@@ -6,20 +6,7 @@ use Rattle.cover.proofs.parts.halve.Tie as tie
 pub halve-spec : {M : Type 1} → statement M
 halve-spec =
     tie.close
-    (tie.spec
-    (λ c κs. search halving)
-    (λ c κs. search halving)
-    (λ c κs. search halving)
-    (λ c κs. search halving)
-    (λ c κs. search halving)
-    (λ c. (search halving, (search halving, search halving)))
-    (λ c κs. search halving)
-    (λ c κs. search halving)
-    (λ c κs. search halving)
-    (λ c κs. search halving)
-    (λ c. (search halving, (search halving, search halving)))
-    (λ c κs. search halving)
-    (λ c κs. search halving)
-    (λ c κs. search halving)
-    (λ c κs. search halving)
-    (λ c. (search halving, (search halving, search halving))))
+    (tie.spec (λ c κs. search halving) (λ c κs. search halving) (λ c κs. search halving) (λ c κs. search halving) (λ c κs. search halving)
+    (λ c. (search halving, (search halving, search halving))) (λ c κs. search halving) (λ c κs. search halving) (λ c κs. search halving)
+    (λ c κs. search halving) (λ c. (search halving, (search halving, search halving))) (λ c κs. search halving) (λ c κs. search halving)
+    (λ c κs. search halving) (λ c κs. search halving) (λ c. (search halving, (search halving, search halving))))

@@ -10,12 +10,5 @@ ruleset voxels = (widened, end-fits, none-before, all-before, apart-fits, apart-
 pub voxels-before-spec : {M : Type 1} → statement M
 voxels-before-spec =
     tie.close
-    (tie.spec
-    (λ c. search voxels)
-    (λ c. search voxels)
-    (λ c. search voxels)
-    (λ c. search voxels)
-    (λ c. search voxels)
-    (λ c. search voxels)
-    (λ c. search voxels)
-    (λ c. search voxels))
+    (tie.spec (λ c. search voxels) (λ c. search voxels) (λ c. search voxels) (λ c. search voxels) (λ c. search voxels) (λ c. search voxels)
+    (λ c. search voxels) (λ c. search voxels))

@@ -8,14 +8,6 @@ use Rattle.listing.proofs.inner.count_file.Tie as tie
 pub count-file-spec : {M : Type 1} → statement M
 count-file-spec =
     tie.close
-    (tie.spec
-    (λ c κs. search needs)
-    (λ c. search front-count)
-    (λ c. search needs)
-    (λ c. search needs)
-    (λ c. search needs)
-    (λ c κs. (search needs, ((search front-index, search rest-short), search needs)))
-    (λ c. search in-fault)
-    (λ c. search front-count)
-    (λ c κs. (search in-entry, search in-order))
-    (λ c. search in-count))
+    (tie.spec (λ c κs. search needs) (λ c. search front-count) (λ c. search needs) (λ c. search needs) (λ c. search needs)
+    (λ c κs. (search needs, ((search front-index, search rest-short), search needs))) (λ c. search in-fault) (λ c. search front-count)
+    (λ c κs. (search in-entry, search in-order)) (λ c. search in-count))

@@ -7,11 +7,5 @@ use Rattle.listing.proofs.rows.put_listing.Tie as tie
 pub put-listing-spec : {M : Type 1} → statement M
 put-listing-spec =
     tie.close
-    (tie.spec
-    (λ c κs. search needs)
-    (λ c κs. search needs)
-    (λ c. search read-empty)
-    (λ c. search read-order)
-    (λ c κs. (search read-entries, search read-room))
-    (λ c. search needs)
-    (λ c. search read-listing))
+    (tie.spec (λ c κs. search needs) (λ c κs. search needs) (λ c. search read-empty) (λ c. search read-order)
+    (λ c κs. (search read-entries, search read-room)) (λ c. search needs) (λ c. search read-listing))

@@ -21,15 +21,5 @@ abbrev μ-loop : tie.MeasureT-loop
 pub put-lines-spec : {M : Type 1} → statement M
 put-lines-spec =
     tie.close
-    (tie.spec
-    Inv-loop
-    μ-loop
-    (λ c. search looping)
-    (λ c. search looping)
-    (λ c κs. search looping)
-    (λ c κs. search looping)
-    (λ c. search looping)
-    (λ c. search looping)
-    (λ c. search looping)
-    (λ c. search looping)
-    (λ c. search looping))
+    (tie.spec Inv-loop μ-loop (λ c. search looping) (λ c. search looping) (λ c κs. search looping) (λ c κs. search looping) (λ c. search looping)
+    (λ c. search looping) (λ c. search looping) (λ c. search looping) (λ c. search looping))

@@ -8,11 +8,5 @@ use Rattle.lookup.proofs.inner.lookup_file.Tie as tie
 pub lookup-file-spec : {M : Type 1} → statement M
 lookup-file-spec =
     tie.close
-    (tie.spec
-    (λ c κs. search needs)
-    (λ c. search front-count)
-    (λ c. search needs)
-    (λ c. search needs)
-    (λ c. search needs)
-    (λ c κs. (search needs, (search front-index, search rest-short)))
-    (λ c. search parts-lookup))
+    (tie.spec (λ c κs. search needs) (λ c. search front-count) (λ c. search needs) (λ c. search needs) (λ c. search needs)
+    (λ c κs. (search needs, (search front-index, search rest-short))) (λ c. search parts-lookup))

@@ -9,13 +9,5 @@ use Rattle.lookup.proofs.inner.lookup_in.Tie as tie
 pub lookup-in-spec : {M : Type 1} → statement M
 lookup-in-spec =
     tie.close
-    (tie.spec
-    (λ c κs. search needs)
-    (λ c κs. search needs)
-    (λ c. search in-fault)
-    (λ c κs. search needs)
-    (λ c κs. search needs)
-    (λ c. search in-empty)
-    (λ c. search passed-order)
-    (λ c κs. search (passed-readable, index-short, needs))
-    (λ c. search in-found))
+    (tie.spec (λ c κs. search needs) (λ c κs. search needs) (λ c. search in-fault) (λ c κs. search needs) (λ c κs. search needs)
+    (λ c. search in-empty) (λ c. search passed-order) (λ c κs. search (passed-readable, index-short, needs)) (λ c. search in-found))

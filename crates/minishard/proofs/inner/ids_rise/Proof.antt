@@ -13,17 +13,5 @@ abbrev μ-loop : tie.MeasureT-loop
 pub ids-rise-spec : {M : Type 1} → statement M
 ids-rise-spec =
     tie.close
-    (tie.spec
-    Inv-loop
-    μ-loop
-    (λ c κs. search climbing)
-    (λ c. search climbing)
-    (λ c. search climbing)
-    (λ c. search climbing)
-    (λ c κs. search climbing)
-    (λ c κs. search climbing)
-    (λ c. search climbing)
-    (λ c. search climbing)
-    (λ c. search climbing)
-    (λ c. search climbing)
-    (λ c. search climbing))
+    (tie.spec Inv-loop μ-loop (λ c κs. search climbing) (λ c. search climbing) (λ c. search climbing) (λ c. search climbing) (λ c κs. search climbing)
+    (λ c κs. search climbing) (λ c. search climbing) (λ c. search climbing) (λ c. search climbing) (λ c. search climbing) (λ c. search climbing))

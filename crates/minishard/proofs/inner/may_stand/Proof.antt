@@ -5,8 +5,4 @@ use Rattle.minishard.proofs.inner.may_stand.Tie as tie
 pub may-stand-spec : {M : Type 1} → statement M
 may-stand-spec =
     tie.close
-    (tie.spec
-    (λ c κs. search standing)
-    (λ c. search standing)
-    (λ c κs. search standing)
-    (λ c. search standing))
+    (tie.spec (λ c κs. search standing) (λ c. search standing) (λ c κs. search standing) (λ c. search standing))

@@ -6,11 +6,5 @@ use Rattle.minishard.proofs.inner.settle_part.Tie as tie
 pub settle-part-spec : {M : Type 1} → statement M
 settle-part-spec =
     tie.close
-    (tie.spec
-    (λ c κs. search needs)
-    (λ c κs. ((search needs, search standing), search standing))
-    (λ c. search needs)
-    (λ c. (search standing, search standing))
-    (λ c κs. search needs)
-    (λ c. search needs)
-    (λ c. search needs))
+    (tie.spec (λ c κs. search needs) (λ c κs. ((search needs, search standing), search standing)) (λ c. search needs)
+    (λ c. (search standing, search standing)) (λ c κs. search needs) (λ c. search needs) (λ c. search needs))

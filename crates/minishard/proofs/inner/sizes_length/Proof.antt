@@ -13,17 +13,5 @@ abbrev μ-loop : tie.MeasureT-loop
 pub sizes-length-spec : {M : Type 1} → statement M
 sizes-length-spec =
     tie.close
-    (tie.spec
-    Inv-loop
-    μ-loop
-    (λ c. search adding)
-    (λ c. search adding)
-    (λ c. search adding)
-    (λ c. search adding)
-    (λ c. search adding)
-    (λ c κs. search adding)
-    (λ c κs. search adding)
-    (λ c. search adding)
-    (λ c. search adding)
-    (λ c. search adding)
-    (λ c. search adding))
+    (tie.spec Inv-loop μ-loop (λ c. search adding) (λ c. search adding) (λ c. search adding) (λ c. search adding) (λ c. search adding)
+    (λ c κs. search adding) (λ c κs. search adding) (λ c. search adding) (λ c. search adding) (λ c. search adding) (λ c. search adding))

@@ -12,19 +12,6 @@ abbrev μ-loop : tie.MeasureT-loop
 pub put-steps-spec : {M : Type 1} → statement M
 put-steps-spec =
     tie.close
-    (tie.spec
-    Inv-loop
-    μ-loop
-    (λ c. search stepping)
-    (λ c. search stepping)
-    (λ c. search stepping)
-    (λ c κs. search stepping)
-    (λ c. search stepping)
-    (λ c. search stepping)
-    (λ c. search stepping)
-    (λ c κs. search stepping)
-    (λ c. search stepping)
-    (λ c. search stepping)
-    (λ c. search stepping)
-    (λ c. search stepping)
-    (λ c. search stepping))
+    (tie.spec Inv-loop μ-loop (λ c. search stepping) (λ c. search stepping) (λ c. search stepping) (λ c κs. search stepping) (λ c. search stepping)
+    (λ c. search stepping) (λ c. search stepping) (λ c κs. search stepping) (λ c. search stepping) (λ c. search stepping) (λ c. search stepping)
+    (λ c. search stepping) (λ c. search stepping))

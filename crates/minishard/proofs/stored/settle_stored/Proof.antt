@@ -18,22 +18,6 @@ returns c =
 pub settle-stored-spec : {M : Type 1} → statement M
 settle-stored-spec =
     tie.close
-    (tie.spec
-    (λ c. search writing)
-    (λ c κs. search writing)
-    (λ c. search writing)
-    (λ c κs. search writing)
-    (λ c. search writing)
-    (λ c. search writing)
-    (λ c κs. search writing)
-    (λ c. search writing)
-    (λ c. search writing)
-    (λ c. search writing)
-    (λ c. search writing)
-    (λ c. search writing)
-    (λ c κs. search writing)
-    (λ c. search writing)
-    (λ c. search writing)
-    (λ c. search writing)
-    (λ c. search writing)
-    returns)
+    (tie.spec (λ c. search writing) (λ c κs. search writing) (λ c. search writing) (λ c κs. search writing) (λ c. search writing)
+    (λ c. search writing) (λ c κs. search writing) (λ c. search writing) (λ c. search writing) (λ c. search writing) (λ c. search writing)
+    (λ c. search writing) (λ c κs. search writing) (λ c. search writing) (λ c. search writing) (λ c. search writing) (λ c. search writing) returns)

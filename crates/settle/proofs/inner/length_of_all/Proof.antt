@@ -12,15 +12,5 @@ abbrev μ-loop : tie.MeasureT-loop
 pub length-of-all-spec : {M : Type 1} → statement M
 length-of-all-spec =
     tie.close
-    (tie.spec
-    Inv-loop
-    μ-loop
-    (λ c. search summing)
-    (λ c κs. search summing)
-    (λ c. search summing)
-    (λ c κs. search summing)
-    (λ c κs. search summing)
-    (λ c. search summing)
-    (λ c. search summing)
-    (λ c. search summing)
-    (λ c. search summing))
+    (tie.spec Inv-loop μ-loop (λ c. search summing) (λ c κs. search summing) (λ c. search summing) (λ c κs. search summing) (λ c κs. search summing)
+    (λ c. search summing) (λ c. search summing) (λ c. search summing) (λ c. search summing))

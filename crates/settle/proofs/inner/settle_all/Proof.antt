@@ -12,16 +12,5 @@ abbrev μ-loop : tie.MeasureT-loop
 pub settle-all-spec : {M : Type 1} → statement M
 settle-all-spec =
     tie.close
-    (tie.spec
-    Inv-loop
-    μ-loop
-    (λ c. search settling)
-    (λ c. search settling)
-    (λ c κs. search settling)
-    (λ c. search settling)
-    (λ c. search settling)
-    (λ c. search settling)
-    (λ c. search settling)
-    (λ c. search settling)
-    (λ c. search settling)
-    (λ c. search settling))
+    (tie.spec Inv-loop μ-loop (λ c. search settling) (λ c. search settling) (λ c κs. search settling) (λ c. search settling) (λ c. search settling)
+    (λ c. search settling) (λ c. search settling) (λ c. search settling) (λ c. search settling) (λ c. search settling))

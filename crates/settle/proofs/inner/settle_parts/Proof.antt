@@ -5,8 +5,4 @@ use Rattle.settle.proofs.inner.settle_parts.Tie as tie
 pub settle-parts-spec : {M : Type 1} → statement M
 settle-parts-spec =
     tie.close
-    (tie.spec
-    (λ c κs. search counting)
-    (λ c κs. search counting)
-    (λ c. search counting)
-    (λ c. search counting))
+    (tie.spec (λ c κs. search counting) (λ c κs. search counting) (λ c. search counting) (λ c. search counting))

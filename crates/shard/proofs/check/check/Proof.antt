@@ -8,14 +8,6 @@ use Rattle.shard.proofs.check.check.Tie as tie
 pub check-spec : {M : Type 1} → statement M
 check-spec =
     tie.close
-    (tie.spec
-    (λ c κs. search needs)
-    (λ c. search check-disallowed)
-    (λ c κs. search told-yes)
-    (λ c. search check-shard)
-    (λ c κs. search told-yes)
-    (λ c. search check-short)
-    (λ c. search check-long)
-    (λ c κs. (search told-yes, (search needs, search needs)))
-    (λ c. search check-sound)
+    (tie.spec (λ c κs. search needs) (λ c. search check-disallowed) (λ c κs. search told-yes) (λ c. search check-shard) (λ c κs. search told-yes)
+    (λ c. search check-short) (λ c. search check-long) (λ c κs. (search told-yes, (search needs, search needs))) (λ c. search check-sound)
     (λ c. search check-fault))

@@ -8,12 +8,5 @@ use Rattle.shard.proofs.check.first_fault_in.Tie as tie
 pub first-fault-in-spec : {M : Type 1} → statement M
 first-fault-in-spec =
     tie.close
-    (tie.spec
-    (λ c κs. search needs)
-    (λ c. search front-count)
-    (λ c. search needs)
-    (λ c. search needs)
-    (λ c. search needs)
-    (λ c κs. search needs)
-    (λ c κs. (search needs, (search front-index, search rest-short, search needs)))
-    (λ c. search parts-fault))
+    (tie.spec (λ c κs. search needs) (λ c. search front-count) (λ c. search needs) (λ c. search needs) (λ c. search needs) (λ c κs. search needs)
+    (λ c κs. (search needs, (search front-index, search rest-short, search needs))) (λ c. search parts-fault))

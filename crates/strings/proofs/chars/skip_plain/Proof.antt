@@ -15,13 +15,5 @@ abbrev μ-loop : tie.MeasureT-loop
 pub skip-plain-spec : {M : Type 1} → statement M
 skip-plain-spec =
     tie.close
-    (tie.spec
-    Inv-loop
-    μ-loop
-    (λ c. search plainly)
-    (λ c κs. search plainly)
-    (λ c κs. search plainly)
-    (λ c. search plainly)
-    (λ c. search plainly)
-    (λ c. search plainly)
-    (λ c. search plainly))
+    (tie.spec Inv-loop μ-loop (λ c. search plainly) (λ c κs. search plainly) (λ c κs. search plainly) (λ c. search plainly) (λ c. search plainly)
+    (λ c. search plainly) (λ c. search plainly))
