@@ -56,7 +56,7 @@ fn same_lookup(specification: &Sharding, file: &[u8], id: u64) -> Result<(), u8>
     let opened = Shard::open(sharding(specification), 0, file);
     let bytes = expected.map(|entry| entry.bytes(file));
     assert_eq!(opened.chunk(id), answer(bytes));
-    expected.map(|_| ())
+    expected.map(|_| ()).map_err(|refusal| refusal.number)
 }
 
 /// A few chunks, in the first and in the last minishard too.

@@ -30,7 +30,7 @@ pub struct Sharding {
     pub preshift: u8,
     /// [`IDENTITY`](Sharding::IDENTITY) or [`MURMUR`](Sharding::MURMUR).
     pub hash: u8,
-    /// Low bits of the hashed id that give the minishard, at most 12.
+    /// Low bits of the hashed id that give the minishard, at most 16.
     pub minishard_bits: u8,
     /// The next bits, which give the shard, at most 32.
     pub shard_bits: u8,

@@ -162,7 +162,7 @@ fn compare_cover(bytes: &[u8]) -> u8 {
         |out| {
             let keys = grid::cover(&volume, lower, upper, out.len())?;
             out[..keys.len()].copy_from_slice(&keys);
-            Ok(keys.len())
+            Ok::<_, u8>(keys.len())
         },
     );
     let keys = library.cover(boxed, length);
