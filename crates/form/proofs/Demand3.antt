@@ -7,7 +7,8 @@ use native.Mathlib.Omega.{arith}
 use lib.ListN.{length}
 use Rattle.sharding.specs.declared.Sharding.{Sharding}
 use Rattle.shard.specs.declared.CheckAnswer.the-variants.{Sound}
-use Rattle.shard.specs.File.{mostShardBytes, indexPart, dataPart, checkAnswer}
+use Rattle.index.specs.Index.{mostShardBytes}
+use Rattle.shard.specs.File.{indexPart, dataPart, checkAnswer}
 use Rattle.shard.specs.Sound.{SoundShard}
 use Rattle.shard.specs.Lists.{SameListing}
 use Rattle.shard.proofs.Whole.{sound-passes-check}

@@ -5,7 +5,7 @@ use mathlib.Core.List.{List}
 use native.Mathlib.Omega.{arith}
 use Rattle.sharding.specs.declared.Sharding.{Sharding}
 use Rattle.sharding.specs.Specification.{minishardCount}
-use Rattle.shard.specs.Index.{entryStart, entryEnd, entryCount}
+use Rattle.index.specs.Index.{entryStart, entryEnd, entryCount}
 use Rattle.shard.specs.File.{indexPart, dataPart}
 use Rattle.shard.specs.Items.{itemAt}
 use Rattle.shard.specs.Before.{PassedBefore}

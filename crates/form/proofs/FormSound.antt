@@ -8,8 +8,8 @@ use lib.ListN.{length, getD}
 use Rattle.endian.specs.Little.{row}
 use Rattle.sharding.specs.declared.Sharding.{Sharding}
 use Rattle.sharding.specs.Specification.{minishardCount}
-use Rattle.shard.specs.Index.{entryStart, startSteps, sizes, startAt}
-use Rattle.shard.specs.File.{mostShardBytes, indexPart, dataPart}
+use Rattle.index.specs.Index.{entryStart, startSteps, sizes, startAt, mostShardBytes}
+use Rattle.shard.specs.File.{indexPart, dataPart}
 use Rattle.shard.specs.Sound.{SoundMinishard, SoundShard}
 use Rattle.shard.specs.Items.{Item, Led}
 use Rattle.form.specs.Form.{partLength, partsFrom, entriesFrom, settledLength}

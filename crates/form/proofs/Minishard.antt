@@ -9,7 +9,7 @@ use Rattle.endian.specs.Place.{Holds}
 use Rattle.endian.proofs.Little.{length-row}
 use Rattle.endian.proofs.Holds.{holds-left, holds-right, holds-move, holds-row}
 use Rattle.sharding.specs.declared.Sharding.{Sharding}
-use Rattle.shard.specs.Index.{idSteps, startSteps, sizes, idAt, startAt, chunkAt}
+use Rattle.index.specs.Index.{idSteps, startSteps, sizes, idAt, startAt, chunkAt}
 use Rattle.shard.specs.Items.{Item}
 use Rattle.form.specs.Form.{chunksOf, chunksLength, idRow, startRow, sizeRow, indexOf, partOf}
 use Rattle.form.proofs.Sorting.{member-at}

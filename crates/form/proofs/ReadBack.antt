@@ -11,8 +11,8 @@ use Rattle.endian.specs.Place.{Holds}
 use Rattle.endian.proofs.Holds.{holds-left, holds-right, holds-move, holds-row}
 use Rattle.sharding.specs.declared.Sharding.{Sharding}
 use Rattle.sharding.specs.Specification.{minishardCount}
-use Rattle.shard.specs.Index.{entryStart, entryEnd, entryCount, chunkAt}
-use Rattle.shard.specs.File.{mostShardBytes, indexLength, indexPart, dataPart}
+use Rattle.index.specs.Index.{entryStart, entryEnd, entryCount, chunkAt, mostShardBytes}
+use Rattle.shard.specs.File.{indexLength, indexPart, dataPart}
 use Rattle.shard.specs.Items.{Item, leadLength, itemOf, itemAt}
 use Rattle.form.specs.Form.{chunksLength, partOf, partLength, partsFrom, partsLength, entryBegin, entryFinish, entriesFrom, settled, settledLength}
 use Rattle.form.specs.Sorted.{Rising}

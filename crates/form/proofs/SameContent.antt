@@ -7,7 +7,7 @@ use lib.ListN.{getD}
 use lib.Seq.{ext-getD}
 use Rattle.sharding.specs.declared.Sharding.{Sharding}
 use Rattle.sharding.specs.Specification.{minishardCount}
-use Rattle.shard.specs.Index.{entryStart, entryEnd, entryCount}
+use Rattle.index.specs.Index.{entryStart, entryEnd, entryCount}
 use Rattle.shard.specs.File.{indexPart, dataPart}
 use Rattle.shard.specs.Sound.{SoundShard}
 use Rattle.shard.specs.Lists.{ListsItem, Lists, SameListing}

@@ -8,8 +8,8 @@ use lib.ListN.{length, getD}
 use Rattle.sharding.specs.declared.Sharding.{Sharding}
 use Rattle.sharding.specs.Specification.{minishardCount}
 use Rattle.sharding.specs.Place.{shardOf, minishardOf}
-use Rattle.shard.specs.Index.{entryCount, idSteps, idAt}
-use Rattle.shard.specs.File.{mostShardBytes, indexPart, dataPart}
+use Rattle.index.specs.Index.{entryCount, idSteps, idAt, mostShardBytes}
+use Rattle.shard.specs.File.{indexPart, dataPart}
 use Rattle.shard.specs.Sound.{SoundFrom, SoundShard}
 use Rattle.shard.specs.Items.{Item, leadLength, itemOf, itemAt}
 use Rattle.shard.proofs.Leads.{sound-led}

@@ -6,7 +6,7 @@ use mathlib.Core.List.{List, List·Memᴰ·head, List·Memᴰ·tail, List·Mem�
 use native.Mathlib.Omega.{arith}
 use native.Mathlib.Nat.{not-suc-le-zero, eq-or-lt-of-le}
 use Rattle.sharding.specs.declared.Sharding.{Sharding}
-use Rattle.shard.specs.Index.{idSteps, idAt}
+use Rattle.index.specs.Index.{idSteps, idAt}
 use Rattle.shard.specs.Items.{Item, itemOf, itemAt}
 use Rattle.form.specs.Sorted.{Member, Distinct, Rising}
 use Rattle.form.specs.Content.{itemsFrom, itemsAt, idOf, byId}

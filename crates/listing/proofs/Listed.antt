@@ -7,7 +7,7 @@ use native.Mathlib.Omega.{arith}
 use lib.ListN.{length, drop, getD}
 use lib.Seq.{length-take-le, drop-drop}
 use Rattle.sharding.specs.declared.Sharding.{Sharding}
-use Rattle.shard.specs.Index.{entryStart, entryEnd, entryCount, startSteps, sizes, startAt}
+use Rattle.index.specs.Index.{entryStart, entryEnd, entryCount, startSteps, sizes, startAt}
 use Rattle.shard.specs.File.{indexLength, indexPart, dataPart}
 use Rattle.shard.specs.Items.{Item}
 use Rattle.shard.specs.Lists.{ListsAt, ListsItem}

@@ -17,13 +17,13 @@ use Rattle.endian.specs.Place.{paste}
 use Rattle.endian.proofs.Paste.{paste-nil, paste-front}
 use Rattle.sharding.specs.declared.Sharding.{Sharding}
 use Rattle.sharding.specs.Specification.{allowed, minishardCount, shardCount, noSuchShard}
-use Rattle.shard.specs.declared.judge.Fault.{Fault}
-use Rattle.shard.specs.Index.{entryStart, entryEnd, entryCount}
+use Rattle.index.specs.declared.Fault.{Fault}
+use Rattle.index.specs.Index.{entryStart, entryEnd, entryCount, mostShardBytes}
 use Rattle.shard.specs.Faults.{faultOf}
 use Rattle.shard.specs.Checks.{minishardChecks}
-use Rattle.shard.specs.File.{mostShardBytes, indexLength, indexPart, dataPart, badFileLength, fileChecks}
+use Rattle.shard.specs.File.{indexLength, indexPart, dataPart, badFileLength, fileChecks}
 use Rattle.shard.specs.Sound.{SoundMinishard}
-use Rattle.shard.specs.Reading.{Readable, ReadableIn}
+use Rattle.index.specs.Reading.{Readable, ReadableIn}
 use Rattle.shard.proofs.Judged.{passes-minishard}
 use Rattle.shard.proofs.Numbers.{or-none, unless-some, unless-none, minishard-number, minishard-answer, file-in, file-picks, file-answer, file-called}
 use Rattle.shard.proofs.Passed.{sound-readable}

@@ -4,12 +4,12 @@ ghost use mathlib.Core.List.{[], _∷_};
 ghost use Prim.Native.Nat.{_+_, _*_, _≤_};
 ghost use lib.ListN.{length};
 ghost use Rattle.endian.specs.Place.{paste};
-ghost use Rattle.shard.specs.Index.{entryStart, entryEnd, entryCount};
-ghost use Rattle.shard.specs.Reading.{Readable, ReadableIn};
+ghost use Rattle.index.specs.Index.{entryStart, entryEnd, entryCount};
+ghost use Rattle.index.specs.Reading.{Readable, ReadableIn};
 ghost use Rattle.listing.specs.Listing.{entriesFrom, listingIn};
 use endian::inner::read_u64;
-use shard::judge::entry_end;
-use shard::judge::entry_start;
+use index::entry_end;
+use index::entry_start;
 
 // The three numbers of entry i.
 fn put_entry(out: &mut [u64], i: usize, id: u64, start: u64, size: u64)

@@ -14,11 +14,11 @@ use Rattle.refusal.proofs.Positions.{at-both, at-plain}
 use Rattle.sharding.specs.declared.Sharding.{Sharding}
 use Rattle.sharding.specs.Specification.{allowed, shardCount, noSuchShard}
 use Rattle.sharding.specs.Place.{shardOf, minishardOf}
-use Rattle.shard.specs.declared.judge.Fault.{Fault}
-use Rattle.shard.specs.Index.{entryStart, entryEnd, entryCount}
+use Rattle.index.specs.declared.Fault.{Fault}
+use Rattle.index.specs.Index.{entryStart, entryEnd, entryCount, mostShardBytes}
 use Rattle.shard.specs.Faults.{faultOf}
 use Rattle.shard.specs.Checks.{minishardChecks}
-use Rattle.shard.specs.File.{mostShardBytes, indexLength, indexPart, dataPart, badFileLength, fileChecks}
+use Rattle.shard.specs.File.{indexLength, indexPart, dataPart, badFileLength, fileChecks}
 use Rattle.shard.proofs.Numbers.{unless-some, unless-none, minishard-in, minishard-answer, file-in, file-picks, file-answer}
 use Rattle.shard.proofs.Split.{restOf, rest-whole, length-short, length-long, length-good}
 use Rattle.lookup.specs.declared.LookupAnswer.{LookupAnswer}

@@ -16,10 +16,10 @@ use Rattle.sharding.specs.declared.Sharding.{Sharding}
 use Rattle.sharding.specs.Specification.{minishardCount}
 use Rattle.sharding.specs.Place.{minishardOf}
 use Rattle.sharding.proofs.Placed.{minishard-below}
-use Rattle.shard.specs.Index.{entryStart, entryEnd, entryCount, idSteps, startSteps, sizes, idAt, startAt}
+use Rattle.index.specs.Index.{entryStart, entryEnd, entryCount, idSteps, startSteps, sizes, idAt, startAt}
 use Rattle.shard.specs.Faults.{badEntry, badId, foreignAt, outside, entryTests, faultAt, faultOf}
 use Rattle.shard.specs.File.{indexLength, indexPart, dataPart, fileChecks}
-use Rattle.shard.proofs.Tests.{Agree, same-any, same-first, same-tests}
+use Rattle.index.proofs.Tests.{Agree, same-any, same-first, same-tests}
 use Rattle.lookup.specs.declared.LookupAnswer.{LookupAnswer}
 use Rattle.lookup.specs.declared.LookupAnswer.the-variants.{Found, Refused, Faulty}
 use Rattle.lookup.specs.Find.{isId, chunkOf, foundIn, lookupIn, lookupAnswer, partBytes}

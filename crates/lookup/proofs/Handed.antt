@@ -13,9 +13,9 @@ use Rattle.refusal.specs.Checks.{unless}
 use Rattle.sharding.specs.declared.Sharding.{Sharding}
 use Rattle.sharding.specs.Specification.{noSuchShard}
 use Rattle.sharding.specs.Place.{shardOf, minishardOf}
-use Rattle.shard.specs.Index.{entryStart, entryEnd, entryCount}
+use Rattle.index.specs.Index.{entryStart, entryEnd, entryCount, mostShardBytes}
 use Rattle.shard.specs.Faults.{faultOf}
-use Rattle.shard.specs.File.{mostShardBytes, indexLength, indexPart, dataPart}
+use Rattle.shard.specs.File.{indexLength, indexPart, dataPart}
 use Rattle.shard.proofs.Judged.{passes-minishard}
 use Rattle.shard.proofs.Numbers.{file-called}
 use Rattle.lookup.specs.declared.LookupAnswer.{LookupAnswer}

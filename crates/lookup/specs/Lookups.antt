@@ -7,8 +7,8 @@ use lib.ListN.{length, take, drop}
 use Rattle.sharding.specs.declared.Sharding.{Sharding}
 use Rattle.sharding.specs.Specification.{allowed}
 use Rattle.sharding.specs.Place.{shardOf, minishardOf}
-use Rattle.shard.specs.Index.{entryStart, entryEnd, entryCount, startSteps, sizes, startAt}
-use Rattle.shard.specs.File.{mostShardBytes, indexLength, indexPart, dataPart}
+use Rattle.index.specs.Index.{entryStart, entryEnd, entryCount, startSteps, sizes, startAt, mostShardBytes}
+use Rattle.shard.specs.File.{indexLength, indexPart, dataPart}
 use Rattle.lookup.specs.declared.LookupAnswer.the-variants.{Found}
 use Rattle.lookup.specs.Find.{lookupAnswer, partBytes}
 

@@ -9,7 +9,7 @@ use Rattle.endian.specs.Little.{leAt}
 use Rattle.endian.specs.Place.{paste}
 use Rattle.endian.specs.Range.{sumTo}
 use Rattle.sharding.specs.declared.Sharding.{Sharding}
-use Rattle.shard.specs.Index.{idSteps, sizes, idAt}
+use Rattle.index.specs.Index.{idSteps, sizes, idAt}
 use Rattle.shard.specs.Items.{MayLead}
 use Rattle.form.specs.Form.{partOf}
 use Rattle.form.specs.Content.{itemsAt, byId}

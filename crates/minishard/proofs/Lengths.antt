@@ -13,8 +13,7 @@ use Rattle.endian.specs.Little.{leAt}
 use Rattle.endian.specs.Range.{sumTo}
 use Rattle.endian.proofs.Ranges.{sum-none, sum-step}
 use Rattle.sharding.specs.declared.Sharding.{Sharding}
-use Rattle.shard.specs.Index.{sizes, idSteps, idAt}
-use Rattle.shard.specs.File.{mostShardBytes}
+use Rattle.index.specs.Index.{sizes, idSteps, idAt, mostShardBytes}
 use Rattle.shard.specs.Items.{itemAt, leadLength, leads, NoLeads, MayLead, Led}
 use Rattle.shard.proofs.Items.{item-size, item-lead}
 use Rattle.form.specs.Form.{chunksLength}

@@ -9,7 +9,7 @@ use lib.Dec.{leb}
 use lib.ListN.{length}
 use Rattle.refusal.specs.Choice.{pick}
 use Rattle.sharding.specs.declared.Sharding.{Sharding}
-use Rattle.shard.specs.Index.{idSteps, idAt}
+use Rattle.index.specs.Index.{idSteps, idAt}
 use Rattle.shard.specs.Items.{Item, itemOf, itemAt, Led}
 use Rattle.form.specs.Sorted.{notAbove, insertBy, sortBy, Member, Distinct}
 use Rattle.form.specs.Content.{itemsFrom, itemsAt, byId}

@@ -12,7 +12,7 @@ use Rattle.endian.specs.Place.{paste}
 use Rattle.endian.proofs.Little.{length-row}
 use Rattle.endian.proofs.Paste.{paste-then, paste-on, paste-apart, length-paste}
 use Rattle.sharding.specs.declared.Sharding.{Sharding}
-use Rattle.shard.specs.File.{mostShardBytes}
+use Rattle.index.specs.Index.{mostShardBytes}
 use Rattle.shard.proofs.Items.{item-size}
 use Rattle.form.specs.Form.{chunksOf, chunksLength, idRow, startRow, sizeRow, indexOf, partOf}
 use Rattle.form.specs.Sorted.{Member, Distinct}

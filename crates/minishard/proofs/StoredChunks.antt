@@ -15,7 +15,7 @@ use Rattle.endian.specs.Range.{sumTo}
 use Rattle.endian.proofs.Copy.{part-length}
 use Rattle.endian.proofs.Paste.{paste-nil, paste-on}
 use Rattle.endian.proofs.Ranges.{sum-none, sum-step, sum-grows, sum-done}
-use Rattle.shard.specs.Index.{sizes, chunkAt}
+use Rattle.index.specs.Index.{sizes, chunkAt}
 use Rattle.minishard.specs.Writing.{Readable, chunksFrom}
 use Rattle.minishard.proofs.Walk.{Walk, walk-first, walk-chunk, walk-inside, walk-fits, walk-next}
 

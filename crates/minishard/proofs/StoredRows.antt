@@ -16,7 +16,7 @@ use Rattle.endian.proofs.Little.{le-leAt, leAt-bound, length-le}
 use Rattle.endian.proofs.Copy.{part-length}
 use Rattle.endian.proofs.Paste.{paste-then}
 use Rattle.sharding.specs.declared.Sharding.{Sharding}
-use Rattle.shard.specs.Index.{idSteps, startSteps, sizes, idAt, endAt, chunkAt}
+use Rattle.index.specs.Index.{idSteps, startSteps, sizes, idAt, endAt, chunkAt}
 use Rattle.shard.specs.Items.{Item, NoLeads}
 use Rattle.shard.proofs.Chunks.{pair, item-pair}
 use Rattle.form.specs.Form.{chunksOf, idRow, startRow, sizeRow, indexOf, partOf}

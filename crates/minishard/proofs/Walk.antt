@@ -10,7 +10,7 @@ use Rattle.endian.specs.Little.{leAt}
 use Rattle.endian.specs.Range.{sumTo}
 use Rattle.endian.proofs.Ranges.{sum-step}
 use Rattle.sharding.specs.declared.Sharding.{Sharding}
-use Rattle.shard.specs.Index.{startSteps, sizes, startAt, chunkAt}
+use Rattle.index.specs.Index.{startSteps, sizes, startAt, chunkAt}
 use Rattle.shard.specs.Items.{Led}
 use Rattle.minishard.specs.Writing.{Readable, LeadsIn}
 

@@ -4,7 +4,7 @@ use mathlib.Core.Path.{_≡_}
 use mathlib.Core.List.{List, [], _∷_, map}
 use lib.ListN.{length}
 use Rattle.sharding.specs.declared.Sharding.{Sharding}
-use Rattle.shard.specs.Index.{idSteps, startSteps, sizes, idAt, startAt}
+use Rattle.index.specs.Index.{idSteps, startSteps, sizes, idAt, startAt}
 use Rattle.shard.specs.Items.{Item, itemOf, Led}
 use Rattle.form.specs.Sorted.{Member}
 use Rattle.sortrows.specs.declared.Entry.{Entry}

@@ -5,8 +5,7 @@ use mathlib.Core.Bool.{Bool, true}
 use mathlib.Core.List.{List, [], _++_}
 use lib.ListN.{length}
 use Rattle.sharding.specs.declared.Sharding.{Sharding}
-use Rattle.shard.specs.Index.{idSteps, startSteps, sizes, idAt, startAt, endAt, chunkAt}
-use Rattle.shard.specs.File.{mostShardBytes}
+use Rattle.index.specs.Index.{idSteps, startSteps, sizes, idAt, startAt, endAt, chunkAt, mostShardBytes}
 use Rattle.shard.specs.Items.{Led, NoLeads}
 use Rattle.form.specs.Form.{chunksLength}
 use Rattle.form.specs.Content.{itemsAt}

@@ -5,7 +5,7 @@ ghost use Prim.Native.Nat.{_+_, _*_, _≤_};
 ghost use lib.ListN.{length};
 ghost use Rattle.endian.specs.Little.{row, rowAt};
 ghost use Rattle.endian.specs.Place.{paste};
-ghost use Rattle.shard.specs.File.{mostShardBytes};
+ghost use Rattle.index.specs.Index.{mostShardBytes};
 ghost use Rattle.form.specs.Form.{chunksOf, chunksLength, startRow, partOf};
 ghost use Rattle.form.specs.Content.{itemsAt, byId};
 ghost use Rattle.sortrows.specs.Rows.{entriesAt, Only};

@@ -6,7 +6,7 @@ ghost use lib.ListN.{length, replicate};
 ghost use Rattle.endian.specs.Little.{le};
 ghost use Rattle.endian.specs.Place.{paste};
 ghost use Rattle.endian.specs.Range.{sumTo};
-ghost use Rattle.shard.specs.Index.{sizes};
+ghost use Rattle.index.specs.Index.{sizes};
 ghost use Rattle.form.specs.Form.{partOf};
 ghost use Rattle.form.specs.Content.{itemsAt};
 ghost use Rattle.minishard.specs.Writing.{Readable, Stored, chunksFrom};

@@ -18,7 +18,7 @@ use Rattle.layout.specs.Layout.{levelsOf, countOf, nodesBefore, sizeAt}
 use Rattle.manifest.specs.Verdict.{verdict}
 use Rattle.manifest.proofs.Judged.{fails, passes, passed, refused-first, given-first, told-sound}
 use Rattle.manifest.proofs.Sounds.{sound-if}
-use Rattle.nodes.specs.Nodes.{hasLevel, hasNode, levelBytes, fragmentStart, nodeIn, nodeAt, nodeChecks, nodeAnswer, nodesOf, nodesChecks, nodesAnswer, nodesLeft}
+use Rattle.nodes.specs.Nodes.{hasLevel, hasNode, levelBytes, fragmentStart, fragmentsLength, nodeIn, nodeAt, nodeChecks, nodeAnswer, nodesOf, nodesChecks, nodesAnswer, nodesLeft}
 use Rattle.nodes.specs.declared.Node.{Node}
 use Rattle.nodes.specs.declared.NodeAnswer.the-variants as N
 use Rattle.nodes.proofs.Levels.{has-level}
@@ -111,6 +111,10 @@ module _ (s : List ℕ) (l i : ℕ) {v k n b t : ℕ} {x : Node} where
       → t ≡ sumTo (sizeAt s (7 + 5 * v + 4 * k) n) i → x ≡ nodeAt s l i
   unfolding nodeAt fragmentStart
   node-made e f g h j m = cc
+
+pub all-fragments : (s : List ℕ) {v t : ℕ} → v ≡ levelsOf s → t ≡ sumTo (levelBytes s) v → t ≡ fragmentsLength s
+unfolding fragmentsLength
+all-fragments s e f = f ∙ ap (sumTo (levelBytes s)) e
 
 pub ruleset asked = (node-refused, node-none, node-given, told-sound, told-node, told-level, node-made, no-level, in-level, needs)
 

@@ -37,6 +37,10 @@ levelBytes s l = sumTo (sizeAt s (levelItem s l) (countOf s l)) (countOf s l)
 unfoldable pub fragmentStart : List ℕ → ℕ → ℕ → ℕ
 fragmentStart s l i = sumTo (levelBytes s) l + sumTo (sizeAt s (levelItem s l) (countOf s l)) i
 
+-- how many bytes all fragments have together
+unfoldable pub fragmentsLength : List ℕ → ℕ
+fragmentsLength s = sumTo (levelBytes s) (levelsOf s)
+
 -- ---- a node
 
 -- node i of a level with n nodes whose items begin at `first`; its fragment is the bytes from `start` up to `start + size`, end excluded

@@ -10,7 +10,7 @@ ghost use mathlib.Core.Bool.{true};
 ghost use Prim.Native.Nat.{_+_, _*_, _≤_, _<_};
 ghost use lib.ListN.{length};
 ghost use Rattle.manifest.specs.Verdict.{verdict};
-ghost use Rattle.nodes.specs.Nodes.{hasNode, nodeIn, nodeAt};
+ghost use Rattle.nodes.specs.Nodes.{fragmentsLength, hasNode, nodeIn, nodeAt};
 
 // Node i of a level with n nodes whose items begin at first; its own fragment begins at start.
 pub fn node_in(s: &[u8], first: usize, n: usize, i: usize, start: u64) -> Node
@@ -28,6 +28,15 @@ pub fn node_in(s: &[u8], first: usize, n: usize, i: usize, start: u64) -> Node
         start,
         size,
     }
+}
+
+// How many bytes all fragments have together.
+pub fn fragments_length(s: &[u8]) -> u64
+    requires { ⌜ verdict (now s) ≡ 0 ⌝ }
+    ensures { λ r. ⌜ r ≡ fragmentsLength (now (s .entry)) ⌝ }
+{
+    let levels = item(s, 6) as usize;
+    bytes_before(s, levels, levels)
 }
 
 pub fn has_node(s: &[u8], level: usize, node: usize) -> bool

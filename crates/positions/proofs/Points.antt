@@ -26,10 +26,11 @@ use Rattle.sharding.specs.Place.{shardOf, minishardOf}
 use Rattle.sharding.proofs.Placed.{minishard-below}
 use Rattle.shard.specs.declared.CheckAnswer.{CheckAnswer}
 use Rattle.shard.specs.declared.CheckAnswer.the-variants.{Sound, Faulty, Refused as CheckRefused}
-use Rattle.shard.specs.Index.{entryStart, entryEnd, entryCount, idSteps, startSteps, sizes}
-use Rattle.shard.specs.Faults.{badEntry, badLength, badId, foreignAt, outside, entryTests, rowPlace}
+use Rattle.index.specs.Index.{entryStart, entryEnd, entryCount, idSteps, startSteps, sizes, mostShardBytes}
+use Rattle.index.specs.Tests.{rowPlace}
+use Rattle.shard.specs.Faults.{badEntry, badLength, badId, foreignAt, outside, entryTests}
 use Rattle.shard.specs.Checks.{entryChecks, minishardChecks}
-use Rattle.shard.specs.File.{mostShardBytes, indexLength, indexPart, dataPart, fileChecks, checkAnswer}
+use Rattle.shard.specs.File.{indexLength, indexPart, dataPart, fileChecks, checkAnswer}
 use Rattle.shard.proofs.Judged.{entry-within}
 use Rattle.shard.proofs.Numbers.{file-called}
 use Rattle.shard.proofs.Whole.{check-names}

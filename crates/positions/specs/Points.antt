@@ -8,9 +8,9 @@ use lib.ListN.{length}
 use Rattle.endian.specs.Little.{leAt}
 use Rattle.sharding.specs.declared.Sharding.{Sharding}
 use Rattle.shard.specs.declared.CheckAnswer.the-variants.{Faulty}
-use Rattle.shard.specs.Index.{entryStart, entryEnd, entryCount, idSteps, startSteps, sizes}
+use Rattle.index.specs.Index.{entryStart, entryEnd, entryCount, idSteps, startSteps, sizes, mostShardBytes}
 use Rattle.shard.specs.Faults.{badEntry, badLength, badId, foreignAt, outside}
-use Rattle.shard.specs.File.{mostShardBytes, indexLength, indexPart, dataPart, checkAnswer}
+use Rattle.shard.specs.File.{indexLength, indexPart, dataPart, checkAnswer}
 
 -- the 16 bytes of the file from p on are the index entry of minishard m: its start s and its end e
 pub record AtEntry (file : List ℕ) (m s e p : ℕ) : Type 0 where

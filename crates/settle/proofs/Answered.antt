@@ -22,7 +22,8 @@ use Rattle.sharding.specs.Specification.{noSuchShard}
 use Rattle.shard.specs.declared.CheckAnswer.{CheckAnswer}
 use Rattle.shard.specs.declared.CheckAnswer.the-variants.{Sound, Refused as CheckRefused, Faulty as CheckFaulty}
 use Rattle.shard.specs.Faults.{shardFault}
-use Rattle.shard.specs.File.{mostShardBytes, indexPart, dataPart, fileChecks, shardChecks, checkAnswer}
+use Rattle.index.specs.Index.{mostShardBytes}
+use Rattle.shard.specs.File.{indexPart, dataPart, fileChecks, shardChecks, checkAnswer}
 use Rattle.shard.specs.Sound.{SoundShard}
 use Rattle.shard.proofs.Numbers.{shard-in, shard-answer}
 use Rattle.shard.proofs.Whole.{sound-passes-check}

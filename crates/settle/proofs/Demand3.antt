@@ -8,7 +8,7 @@ use lib.ListN.{length}
 use Rattle.refusal.specs.Buffer.{over}
 use Rattle.refusal.specs.Checks.{refusal}
 use Rattle.sharding.specs.declared.Sharding.{Sharding}
-use Rattle.shard.specs.File.{mostShardBytes}
+use Rattle.index.specs.Index.{mostShardBytes}
 use Rattle.shard.specs.Sound.{SoundShard}
 use Rattle.form.specs.Content.{fileForm}
 use Rattle.form.proofs.Demand3.{Short, demand-3-form-sound, demand-3-form-same}

@@ -15,7 +15,8 @@ use Rattle.sharding.specs.declared.Sharding.{Sharding}
 use Rattle.sharding.specs.Specification.{allowed}
 use Rattle.shard.specs.declared.CheckAnswer.{CheckAnswer}
 use Rattle.shard.specs.declared.CheckAnswer.the-variants.{Sound, Refused as CheckRefused, Faulty as CheckFaulty}
-use Rattle.shard.specs.File.{mostShardBytes, indexLength, indexPart, dataPart, checkAnswer}
+use Rattle.index.specs.Index.{mostShardBytes}
+use Rattle.shard.specs.File.{indexLength, indexPart, dataPart, checkAnswer}
 use Rattle.shard.specs.Sound.{SoundFrom, SoundShard}
 use Rattle.shard.proofs.Leads.{sound-led}
 use Rattle.shard.proofs.Split.{restOf, rest-whole, front-count}

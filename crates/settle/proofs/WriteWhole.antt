@@ -19,8 +19,7 @@ use Rattle.endian.proofs.Little.{length-le, length-row}
 use Rattle.endian.proofs.Paste.{paste-nil, paste-front, paste-on, paste-then, paste-apart}
 use Rattle.sharding.specs.declared.Sharding.{Sharding}
 use Rattle.sharding.specs.Specification.{allowed, minishardCount}
-use Rattle.shard.specs.Index.{entryStart, entryEnd, entryCount}
-use Rattle.shard.specs.File.{mostShardBytes}
+use Rattle.index.specs.Index.{entryStart, entryEnd, entryCount, mostShardBytes}
 use Rattle.shard.specs.Items.{Item}
 use Rattle.form.specs.Form.{chunksOf, chunksLength, idRow, startRow, sizeRow, indexOf, partOf, partLength, partsFrom, partsLength, entryBegin, entryFinish, entriesFrom, settled, settledLength}
 use Rattle.form.specs.Sorted.{sortBy}

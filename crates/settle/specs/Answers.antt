@@ -9,7 +9,8 @@ use Rattle.refusal.specs.Buffer.{over}
 use Rattle.refusal.specs.declared.Written.{Written}
 use Rattle.refusal.specs.declared.Written.the-variants.{Length as Wrote, Refused as NotWritten}
 use Rattle.sharding.specs.declared.Sharding.{Sharding}
-use Rattle.shard.specs.File.{mostShardBytes, indexPart, dataPart, shardChecks}
+use Rattle.index.specs.Index.{mostShardBytes}
+use Rattle.shard.specs.File.{indexPart, dataPart, shardChecks}
 use Rattle.form.specs.Content.{formOf, formLength, fileForm, fileFormLength}
 use Rattle.settle.specs.declared.SettleAnswer.{SettleAnswer}
 use Rattle.settle.specs.declared.SettleAnswer.the-variants.{Length, Refused, Faulty}

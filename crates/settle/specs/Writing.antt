@@ -8,7 +8,7 @@ use lib.ListN.{length}
 use Rattle.endian.specs.Little.{row}
 use Rattle.sharding.specs.declared.Sharding.{Sharding}
 use Rattle.sharding.specs.Specification.{allowed, minishardCount}
-use Rattle.shard.specs.Index.{entryStart, entryEnd, entryCount, idSteps, startSteps, sizes, idAt, startAt, endAt}
+use Rattle.index.specs.Index.{entryStart, entryEnd, entryCount, idSteps, startSteps, sizes, idAt, startAt, endAt}
 use Rattle.shard.specs.Items.{Item, Led}
 use Rattle.form.specs.Form.{partsLength, entryBegin, entryFinish}
 use Rattle.form.specs.Content.{contentFrom}

@@ -6,7 +6,7 @@ ghost use lib.ListN.{length};
 ghost use Rattle.refusal.specs.Buffer.{over};
 ghost use Rattle.endian.specs.Little.{row};
 ghost use Rattle.endian.specs.Place.{paste};
-ghost use Rattle.shard.specs.File.{mostShardBytes};
+ghost use Rattle.index.specs.Index.{mostShardBytes};
 ghost use Rattle.form.specs.Form.{partOf, settled};
 ghost use Rattle.form.specs.Content.{itemsOf, byId, contentFrom, formOf, formLength};
 ghost use Rattle.minishard.specs.Writing.{capped};

@@ -13,10 +13,11 @@ use Rattle.refusal.proofs.Tests.{neither}
 use Rattle.twice.proofs.Ids.{repeats-no, repeats-miss}
 use Rattle.sharding.specs.declared.Sharding.{Sharding}
 use Rattle.sharding.specs.Place.{shardOf, minishardOf}
-use Rattle.shard.specs.Index.{entryStart, entryEnd, entryCount, idSteps, startSteps, sizes, idAt}
-use Rattle.shard.specs.Faults.{fault, entryPlace, badEntry, badLength, badId, foreign, foreignAt, outside, idTest, placeTest, endTest, entryTests, firstOf, faultAt, faultOf}
+use Rattle.index.specs.Index.{entryStart, entryEnd, entryCount, idSteps, startSteps, sizes, idAt}
+use Rattle.index.specs.Tests.{fault, entryPlace, firstOf}
+use Rattle.shard.specs.Faults.{badEntry, badLength, badId, foreign, foreignAt, outside, idTest, placeTest, endTest, entryTests, faultAt, faultOf}
 use Rattle.shard.specs.Sound.{SoundFrom, SoundMinishard}
-use Rattle.shard.proofs.Tests.{Passes, AllPass, Numbered, pick-none, none-fails, all-pass}
+use Rattle.index.proofs.Tests.{Passes, AllPass, Numbered, pick-none, none-fails, all-pass}
 
 -- ---- what each test says
 

@@ -6,7 +6,7 @@ use mathlib.Core.List.{List}
 use native.Mathlib.Omega.{arith}
 use lib.ListN.{take, drop}
 use Rattle.sharding.specs.declared.Sharding.{Sharding}
-use Rattle.shard.specs.Index.{entryCount, startSteps, sizes, startAt}
+use Rattle.index.specs.Index.{entryCount, startSteps, sizes, startAt}
 use Rattle.shard.specs.Items.{leadLength, Led, NoLeads, MayLead}
 use Rattle.shard.specs.Sound.{SoundFrom}
 

@@ -1,5 +1,4 @@
 -- Laws of the definitions.
-pub mod Tests
 pub mod Walks
 pub mod Faulted
 pub mod Loops

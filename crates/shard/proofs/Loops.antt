@@ -11,11 +11,12 @@ use Rattle.endian.specs.Little.{leAt, rowAt}
 use Rattle.endian.specs.Range.{first}
 use Rattle.twice.specs.Twice.{firstTwice}
 use Rattle.sharding.specs.declared.Sharding.{Sharding}
-use Rattle.shard.specs.declared.judge.Fault.{Fault}
+use Rattle.index.specs.declared.Fault.{Fault}
 use Rattle.shard.specs.declared.judge.ShardFault.{ShardFault}
-use Rattle.shard.specs.Index.{entryStart, entryEnd, entryCount, idSteps}
-use Rattle.shard.specs.Faults.{EntryTest, entryTest, entryPlace, rowPlace, foreign, foreignAt, outside, idTest, placeTest, endTest, entryTests, firstOf, fault, faultOf, faultAt, noFault, orLater, firstFault}
-use Rattle.shard.proofs.Tests.{test-passed, test-failed}
+use Rattle.index.specs.Index.{entryStart, entryEnd, entryCount, idSteps}
+use Rattle.index.specs.Tests.{EntryTest, entryTest, entryPlace, rowPlace, firstOf, fault}
+use Rattle.shard.specs.Faults.{foreign, foreignAt, outside, idTest, placeTest, endTest, entryTests, faultOf, faultAt, noFault, orLater, firstFault}
+use Rattle.index.proofs.Tests.{test-passed, test-failed}
 use Rattle.shard.proofs.Walks.{twice-first, twice-none, Walk, ours-hit, Span, span-end, span-start-past, span-past}
 use Rattle.shard.proofs.Faulted.{fault-before, fault-empty, fault-past, fault-ragged, fault-entries, fault-entry}
 

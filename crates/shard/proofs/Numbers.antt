@@ -18,13 +18,14 @@ use Rattle.refusal.proofs.Positions.{at-both, at-plain, at-placed}
 use Rattle.endian.specs.Range.{anyBelow}
 use Rattle.sharding.specs.declared.Sharding.{Sharding}
 use Rattle.sharding.specs.Specification.{allowed, minishardCount, noSuchShard}
-use Rattle.shard.specs.declared.judge.Fault.{Fault}
+use Rattle.index.specs.declared.Fault.{Fault}
 use Rattle.shard.specs.declared.judge.ShardFault.{ShardFault}
-use Rattle.shard.specs.Index.{entryStart, entryEnd, entryCount}
-use Rattle.shard.specs.Faults.{EntryTest, fault, entryPlace, testPlace, badEntry, badLength, entryTests, firstOf, faultAt, faultOf, orLater, firstFault, shardFault}
+use Rattle.index.specs.Index.{entryStart, entryEnd, entryCount, mostShardBytes}
+use Rattle.index.specs.Tests.{EntryTest, fault, entryPlace, testPlace, firstOf}
+use Rattle.shard.specs.Faults.{badEntry, badLength, entryTests, faultAt, faultOf, orLater, firstFault, shardFault}
 use Rattle.shard.specs.Checks.{entryChecks, minishardChecks, minishardsChecks}
-use Rattle.shard.specs.File.{mostShardBytes, indexLength, indexPart, dataPart, badFileLength, fileChecks, shardChecks}
-use Rattle.shard.proofs.Tests.{Numbered}
+use Rattle.shard.specs.File.{indexLength, indexPart, dataPart, badFileLength, fileChecks, shardChecks}
+use Rattle.index.proofs.Tests.{Numbered}
 use Rattle.shard.proofs.Judged.{tests-numbered}
 
 -- ---- 'number or 0' made into an answer

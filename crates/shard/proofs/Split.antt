@@ -11,8 +11,9 @@ use borrow.Author.Tests.{lt-ltb, le-ltb}
 use Rattle.sharding.specs.declared.Sharding.{Sharding}
 use Rattle.sharding.specs.Specification.{allowed}
 use Rattle.sharding.proofs.Allowed.{minishards-most}
-use Rattle.shard.specs.declared.judge.Fault.{Fault}
-use Rattle.shard.specs.File.{mostShardBytes, indexLength, indexPart, dataPart, badFileLength}
+use Rattle.index.specs.declared.Fault.{Fault}
+use Rattle.index.specs.Index.{mostShardBytes}
+use Rattle.shard.specs.File.{indexLength, indexPart, dataPart, badFileLength}
 use Rattle.shard.specs.Faults.{faultOf}
 
 -- ---- 6, as the code finds it

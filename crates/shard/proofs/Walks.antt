@@ -11,8 +11,7 @@ use Rattle.sharding.specs.declared.Sharding.{Sharding}
 use Rattle.sharding.specs.declared.Place.{Place}
 use Rattle.sharding.specs.Place.{placeOf}
 use Rattle.twice.specs.Twice.{firstTwice}
-use Rattle.shard.specs.Index.{idAt, startAt}
-use Rattle.shard.specs.File.{mostShardBytes}
+use Rattle.index.specs.Index.{idAt, startAt, mostShardBytes}
 use Rattle.shard.specs.Faults.{badId, foreign, foreignAt, outside}
 
 -- ---- test 9: the first entry that has the id of an earlier one

@@ -13,7 +13,8 @@ use Rattle.sharding.specs.Specification.{allowed, minishardCount, shardCount, n
 use Rattle.shard.specs.declared.judge.ShardFault.{ShardFault}
 use Rattle.shard.specs.declared.CheckAnswer.the-variants.{Sound, Refused, Faulty}
 use Rattle.shard.specs.Faults.{faultOf, firstFault, shardFault}
-use Rattle.shard.specs.File.{mostShardBytes, indexLength, indexPart, dataPart, badFileLength, verdict, checkAnswer}
+use Rattle.index.specs.Index.{mostShardBytes}
+use Rattle.shard.specs.File.{indexLength, indexPart, dataPart, badFileLength, verdict, checkAnswer}
 use Rattle.shard.proofs.Numbers.{unless-some, unless-none, file-picks}
 use Rattle.shard.proofs.Split.{restOf, rest-whole, length-short, length-long, length-good}
 

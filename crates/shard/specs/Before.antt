@@ -10,8 +10,9 @@ use Rattle.refusal.specs.Checks.{Check, check, firstNumber}
 use Rattle.endian.specs.Range.{sumTo}
 use Rattle.sharding.specs.declared.Sharding.{Sharding}
 use Rattle.sharding.specs.Specification.{minishardCount, noSuchShard}
-use Rattle.shard.specs.Index.{entryStart, entryEnd, entryCount, idSteps, startSteps, sizes}
-use Rattle.shard.specs.Faults.{EntryTest, entryTest, badEntry, badLength, foreign}
+use Rattle.index.specs.Index.{entryStart, entryEnd, entryCount, idSteps, startSteps, sizes}
+use Rattle.index.specs.Tests.{EntryTest, entryTest}
+use Rattle.shard.specs.Faults.{badEntry, badLength, foreign}
 use Rattle.shard.specs.Checks.{entryChecks}
 use Rattle.shard.specs.File.{indexPart, dataPart, fileChecks}
 

@@ -1,33 +1,18 @@
 -- The tests 7 to 11 of a minishard (01, 'Refusal numbers'): each runs over all entries before the next.
--- A fault has the number of the test and its position (02, order 6): the place of the bytes that fail it, counted from the beginning of the shard.
--- Number 0 is no fault.
-use Prim.Native.Nat.{ℕ, zero, suc, _+_, _*_, _-_, _%_}
+use Prim.Native.Nat.{ℕ, zero, suc, _+_, _-_, _%_}
 use mathlib.Core.Bool.{Bool, not, _||_, _&&_}
 use mathlib.Core.List.{List, [], _∷_}
 use lib.Dec.{ltb, eqb}
 use lib.ListN.{length}
 use Rattle.refusal.specs.Choice.{pick}
-use Rattle.endian.specs.Range.{anyBelow, first}
 use Rattle.twice.specs.Twice.{repeats}
 use Rattle.sharding.specs.declared.Sharding.{Sharding}
 use Rattle.sharding.specs.Specification.{minishardCount}
 use Rattle.sharding.specs.Place.{shardOf, minishardOf}
-use Rattle.shard.specs.declared.judge.Fault.{Fault}
+use Rattle.index.specs.declared.Fault.{Fault}
 use Rattle.shard.specs.declared.judge.ShardFault.{ShardFault}
-use Rattle.shard.specs.Index.{entryStart, entryEnd, entryCount, idSteps, startSteps, sizes, idAt, endAt}
-
-abbrev pub fault : ℕ → ℕ → Fault
-fault number position = record { number = number; position = position }
-
--- ---- positions
-
--- of 7 and 8: the entry of minishard m in the shard index
-abbrev pub entryPlace : ℕ → ℕ
-entryPlace m = 16 * m
-
--- of the others: the number of entry i in one of the three rows (0 id steps, 1 start steps, 2 sizes) of the minishard index of n entries at p
-abbrev pub rowPlace : ℕ → ℕ → ℕ → ℕ → ℕ
-rowPlace p n row i = p + 8 * (row * n + i)
+use Rattle.index.specs.Tests.{fault, entryPlace, EntryTest, entryTest, firstOf}
+use Rattle.index.specs.Index.{entryStart, entryEnd, entryCount, idSteps, startSteps, sizes, idAt, endAt}
 
 -- ---- the tests
 
@@ -56,15 +41,6 @@ outside n starts size i = ltb n (endAt starts size i)
 
 -- ---- the tests over entries, as a list
 
--- a test: its number, the row that its position points at, and whether entry i fails it
-pub record EntryTest : Type 0 where
-  pub number : ℕ
-  pub row : ℕ
-  pub fails : ℕ → Bool
-
-abbrev pub entryTest : ℕ → ℕ → (ℕ → Bool) → EntryTest
-entryTest number row fails = record { number = number; row = row; fails = fails }
-
 -- those of the minishard index of n entries at s
 abbrev pub idTest : List ℕ → ℕ → EntryTest
 idTest d s = entryTest 9 0 (badId (idSteps d s))
@@ -78,15 +54,6 @@ endTest d s n = entryTest 11 1 (outside (length d) (startSteps d s n) (sizes d s
 -- in the order in which they run
 unfoldable pub entryTests : Sharding → ℕ → ℕ → List ℕ → ℕ → ℕ → List EntryTest
 entryTests spec shard m d s n = idTest d s ∷ placeTest spec shard m d s ∷ endTest d s n ∷ []
-
--- where a test points in the minishard index of n entries at p: at the first entry that fails it
-abbrev pub testPlace : ℕ → ℕ → EntryTest → ℕ
-testPlace p n t = rowPlace p n (t .row) (first (t .fails) n)
-
--- each test runs over all n entries before the next: the first that some entry fails
-unfoldable pub firstOf : ℕ → ℕ → List EntryTest → Fault
-firstOf p n [] = fault 0 0
-firstOf p n (t ∷ ts) = pick (anyBelow n (t .fails)) (fault (t .number) (testPlace p n t)) (firstOf p n ts)
 
 -- ---- a minishard
 

@@ -7,15 +7,12 @@ use lib.ListN.{length, take, drop}
 use Rattle.refusal.specs.Checks.{Check, check, unless, answered}
 use Rattle.sharding.specs.declared.Sharding.{Sharding}
 use Rattle.sharding.specs.Specification.{allowed, minishardCount, noSuchShard}
+use Rattle.index.specs.Index.{mostShardBytes}
 use Rattle.shard.specs.declared.judge.ShardFault.{ShardFault}
 use Rattle.shard.specs.declared.CheckAnswer.{CheckAnswer}
 use Rattle.shard.specs.declared.CheckAnswer.the-variants.{Sound, Refused, Faulty}
 use Rattle.shard.specs.Faults.{shardFault}
 use Rattle.shard.specs.Checks.{minishardsChecks}
-
--- the longest shard
-abbrev pub mostShardBytes : ℕ
-mostShardBytes = 1073741824
 
 -- the shard index has a start and an end, of 8 bytes each, for each minishard
 abbrev pub indexLength : Sharding → ℕ

@@ -5,7 +5,7 @@ use mathlib.Core.Bool.{Bool, false}
 use mathlib.Core.List.{List}
 use lib.ListN.{take, drop}
 use Rattle.sharding.specs.declared.Sharding.{Sharding}
-use Rattle.shard.specs.Index.{idSteps, startSteps, sizes, idAt, startAt, chunkAt}
+use Rattle.index.specs.Index.{idSteps, startSteps, sizes, idAt, startAt, chunkAt}
 
 -- its id, the bytes that are kept unlisted right before its chunk, and its chunk's bytes
 pub record Item : Type 0 where

@@ -1,10 +1,8 @@
 -- Reading shards (01, 'From id to shard'; source 002).
-pub mod Index
 pub mod Faults
 pub mod Checks
 pub mod File
 pub mod Sound
-pub mod Reading
 pub mod Items
 pub mod Lists
 pub mod Before

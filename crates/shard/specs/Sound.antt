@@ -10,9 +10,9 @@ use Rattle.refusal.specs.Checks.{firstNumber, firstPosition}
 use Rattle.sharding.specs.declared.Sharding.{Sharding}
 use Rattle.sharding.specs.Specification.{allowed, minishardCount, shardCount, noSuchShard}
 use Rattle.sharding.specs.Place.{shardOf, minishardOf}
-use Rattle.shard.specs.Index.{entryStart, entryEnd, entryCount, idSteps, startSteps, sizes, idAt, endAt}
+use Rattle.index.specs.Index.{entryStart, entryEnd, entryCount, idSteps, startSteps, sizes, idAt, endAt, mostShardBytes}
 use Rattle.shard.specs.Checks.{minishardChecks}
-use Rattle.shard.specs.File.{mostShardBytes, indexLength, indexPart, dataPart, fileChecks}
+use Rattle.shard.specs.File.{indexLength, indexPart, dataPart, fileChecks}
 
 -- none of 7 to 11 holds of minishard m, whose minishard index stands in d from s to e
 pub record SoundFrom (spec : Sharding) (shard m : ℕ) (d : List ℕ) (s e : ℕ) : Type 0 where

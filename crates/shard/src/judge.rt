@@ -4,40 +4,23 @@ ghost use mathlib.Core.Bool.{true};
 ghost use Prim.Native.Nat.{_+_, _*_, _-_, _<_, _≤_};
 ghost use lib.ListN.{length};
 ghost use Rattle.sharding.specs.Specification.{allowed, minishardCount};
-ghost use Rattle.shard.specs.Index.{entryStart, entryEnd};
-ghost use Rattle.shard.specs.Faults.{entryPlace, foreign, faultOf, firstFault};
-ghost use Rattle.shard.specs.File.{mostShardBytes, indexLength};
+ghost use Rattle.index.specs.Index.{entryStart, entryEnd, mostShardBytes};
+ghost use Rattle.index.specs.Tests.{entryPlace};
+ghost use Rattle.shard.specs.Faults.{foreign, faultOf, firstFault};
+ghost use Rattle.shard.specs.File.{indexLength};
 use endian::inner::read_u64;
+use index::Fault;
+use index::entry_end;
+use index::entry_start;
 use sharding::Sharding;
 use sharding::inner::place;
 use twice::inner::first_twice;
 
-// The first test that a minishard fails, with the byte position, counted from the beginning of the shard, of what fails it;
-// number 0 where it is sound.
-pub struct Fault {
-    pub number: u8,
-    pub position: u64,
-}
-
-// The same of several minishards: of the first that has one.
+// The fault of several minishards: of the first that has one.
 pub struct ShardFault {
     pub number: u8,
     pub minishard: u64,
     pub position: u64,
-}
-
-pub fn entry_start(index: &[u8], m: u64) -> u64
-    requires { ⌜ 16 * m + 16 ≤ length (now index) ⌝ }
-    ensures { λ r. ⌜ (r ≡ entryStart (now (index .entry)) m) × (r < 18446744073709551616) ⌝ }
-{
-    read_u64(index, 16 * m as usize)
-}
-
-pub fn entry_end(index: &[u8], m: u64) -> u64
-    requires { ⌜ 16 * m + 16 ≤ length (now index) ⌝ }
-    ensures { λ r. ⌜ (r ≡ entryEnd (now (index .entry)) m) × (r < 18446744073709551616) ⌝ }
-{
-    read_u64(index, 16 * m as usize + 8)
 }
 
 // Test 10 of one id.

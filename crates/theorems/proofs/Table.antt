@@ -20,7 +20,7 @@ use Rattle.sharding.specs.Place.{hashedId, shardOf, minishardOf, placeChecks, p
 use Rattle.digits.specs.Digits.{digitByte, digits}
 use Rattle.names.specs.Shards.{shardDigits, shardName, shardNameChecks, shardNameAnswer, shardNameLeft}
 use Rattle.twice.specs.Twice.{repeats}
-use Rattle.shard.specs.Index.{idAt, startAt}
+use Rattle.index.specs.Index.{idAt, startAt}
 use Rattle.shard.specs.Faults.{badEntry, badLength, foreign, foreignAt, outside, entryTests}
 use Rattle.shard.specs.Checks.{entryChecks, minishardChecks, minishardsChecks}
 use Rattle.shard.specs.File.{badFileLength, fileChecks, shardChecks}

@@ -31,7 +31,8 @@ use Rattle.sharding.specs.Batch.{placesChecks, placesAnswer, shardsLeft, minish
 use Rattle.names.specs.Chunks.{chunkNameChecks, chunkNameAnswer, chunkNameLeft}
 use Rattle.names.specs.Shards.{shardNameChecks, shardNameAnswer, shardNameLeft}
 use Rattle.shard.specs.declared.CheckAnswer.the-variants.{Sound, Faulty, Refused as CheckRefused}
-use Rattle.shard.specs.File.{mostShardBytes, indexLength, indexPart, dataPart, fileChecks, shardChecks, checkAnswer, checkNumber}
+use Rattle.index.specs.Index.{mostShardBytes}
+use Rattle.shard.specs.File.{indexLength, indexPart, dataPart, fileChecks, shardChecks, checkAnswer, checkNumber}
 use Rattle.shard.specs.Sound.{SoundMinishard, SoundShard, FirstFaultIs}
 use Rattle.shard.specs.Lists.{ListsAt, ListsIn, SameListing, SameChunks}
 use Rattle.lookup.specs.declared.LookupAnswer.the-variants as L

@@ -24,7 +24,8 @@ use Rattle.sharding.specs.Batch.{shardsOf, minishardsOf, placesChecks}
 use Rattle.sharding.specs.Before.{mostMinishardBitsBefore, allowedBefore}
 use Rattle.names.specs.Shards.{shardName, shardNameChecks}
 use Rattle.shard.specs.declared.CheckAnswer.the-variants.{Sound, Faulty}
-use Rattle.shard.specs.File.{mostShardBytes, badFileLength, fileChecks, checkAnswer}
+use Rattle.index.specs.Index.{mostShardBytes}
+use Rattle.shard.specs.File.{badFileLength, fileChecks, checkAnswer}
 use Rattle.shard.specs.Before.{PassedBefore}
 use Rattle.lookup.specs.declared.LookupAnswer.the-variants as L
 use Rattle.lookup.specs.Find.{lookupAnswer}

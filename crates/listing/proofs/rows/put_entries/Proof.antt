@@ -5,7 +5,7 @@ use native.Mathlib.Omega.{arith}
 use lib.ListN.{length}
 use borrow.Author.Needs.{needs}
 use Rattle.endian.specs.Place.{paste}
-use Rattle.shard.specs.Index.{idSteps, startSteps, sizes}
+use Rattle.index.specs.Index.{idSteps, startSteps, sizes}
 use Rattle.listing.specs.Listing.{entriesFrom}
 use Rattle.shard.proofs.Tally.{Tally, tally-start, tally-place-fits, tally-turn}
 use Rattle.listing.proofs.Entries.{listing-first, listing-next, listing-last, listing-length}

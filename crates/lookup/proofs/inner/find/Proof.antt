@@ -5,7 +5,7 @@ use mathlib.Core.Bool.{false}
 use native.Mathlib.Omega.{arith}
 use borrow.Author.Needs.{needs}
 use Rattle.endian.specs.Range.{anyBelow}
-use Rattle.shard.specs.Index.{idSteps, startSteps, sizes}
+use Rattle.index.specs.Index.{idSteps, startSteps, sizes}
 use Rattle.lookup.specs.Find.{isId}
 use Rattle.shard.proofs.Tally.{Tally, tally-start, tally-place-fits, tally-turn}
 use Rattle.lookup.proofs.Seek.{seek-start, seek-hit, seek-turn, seek-end}

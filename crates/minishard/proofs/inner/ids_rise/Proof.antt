@@ -1,5 +1,5 @@
 use Prim.Native.Nat.{_-_}
-use Rattle.shard.specs.Index.{idSteps}
+use Rattle.index.specs.Index.{idSteps}
 use Rattle.minishard.proofs.Climbing.{Climbing, climbing}
 use Rattle.minishard.proofs.inner.ids_rise.Statement.{statement}
 use Rattle.minishard.proofs.inner.ids_rise.Tie as tie

@@ -1,5 +1,5 @@
 use Prim.Native.Nat.{_-_}
-use Rattle.shard.specs.Index as index
+use Rattle.index.specs.Index as index
 use Rattle.minishard.proofs.Lengths.{Adding, adding}
 use Rattle.minishard.proofs.inner.sizes_length.Statement.{statement}
 use Rattle.minishard.proofs.inner.sizes_length.Tie as tie

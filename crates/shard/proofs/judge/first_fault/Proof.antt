@@ -6,8 +6,7 @@ use mathlib.Core.Logic.{⊎-elim}
 use native.Mathlib.Omega.{arith}
 use borrow.Author.Needs.{needs}
 use lib.ListN.{length}
-use Rattle.shard.specs.File.{mostShardBytes}
-use Rattle.shard.specs.Index.{idSteps}
+use Rattle.index.specs.Index.{mostShardBytes, idSteps}
 use Rattle.endian.specs.Little.{rowAt}
 use Rattle.shard.specs.Faults.{foreignAt, placeTest, endTest, faultOf, noFault}
 use Rattle.shard.proofs.Split.{index-short}

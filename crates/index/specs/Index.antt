@@ -8,6 +8,10 @@ use Rattle.endian.specs.Range.{sumTo}
 -- an id is the sum of the id steps so far, modulo 2^64 (02, order 2)
 unfoldable pub use Rattle.twice.specs.Twice.{idAt}
 
+-- the longest shard
+abbrev pub mostShardBytes : ℕ
+mostShardBytes = 1073741824
+
 -- the entry of minishard m in the shard index: where its minishard index begins and ends
 abbrev pub entryStart : List ℕ → ℕ → ℕ
 entryStart index m = leAt 8 index (16 * m)

@@ -3,8 +3,7 @@ use Prim.Native.Nat.{ℕ, _+_, _*_, _≤_, _<_}
 use mathlib.Core.Path.{_≡_}
 use mathlib.Core.List.{List}
 use lib.ListN.{length}
-use Rattle.shard.specs.Index.{entryStart, entryEnd, entryCount, startSteps, sizes, endAt}
-use Rattle.shard.specs.File.{mostShardBytes}
+use Rattle.index.specs.Index.{entryStart, entryEnd, entryCount, startSteps, sizes, endAt, mostShardBytes}
 
 -- the n entries at s of the data d, behind a shard index of `base` bytes
 pub record Readable (base : ℕ) (d : List ℕ) (s n : ℕ) : Type 0 where

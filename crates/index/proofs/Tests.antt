@@ -8,8 +8,8 @@ use native.Mathlib.Omega.{arith}
 use Rattle.refusal.specs.Choice.{pick}
 use Rattle.endian.specs.Range.{anyBelow, first}
 use Rattle.endian.proofs.Ranges.{any-miss, any-no, told-some, told-none}
-use Rattle.shard.specs.declared.judge.Fault.{Fault}
-use Rattle.shard.specs.Faults.{EntryTest, fault, rowPlace, testPlace, firstOf}
+use Rattle.index.specs.declared.Fault.{Fault}
+use Rattle.index.specs.Tests.{EntryTest, fault, rowPlace, testPlace, firstOf}
 
 -- each of n entries passes the test
 abbrev pub Passes : ℕ → EntryTest → Type 0
