@@ -9,7 +9,7 @@ use lib.ListN.{length, getD, set, length-set}
 use Rattle.endian.specs.Place.{paste}
 use Rattle.endian.proofs.Paste.{paste-nil, paste-cons, paste-on, store, length-paste}
 use Rattle.index.specs.Index.{idSteps, startSteps, sizes, idAt, startAt}
-use Rattle.shard.proofs.Tally.{Tally, tally-id, tally-place}
+use Rattle.index.proofs.Tally.{Tally, tally-id, tally-place}
 use Rattle.listing.specs.Listing.{entriesFrom}
 
 -- three stores

@@ -11,7 +11,7 @@ use Rattle.refusal.proofs.Picks.{by-picks}
 use Rattle.endian.specs.Range.{anyBelow, first}
 use Rattle.endian.proofs.Ranges.{any-none, any-more, any-hit, any-no, first-hit, first-lt}
 use Rattle.index.specs.Index.{idAt, startAt, endAt, idSteps, startSteps, sizes}
-use Rattle.shard.proofs.Tally.{Tally, tally-id, tally-place}
+use Rattle.index.proofs.Tally.{Tally, tally-id, tally-place}
 use Rattle.lookup.specs.declared.LookupAnswer.the-variants.{Found, Refused}
 use Rattle.lookup.specs.Find.{isId, unlisted, chunkOf, foundIn}
 

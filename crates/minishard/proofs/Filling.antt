@@ -9,7 +9,7 @@ use lib.ListN.{length, set}
 use lib.Seq.{getD-set-same, getD-set-other, ext-getD}
 use Rattle.endian.specs.Little.{leAt}
 use Rattle.index.specs.Index.{idSteps, startSteps, sizes}
-use Rattle.shard.proofs.Tally.{Tally, tally-start, tally-id, tally-place, tally-turn}
+use Rattle.index.proofs.Tally.{Tally, tally-start, tally-id, tally-place, tally-turn}
 use Rattle.sortrows.specs.Rows.{entriesAt, FitEntry, Only}
 use Rattle.sortrows.specs.Heap.{noEntry, nth}
 use Rattle.sortrows.proofs.Cases.{Either, is, not, either}

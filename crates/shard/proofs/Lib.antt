@@ -5,7 +5,6 @@ pub mod Loops
 pub mod Judged
 pub mod Numbers
 pub mod Passed
-pub mod Tally
 pub mod Split
 pub mod Whole
 pub mod WholeAnswers

@@ -7,7 +7,7 @@ use borrow.Author.Needs.{needs}
 use Rattle.endian.specs.Place.{paste}
 use Rattle.index.specs.Index.{idSteps, startSteps, sizes}
 use Rattle.listing.specs.Listing.{entriesFrom}
-use Rattle.shard.proofs.Tally.{Tally, tally-start, tally-place-fits, tally-turn}
+use Rattle.index.proofs.Tally.{Tally, tally-start, tally-place-fits, tally-turn}
 use Rattle.listing.proofs.Entries.{listing-first, listing-next, listing-last, listing-length}
 use Rattle.listing.proofs.rows.put_entries.Statement.{statement}
 use Rattle.listing.proofs.rows.put_entries.Tie as tie

@@ -7,7 +7,7 @@ use borrow.Author.Needs.{needs}
 use Rattle.endian.specs.Range.{anyBelow}
 use Rattle.index.specs.Index.{idSteps, startSteps, sizes}
 use Rattle.lookup.specs.Find.{isId}
-use Rattle.shard.proofs.Tally.{Tally, tally-start, tally-place-fits, tally-turn}
+use Rattle.index.proofs.Tally.{Tally, tally-start, tally-place-fits, tally-turn}
 use Rattle.lookup.proofs.Seek.{seek-start, seek-hit, seek-turn, seek-end}
 use Rattle.lookup.proofs.inner.find.Statement.{statement}
 use Rattle.lookup.proofs.inner.find.Tie as tie
