@@ -24,7 +24,8 @@ fn cell_at(cells: &[u32], at: usize) -> Cell
     }
 }
 
-fn all_inside(grid: Extents, cells: &[u32]) -> bool
+// Each cell is one of the grid's.
+pub fn all_inside(grid: Extents, cells: &[u32]) -> bool
     ensures { λ r. ⌜ r ≡ eachInGrid grid (cellsOf (now (cells .entry))) ⌝ }
 {
     let mut i = 0;

@@ -1,0 +1,5 @@
+pub mod Spreading
+pub mod Entries
+pub mod Turns
+pub mod Bytes
+pub mod Sums

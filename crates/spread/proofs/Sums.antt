@@ -1,0 +1,77 @@
+-- The plan of a grid, and the two parts of a key added: the sum is the key, and it fits.
+use Prim.Native.Nat.{ℕ, _+_, _*_, _^_, _≤_, _<_}
+use mathlib.Core.Path.{_≡_, sym, _∙_}
+use native.Mathlib.Omega.{arith}
+use native.Mathlib.Nat.{lt-of-lt-of-le}
+use lib.Pow.{pow-mono}
+use mir.Syntax.{w64}
+use mir.Val.{Fits}
+use Rattle.grid.specs.declared.Extents.{Extents}
+use Rattle.grid.specs.declared.Cell.{Cell}
+use Rattle.grid.specs.Grid.{gridSize}
+use Rattle.grid.specs.Key.{keyBits, keyOf}
+use Rattle.grid.specs.Turn.{AxisBits}
+use Rattle.grid.proofs.From.{key-below}
+use Rattle.spread.specs.declared.Plan.{Plan}
+use Rattle.spread.specs.Parts.{lowKey, coarseGrid, coarseCell, Planned}
+use Rattle.spread.proofs.Turns.{key-by-parts, coarse-sum, all-shared}
+
+module _ (g : Extents) (few : keyBits g ≤ 64) {a b d m l : ℕ} (x : AxisBits (g .x) a) (y : AxisBits (g .y) b) (z : AxisBits (g .z) d)
+    (ma : m ≤ a) (mb : m ≤ b) (lm : l ≤ m) (ld : l ≤ d) where
+  la : l ≤ a
+  la = omega arith
+
+  lb : l ≤ b
+  lb = omega arith
+
+  pub low-few : l < 32
+  low-few = omega (arith, coarse-sum g x y z la lb ld)
+
+  pub planned : g .x < 2 ^ 32 → g .y < 2 ^ 32 → g .z < 2 ^ 32 → {r : Extents} → r ≡ coarseGrid l g → {n : ℕ} → n ≡ keyBits r
+      → Planned (record { grid = g; low = l; rest = r; bits = n })
+  planned wx wy wz {r} e k =
+      record {
+        words = record { x = wx; y = wy; z = wz };
+        few = few;
+        most = omega (arith, coarse-sum g x y z la lb ld);
+        shared = all-shared g x y z la lb ld;
+        rest = e;
+        bits = k;
+        left = rw e (omega (arith, coarse-sum g x y z la lb ld));
+      }
+
+pub coarse-made : (g : Extents) (n : ℕ) {s x y z : ℕ} → s ≡ 2 ^ n → x ≡ gridSize (g .x) s → y ≡ gridSize (g .y) s → z ≡ gridSize (g .z) s
+    → _≡_ {A = Extents} (record { x = x; y = y; z = z }) (coarseGrid n g)
+unfolding coarseGrid
+coarse-made g n e p q r = rw (← e) (λ t. record { x = p t; y = q t; z = r t })
+
+-- ---- the key
+module _ (p : Plan) (c : Cell) (w : Planned p) {l : ℕ} (s : l ≡ lowKey (p .low) c) where
+  all : l + keyOf (p .rest) (coarseCell (p .low) c) * 2 ^ (3 * p .low) ≡ keyOf (p .grid) c
+  all = rw (s, w .rest) (sym (key-by-parts (p .grid) c (p .low) (w .words) (w .shared)))
+
+  fits : keyOf (p .grid) c < 2 ^ 64
+  fits = lt-of-lt-of-le (key-below (p .grid) c) (pow-mono (w .few))
+
+  -- no bit is left
+  pub key-low : p .bits ≡ 0 → l ≡ keyOf (p .grid) c
+  key-low h =
+      let e : keyBits (p .rest) ≡ 0 = sym (w .bits) ∙ h in
+      let z : keyOf (p .rest) (coarseCell (p .low) c) < 1 = rw e at (key-below (p .rest) (coarseCell (p .low) c)) in
+      let y : keyOf (p .rest) (coarseCell (p .low) c) ≡ 0 = omega arith in
+      let a = rw y at all in
+      omega arith
+
+  module _ {d : Cell} (f : d ≡ coarseCell (p .low) c) {r : ℕ} (q : r ≡ keyOf (p .rest) d) where
+    sum : l + r * 2 ^ (3 * p .low) ≡ keyOf (p .grid) c
+    sum = rw (q, f) all
+
+    pub rest-raise : r * 2 ^ (3 * p .low) < 2 ^ 64
+    rest-raise = omega (arith, sum, fits)
+
+    module _ {k : ℕ} (t : k ≡ r * 2 ^ (3 * p .low)) where
+      pub key-sum : l + k ≡ keyOf (p .grid) c
+      key-sum = rw t sum
+
+      pub key-sum-fits : Fits w64 (l + k)
+      key-sum-fits = omega (arith, key-sum, fits)
