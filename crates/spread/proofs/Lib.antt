@@ -3,3 +3,4 @@ pub mod Entries
 pub mod Turns
 pub mod Bytes
 pub mod Sums
+pub mod Rows

@@ -85,7 +85,7 @@ fn spread_byte(table: &[u32], b: u64) -> u64
 }
 
 // The same of the lowest n bits of v, a byte at a time.
-fn spread_bits(table: &[u32], v: u32, n: u32) -> u64
+pub fn spread_bits(table: &[u32], v: u32, n: u32) -> u64
     requires { ⌜ Spreads (now table) × (n ≤ 21) ⌝ }
     ensures { λ r. ⌜ (r ≡ spread n v) × (r < 2 ^ 61) ⌝ }
 {
@@ -133,15 +133,22 @@ fn raise(x: u64, n: u32) -> u64
     x << n
 }
 
-// The key of a cell of the plan's grid.
-pub fn key_by_table(plan: Plan, cell: Cell, table: &[u32]) -> u64
-    requires { ⌜ Planned plan × Spreads (now table) ⌝ }
+// The key of a cell whose bits of the shared turns are `low`.
+pub fn with_rest(plan: Plan, cell: Cell, low: u64) -> u64
+    requires { ⌜ Planned plan × (low ≡ lowKey (plan .low) cell) ⌝ }
     ensures { λ r. ⌜ r ≡ keyOf (plan .grid) cell ⌝ }
 {
-    let low = low_key(table, cell, plan.low);
     if plan.bits == 0 {
         return low;
     }
     let rest = key(plan.rest, coarse_cell(cell, plan.low));
     low + raise(rest, 3 * plan.low)
+}
+
+// The key of a cell of the plan's grid.
+pub fn key_by_table(plan: Plan, cell: Cell, table: &[u32]) -> u64
+    requires { ⌜ Planned plan × Spreads (now table) ⌝ }
+    ensures { λ r. ⌜ r ≡ keyOf (plan .grid) cell ⌝ }
+{
+    with_rest(plan, cell, low_key(table, cell, plan.low))
 }

@@ -11,6 +11,7 @@ ghost use Rattle.spread.specs.Spread.{Spreads};
 ghost use Rattle.spread.specs.Parts.{Planned};
 
 pub mod inner;
+pub mod row;
 mod table;
 
 use grid::Cell;

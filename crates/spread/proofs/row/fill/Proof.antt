@@ -1,0 +1,45 @@
+-- `spread::row::fill` meets its contract. The keys of the cells from x on are left to write.
+use Prim.Native.Nat.{_+_, _-_, _*_, _^_, _≤_, _<_}
+use mathlib.Core.Path.{_≡_}
+use mathlib.Core.List.{map}
+use native.Mathlib.Omega.{arith}
+use borrow.Author.Needs.{needs}
+use lib.ListN.{length}
+use Rattle.endian.specs.Place.{paste}
+use Rattle.grid.specs.Key.{keyOf}
+use Rattle.spread.specs.Spread.{spread}
+use Rattle.spread.specs.Row.{cellsFrom}
+use Rattle.spread.proofs.Rows.{low-row, row-start, row-next, row-end}
+use Rattle.spread.proofs.row.fill.Statement.{statement}
+use Rattle.spread.proofs.row.fill.Tie as tie
+
+abbrev Inv-loop : tie.InvT-loop
+Inv-loop plan table from to y z keys₀ yz x₀ keys x =
+    (yz ≡ 2 * spread (plan .low) y + 4 * spread (plan .low) z) × (yz < 6 * 2 ^ 61) × (from ≤ x) × (length keys ≡ length keys₀)
+    × (paste (x - from) (map (keyOf (plan .grid)) (cellsFrom (to - x) x y z)) keys ≡ paste 0 (map (keyOf (plan .grid)) (cellsFrom (to - from) from y z)) keys₀)
+
+abbrev μ-loop : tie.MeasureT-loop
+μ-loop plan table from to y z keys₀ yz x₀ keys x = to - x
+
+loop-holds : tie.Need-loop-holds Inv-loop μ-loop
+loop-holds c = (search needs, search needs, search needs, search needs, row-start _ _ _)
+
+with-rest-requires : tie.Need-with-rest-requires Inv-loop μ-loop
+with-rest-requires c κs = (search needs, search low-row)
+
+loop-again : tie.Need-loop-again Inv-loop μ-loop
+loop-again c =
+    let inv = c .before .before .before .loop .inv in (
+      search needs,
+      search needs,
+      search needs,
+      search needs,
+      row-next _ _ _ _ _ _ _ (inv .4) (omega arith) (omega arith) (c .with-rest .ensures) (omega arith),
+    )
+
+pub fill-spec : {M : Type 1} → statement M
+fill-spec =
+    tie.close
+    (tie.spec Inv-loop μ-loop (λ c κs. search needs) loop-holds (λ c κs. search needs) (λ c. search needs) with-rest-requires (λ c. search needs)
+    (λ c. search needs) (λ c. search needs) (λ c. search needs) (λ c. search needs) (λ c. search needs) loop-again (λ c. search needs)
+    (λ c. search (row-end, needs)))
