@@ -1,0 +1,6 @@
+pub mod Greatest
+pub mod Offsets
+pub mod Mild
+pub mod Inside
+pub mod Verdict
+pub mod Sure

@@ -1,0 +1,18 @@
+use borrow.Author.Needs.{needs}
+use Rattle.segmentation.proofs.Asked.{block-x, block-y, some-blocks}
+use Rattle.readable.proofs.Inside.{some-rows, rest-of-fits, layer-fits}
+use Rattle.readable.specs.Checks.{insideOf}
+use Rattle.readable.proofs.blocks.inside_of.Statement.{statement}
+use Rattle.readable.proofs.blocks.inside_of.Tie as tie
+
+returns : tie.Need-returns
+unfolding insideOf
+returns c = cc
+
+pub inside-of-spec : {M : Type 1} → statement M
+inside-of-spec =
+    tie.close
+    (tie.spec (λ c κs. search block-x) (λ c. search needs) (λ c κs. search block-y) (λ c. search needs) (λ c. search some-blocks)
+    (λ c. search (rest-of-fits, some-blocks)) (λ c κs. search needs) (λ c. search some-blocks) (λ c. search some-rows)
+    (λ c. search (rest-of-fits, some-rows)) (λ c κs. search needs) (λ c. search some-blocks) (λ c. search some-rows)
+    (λ c. search (layer-fits, some-blocks, some-rows)) (λ c κs. search needs) returns)

@@ -1,0 +1,81 @@
+-- Worked cases, as one table: what is asked, and the answer.
+use Prim.Native.Nat.{ℕ}
+use mathlib.Core.Path.{_≡_, refl}
+use mathlib.Core.Bool.{Bool, true, false}
+use mathlib.Core.List.{List, [], _∷_, map}
+use Rattle.refusal.specs.Checks.{firstNumber, unless}
+use Rattle.endian.specs.Little.{leAt}
+use Rattle.grid.specs.declared.Extents.{Extents}
+use Rattle.grid.specs.Grid.{gridSize, hasZero}
+use Rattle.segmentation.specs.declared.Shape.{Shape}
+use Rattle.segmentation.specs.declared.LabelAnswer.{LabelAnswer}
+use Rattle.segmentation.specs.declared.LabelAnswer.the-variants.{Label, Refused}
+use Rattle.segmentation.specs.Words.{word, whole}
+use Rattle.segmentation.specs.Layout.{noVoxels, outside, blockNumber, placeNumber, isWidth}
+use Rattle.segmentation.specs.Labels.{valueIn, labelAt, otherWidth, cutOff, labelChecks, labelAnswer}
+
+pub data Case : Type 0 where
+  label : List ℕ → Shape → ℕ → ℕ → ℕ → ℕ → LabelAnswer → Case
+
+-- the case with the answer that the definitions give
+abbrev pub given : Case → Case
+given (label s sh x y z c a) = label s sh x y z c (labelAnswer s sh x y z c)
+
+abbrev pub box : ℕ → ℕ → ℕ → Extents
+box x y z = record { x = x; y = y; z = z }
+
+abbrev pub shape : Extents → ℕ → Bool → Shape
+shape extents channels wide = record { extents = extents; block = box 2 2 2; channels = channels; wide = wide }
+
+-- worked by hand: one channel, extents 2, 2, 2, block 2, 2, 2, 32-bit labels
+abbrev pub cube : Shape
+cube = shape (box 2 2 2) 1 false
+
+-- words 1 | 0x01000003, 2 | 0xA5 | 7, 9, with the header's width and the last byte left open
+abbrev pub sample : ℕ → List ℕ → List ℕ
+sample width last = 1 ∷ 0 ∷ 0 ∷ 0 ∷ 3 ∷ 0 ∷ 0 ∷ width ∷ 2 ∷ 0 ∷ 0 ∷ 0 ∷ 165 ∷ 0 ∷ 0 ∷ 0 ∷ 7 ∷ 0 ∷ 0 ∷ 0 ∷ 9 ∷ 0 ∷ 0 ∷ last
+
+abbrev pub whole-sample : List ℕ
+whole-sample = sample 1 (0 ∷ [])
+
+abbrev pub cut-sample : List ℕ
+cut-sample = sample 1 []
+
+abbrev pub table : List Case
+table =
+    -- "labels of voxels 0 to 7 (x fastest) are 9 7 9 7 7 9 7 9"
+    label whole-sample cube 0 0 0 0 (Label 9)
+    ∷ label whole-sample cube 1 0 0 0 (Label 7)
+    ∷ label whole-sample cube 0 1 0 0 (Label 9)
+    ∷ label whole-sample cube 1 1 0 0 (Label 7)
+    ∷ label whole-sample cube 0 0 1 0 (Label 7)
+    ∷ label whole-sample cube 1 0 1 0 (Label 9)
+    ∷ label whole-sample cube 0 1 1 0 (Label 7)
+    ∷ label whole-sample cube 1 1 1 0 (Label 9)
+    -- a block that sticks out keeps its full size in the numbering of its voxels
+    ∷ label whole-sample (shape (box 1 2 2) 1 false) 0 1 0 0 (Label 9)
+    ∷ label whole-sample (shape (box 1 2 2) 1 false) 0 0 1 0 (Label 7)
+    -- the last byte cut off: a voxel is refused only if its entry needs it
+    ∷ label cut-sample cube 0 0 0 0 (Refused 28)
+    ∷ label cut-sample cube 1 0 0 0 (Label 7)
+    -- width 0 reads no packed word; width 3 is none
+    ∷ label (sample 0 (0 ∷ [])) cube 1 1 1 0 (Label 7)
+    ∷ label (sample 3 (0 ∷ [])) cube 1 1 1 0 (Refused 29)
+    ∷ label (sample 3 []) cube 0 0 0 0 (Refused 29)
+    -- 64-bit labels take two words, low word first
+    ∷ label (sample 0 (0 ∷ [])) (shape (box 2 2 2) 1 true) 0 0 0 0 (Label 38654705671)
+    ∷ label whole-sample (shape (box 2 2 2) 1 true) 0 0 0 0 (Refused 28)
+    -- the second channel's header lies past the end; there is no third, and no voxel past the extents
+    ∷ label whole-sample (shape (box 2 2 2) 2 false) 0 0 0 1 (Refused 28)
+    ∷ label whole-sample (shape (box 2 2 2) 2 false) 0 0 0 2 (Refused 2)
+    ∷ label whole-sample cube 2 0 0 0 (Refused 2)
+    ∷ label whole-sample cube 0 0 2 0 (Refused 2)
+    -- 2 before 28
+    ∷ label [] (shape (box 2 2 2) 0 false) 0 0 0 0 (Refused 2)
+    ∷ label [] (shape (box 2 0 2) 1 false) 0 0 0 0 (Refused 2)
+    ∷ label [] cube 0 0 0 0 (Refused 28)
+    ∷ []
+
+pub cases-hold : map given table ≡ table
+unfolding firstNumber unless labelAnswer labelChecks labelAt otherWidth cutOff valueIn noVoxels hasZero outside blockNumber placeNumber gridSize isWidth word whole leAt
+cases-hold = refl

@@ -1,0 +1,5 @@
+pub mod Words
+pub mod Layout
+pub mod Labels
+pub mod Steps
+pub mod Far

@@ -1,0 +1,28 @@
+// The labels inside a chunk, in the compressed segmentation encoding: a whole chunk unpacked to the raw form.
+ghost use mathlib.Core.Path.{_≡_};
+ghost use Rattle.unpack.specs.Raw.{unpackAnswer, unpackLeft};
+use readable::inner::chunk_refusal;
+use refusal::Written;
+use segmentation::Shape;
+use segmentation::inner::has_none;
+
+mod raw;
+
+// The whole chunk in the raw form, at the front of `out`, and its length: 2 where there is no voxel, 29 where asking for some voxel
+// gives it, else 28 where asking for some voxel gives it, 13 where the raw form does not fit.
+pub fn unpack(chunk: &[u8], shape: Shape, out: &mut [u8]) -> Written
+    ensures answer { λ r. ⌜ r ≡ unpackAnswer (now (chunk .entry)) shape (now (out .entry)) ⌝ }
+    ensures out { λ _. ⌜ now (out .exit) ≡ unpackLeft (now (chunk .entry)) shape (now (out .entry)) ⌝ }
+{
+    if has_none(shape) {
+        return Written::Refused(2);
+    }
+    let k = chunk_refusal(chunk, shape);
+    if 0 < k {
+        return Written::Refused(k);
+    }
+    if !raw::has_room(shape, out.len()) {
+        return Written::Refused(13);
+    }
+    Written::Length(raw::put_all(chunk, shape, out))
+}
