@@ -5,10 +5,9 @@ use mathlib.Core.Bool.{Bool, true, false, _&&_, _||_}
 use mathlib.Core.List.{[], _++_}
 use native.Mathlib.Omega.{arith}
 use native.Mathlib.Decide.{decLe}
-use borrow.Author.Tests.{leb-true, leb-false, ltb-true, ltb-false, le-ltb, lt-ltb, le-leb, eqb-true}
-use native.Mathlib.Nat.{pow-suc, two-pow-succ, mul-add, add-mul, mul-zero, zero-mul, mul-pos}
-use lib.Dec.{ltb, leb, eqb}
-use lib.Pow.{pow-pos}
+use borrow.Author.Tests.{leb-true, leb-false, ltb-true, ltb-false, le-ltb}
+use native.Mathlib.Nat.{pow-suc, two-pow-succ, mul-add, add-mul}
+use lib.Dec.{ltb, leb}
 use lib.ListN.{length, length-append}
 use Rattle.grid.specs.declared.Cell.{Cell}
 use Rattle.grid.specs.declared.Extents.{Extents}
@@ -17,12 +16,18 @@ use Rattle.refusal.proofs.Tests.{both, neither}
 use Rattle.cover.specs.declared.Along.{Along}
 use Rattle.cover.specs.declared.Part.{Part}
 use Rattle.cover.specs.Cover.{keep, passing}
-use Rattle.cover.specs.Search.{marked, Fitting, lowHalf, highHalf, Sized, markedCell, missed, inRow, filled, filledPart, frame, leftBits, partKeys, counting, width, markedCells, Splits}
+use Rattle.cover.specs.Search.{marked, Fitting, Sized, markedCell, missed, frame, leftBits, partKeys, width}
 use Rattle.cover.proofs.Tests.{ltb-same, leb-same}
-use Rattle.cover.proofs.Lists.{passing-split, passing-same, passing-none, passing-all, passing-row}
-use Rattle.cover.proofs.Frames.{cube, cube-bits, row-cell, Inside, inside-cube, Cut, cut-low, cut-high, cut-x, cut-y, cut-z}
+use Rattle.cover.proofs.Lists.{passing-split, passing-same, passing-none}
+use Rattle.cover.proofs.Frames.{cube, cube-bits, Inside, inside-cube, Cut, cut-low, cut-high, cut-x, cut-y, cut-z}
 
--- ---- one axis
+-- ---- one axis: its lower and its upper half, each with cells of its own that count from 0
+unfoldable pub lowHalf : Along → Along
+lowHalf a = record { bits = a .bits - 1; from = a .from; to = min (a .to) (2 ^ (a .bits - 1)) }
+
+unfoldable pub highHalf : Along → Along
+highHalf a = record { bits = a .bits - 1; from = a .from - 2 ^ (a .bits - 1); to = a .to - 2 ^ (a .bits - 1) }
+
 module _ (a : Along) where
   low-marked : (c : ℕ) → c < 2 ^ (a .bits - 1) → marked a c ≡ marked (lowHalf a) c
   unfolding marked lowHalf
@@ -50,6 +55,18 @@ module _ (a : Along) where
   width-halves = omega arith
 
 -- ---- three axes
+unfoldable pub markedCells : Part → ℕ
+markedCells p = width (p .x) * width (p .y) * width (p .z)
+
+-- the highest key bit that is left splits a part in two
+pub record Splits (p low high : Part) : Type 0 where
+  pub low-bits : leftBits p ≡ suc (leftBits low)
+  pub high-bits : leftBits p ≡ suc (leftBits high)
+  pub low-sized : Sized low
+  pub high-sized : Sized high
+  pub keys : (first : ℕ) → partKeys p first ≡ partKeys low first ++ partKeys high (first + 2 ^ leftBits low)
+  pub cells : markedCells p ≡ markedCells low + markedCells high
+
 record Halving (p low high : Part) : Type 0 where
   low-bits : leftBits p ≡ suc (leftBits low)
   high-bits : leftBits p ≡ suc (leftBits high)
@@ -272,47 +289,6 @@ pub missed-none : (p : Part) (first : ℕ) → missed p ≡ true → partKeys p 
 unfolding partKeys
 missed-none p first e = passing-none _ first (2 ^ leftBits p) (λ k. missed-cell p (cellOf (frame p) (k - first)) e)
 
--- each cell is marked
-pub record Filled (a : Along) : Type 0 where
-  pub none : a .from ≡ 0
-  pub few : a .bits < 20
-  pub all : a .to ≡ 2 ^ (a .bits)
-
-pub is-filled : (a : Along) → filled a ≡ true → Filled a
-unfolding filled
-is-filled a e =
-    let p = both (eqb (a .from) 0) (ltb (a .bits) 20 && eqb (a .to) (2 ^ (a .bits))) e in
-    let q = both (ltb (a .bits) 20) (eqb (a .to) (2 ^ (a .bits))) (p .1) in
-    record { none = eqb-true _ _ (p .0); few = ltb-true _ _ (q .0); all = eqb-true _ _ (q .1) }
-
-filled-marked : (a : Along) (c : ℕ) → Filled a → c < 2 ^ (a .bits) → marked a c ≡ true
-unfolding marked
-filled-marked a c f h = rw (f .none, f .all, le-leb 0 c (omega arith)) (lt-ltb c (2 ^ (a .bits)) h)
-
-module _ (p : Part) (e : filledPart p ≡ true) where
-  filled-each : Filled (p .x) × Filled (p .y) × Filled (p .z)
-  unfolding filledPart
-  filled-each =
-      let q = both _ _ e in
-      let r = both _ _ (q .1) in
-      (is-filled (p .x) (q .0), is-filled (p .y) (r .0), is-filled (p .z) (r .1))
-
-  filled-cell : (c : Cell) → Inside (frame p) c → markedCell p c ≡ true
-  unfolding markedCell frame
-  filled-cell c i =
-      rw (filled-marked (p .x) (c .x) (filled-each .0) (i .x), filled-marked (p .y) (c .y) (filled-each .1) (i .y))
-      (filled-marked (p .z) (c .z) (filled-each .2) (i .z))
-
-  pub filled-keys : (first : ℕ) → partKeys p first ≡ counting first (2 ^ leftBits p)
-  unfolding partKeys
-  filled-keys first =
-      passing-all _ first (2 ^ leftBits p)
-      (λ k. filled-cell (cellOf (frame p) (k - first)) (unfold frame in inside-cube (p .x .bits) (p .y .bits) (p .z .bits) (k - first)))
-
-  pub filled-few : leftBits p < 64
-  unfolding leftBits
-  filled-few = let f = filled-each in omega (arith, f .0 .few, f .1 .few, f .2 .few)
-
 -- one cell: it is marked or it is not
 one-cell : (a b c : ℕ) → b ≤ 1 → c < 1 → b - a ≡ count (leb a c && ltb c b)
 unfolding count
@@ -329,13 +305,6 @@ one-width a c f e h =
     let t : a .to ≤ 2 ^ 0 = rw e at (f .within) in
     let z : c < 2 ^ 0 = rw e at h in
     one-cell (a .from) (a .to) c t z
-
-marked-here : (a : Along) (c : ℕ) → Fitting a → a .bits ≡ 0 → c < 2 ^ (a .bits) → a .from < a .to → marked a c ≡ true
-unfolding marked
-marked-here a c f e h l =
-    let t : a .to ≤ 2 ^ 0 = rw e at (f .within) in
-    let z : c < 2 ^ 0 = rw e at h in
-    rw (le-leb (a .from) c (omega arith), lt-ltb c (a .to) (omega arith))
 
 count-and : (a b : Bool) → count a * count b ≡ count (a && b)
 unfolding count
@@ -402,10 +371,6 @@ keys-count (suc n) p first s e =
     rw (b .keys first, length-append, l, h) (sym (b .cells))
 
 -- ---- a part with marked cells
-true-last : (a : Bool) → a && true ≡ a
-true-last true = refl
-true-last false = refl
-
 module _ (p : Part) (m : missed p ≡ false) where
   pub some-each : (p .x .from < p .x .to) × (p .y .from < p .y .to) × (p .z .from < p .z .to)
   unfolding missed
@@ -413,57 +378,3 @@ module _ (p : Part) (m : missed p ≡ false) where
       let q = neither _ _ m in
       let r = neither _ _ (q .1) in
       (leb-false _ _ (q .0), leb-false _ _ (r .0), leb-false _ _ (r .1))
-
-  some-marked : 0 < markedCells p
-  unfolding markedCells width
-  some-marked = let q = some-each in mul-pos (mul-pos (omega (arith, q .0)) (omega (arith, q .1))) (omega (arith, q .2))
-
-  -- the keys of a row follow one another
-  module _ (first : ℕ) (s : Sized p) (e : inRow p ≡ true) where
-    flat : (p .y .bits ≡ 0) × (p .z .bits ≡ 0)
-    unfolding inRow
-    flat = let q = both _ _ e in (eqb-true _ _ (q .0), eqb-true _ _ (q .1))
-
-    row-frame : frame p ≡ cube (p .x .bits) 0 0
-    unfolding frame
-    row-frame = rw (flat .0, flat .1)
-
-    pub row-bits : leftBits p ≡ p .x .bits
-    unfolding leftBits
-    row-bits = omega (arith, flat .0, flat .1)
-
-    row-marks : (k : ℕ) → k < 2 ^ (p .x .bits) → markedCell p (cellOf (frame p) k) ≡ leb (p .x .from) k && ltb k (p .x .to)
-    unfolding markedCell marked
-    row-marks k l =
-        let y : marked (p .y) 0 ≡ true = marked-here (p .y) 0 (s .y) (flat .0) (pow-pos (p .y .bits)) (some-each .1) in
-        let z : marked (p .z) 0 ≡ true = marked-here (p .z) 0 (s .z) (flat .1) (pow-pos (p .z .bits)) (some-each .2) in
-        rw (row-frame, row-cell (p .x .bits) k (s .x .most) l, y, z) (true-last _)
-
-    pub row-keys : partKeys p first ≡ counting (first + p .x .from) (width (p .x))
-    unfolding partKeys width
-    row-keys =
-        rw row-bits
-        (passing-row _ first (2 ^ (p .x .bits)) (p .x .from) (p .x .to) (omega (arith, some-each .0)) (s .x .within)
-        (λ i l n. row-marks (i - first) (omega arith)))
-
-none-marked-cells : (p : Part) → missed p ≡ true → markedCells p ≡ 0
-unfolding missed markedCells width
-none-marked-cells p e = go (leb (p .x .to) (p .x .from)) (leb (p .y .to) (p .y .from)) refl refl e
-  where
-    go : (s t : Bool) → leb (p .x .to) (p .x .from) ≡ s → leb (p .y .to) (p .y .from) ≡ t → s || (t || leb (p .z .to) (p .z .from)) ≡ true
-        → (p .x .to - p .x .from) * (p .y .to - p .y .from) * (p .z .to - p .z .from) ≡ 0
-    go true t a b d = let w : p .x .to - p .x .from ≡ 0 = omega (arith, leb-true (p .x .to) (p .x .from) a) in rw (w, zero-mul, zero-mul)
-    go false true a b d = let w : p .y .to - p .y .from ≡ 0 = omega (arith, leb-true (p .y .to) (p .y .from) b) in rw (w, mul-zero, zero-mul)
-    go false false a b d = let w : p .z .to - p .z .from ≡ 0 = omega (arith, leb-true (p .z .to) (p .z .from) d) in rw (w, mul-zero)
-
--- where one half has no marked cell, the other has some
-pub other-some : (p low high : Part) → Splits p low high → missed p ≡ false → missed low ≡ true → missed high ≡ false
-other-some p low high w m n = go (missed high) refl
-  where
-    go : (t : Bool) → missed high ≡ t → t ≡ false
-    go false e = refl
-    go true e =
-        let a = some-marked p m in
-        let b = none-marked-cells low n in
-        let c = none-marked-cells high e in
-        absurd (omega (arith, w .cells))

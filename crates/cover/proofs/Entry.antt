@@ -1,12 +1,11 @@
 -- The ways out of `cover`: the number of the first check that holds, or 0.
-use Prim.Native.Nat.{ℕ, _*_, _^_, _≤_, _<_}
+use Prim.Native.Nat.{ℕ, _*_, _≤_, _<_}
 use mathlib.Core.Path.{_≡_, refl, sym, ap, _∙_}
 use mathlib.Core.Bool.{Bool, true, false}
 use mathlib.Core.List.{List}
 use native.Mathlib.Omega.{arith}
 use lib.Dec.{ltb}
 use lib.ListN.{length}
-use lib.Pow.{pow-mono}
 use borrow.Author.Needs.{needs}
 use borrow.Author.Tests.{ltb-false}
 use Rattle.refusal.specs.Checks.{firstNumber}
@@ -15,14 +14,15 @@ use Rattle.refusal.proofs.Refusing.{by-number, by-none}
 use Rattle.endian.specs.Place.{paste}
 use Rattle.endian.proofs.Paste.{paste-front}
 use Rattle.bounds.specs.declared.Point.{Point}
+use Rattle.grid.specs.declared.Extents.{Extents}
 use Rattle.grid.specs.declared.Volume.{Volume}
 use Rattle.grid.specs.Grid.{gridOf, zeroExtent}
 use Rattle.grid.specs.Key.{keyBits, tooManyBits}
 use Rattle.grid.proofs.Laws.{few-bits-are, many-bits-are}
 use Rattle.cover.specs.declared.Part.{Part}
 use Rattle.cover.specs.Cover.{coverKeys, coverChecks, coverAnswer, coverLeft}
-use Rattle.cover.specs.Search.{leftBits, partKeys, width, markedCells, Whole}
-use Rattle.cover.proofs.Cuts.{keys-count}
+use Rattle.cover.specs.Search.{leftBits, partKeys, width, Framed, Whole}
+use Rattle.cover.proofs.Cuts.{markedCells, keys-count}
 
 module _ (v : Volume) (lower upper : Point) (d : List ℕ) where
   pub cover-refused : {k : ℕ} → firstNumber (coverChecks v lower upper d) ≡ k → 0 < k → Refused k ≡ coverAnswer v lower upper d
@@ -72,10 +72,12 @@ module _ (v : Volume) (lower upper : Point) (d : List ℕ) {z : Bool} (ez : z �
           unfolding firstNumber coverChecks
           none = rw (tested, few, sym test ∙ k)
 
-          pub whole-reach : 2 ^ leftBits p ≤ 2 ^ 64
-          whole-reach =
-              let m : leftBits p ≤ 64 = omega (arith, w .bits) in
-              omega (arith, pow-mono m)
+          module _ {g : Extents} (eg : g ≡ gridOf v) where
+            pub whole-few : keyBits g ≤ 64
+            whole-few = rw eg (omega arith)
+
+            pub whole-framed : Framed g p
+            whole-framed = rw eg (w .framed)
 
           pub whole-room : length (partKeys p 0) ≤ length d
           whole-room =
@@ -92,4 +94,4 @@ module _ (v : Volume) (lower upper : Point) (d : List ℕ) {z : Bool} (ez : z �
           unfolding coverLeft
           left-yes q = q ∙ rw (w .keys) (paste-front (coverKeys v lower upper) d _ refl) ∙ sym (by-none (λ j. d) (coverChecks v lower upper d) _ none)
 
-pub ruleset entry = (tested, cover-2, cover-3, cover-13, cover-refused, whole-reach, whole-room, cover-yes, left-yes, needs)
+pub ruleset entry = (tested, cover-2, cover-3, cover-13, cover-refused, whole-few, whole-framed, whole-room, cover-yes, left-yes, needs)

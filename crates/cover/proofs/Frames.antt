@@ -17,9 +17,6 @@ use Rattle.cover.proofs.HighBit.{Halved, halve-x, halve-y, halve-z}
 abbrev pub cube : ℕ → ℕ → ℕ → Extents
 cube a b d = record { x = 2 ^ a; y = 2 ^ b; z = 2 ^ d }
 
-cellEq : {a b : Cell} → a .x ≡ b .x → a .y ≡ b .y → a .z ≡ b .z → a ≡ b
-cellEq p q r = λ t. record { x = p t; y = q t; z = r t }
-
 pub record Inside (g : Extents) (c : Cell) : Type 0 where
   pub x : c .x < g .x
   pub y : c .y < g .y
@@ -193,27 +190,3 @@ module _ (i : ℕ) (l : suc i ≤ 32) where
         moved = λ c. refl;
         same = λ c. keys-kept (cube i b d) _ c (put-kept (c .x) i) (λ t k. refl) (λ t k. refl);
       }
-
--- ---- a frame along x alone: a cell's coordinate is its key
-pub row-cell : (b k : ℕ) → b ≤ 32 → k < 2 ^ b → cellOf (cube b 0 0) k ≡ record { x = k; y = 0; z = 0 }
-row-cell zero k l h =
-    let i = inside-cube 0 0 0 k in
-    cellEq (omega (arith, i .x)) (omega (arith, i .y)) (omega (arith, i .z))
-row-cell (suc i) k l h = go (row-cell i) (decLt k (2 ^ i))
-  where
-    w : Cut (cube (suc i) 0 0) (cube i 0 0) (λ (c : Cell). c .x) (λ (c : Cell). record { x = c .x + 2 ^ i; y = c .y; z = c .z }) i
-    w = cut-x i l 0 0 (omega arith) (omega arith)
-
-    bits : keyBits (cube i 0 0) ≡ i
-    bits = cube-bits i 0 0 (omega arith) (omega arith) (omega arith) ∙ omega arith
-
-    go : ((k : ℕ) → i ≤ 32 → k < 2 ^ i → cellOf (cube i 0 0) k ≡ record { x = k; y = 0; z = 0 }) → Dec (k < 2 ^ i)
-        → cellOf (cube (suc i) 0 0) k ≡ record { x = k; y = 0; z = 0 }
-    go ih (yes a) = cut-low (cube (suc i) 0 0) (cube i 0 0) _ _ i w k (rw bits a) ∙ ih k (omega arith) a
-    go ih (no a) =
-        let m : k - 2 ^ i < 2 ^ i = omega (arith, pow-suc 2 i) in
-        let e : k ≡ 2 ^ keyBits (cube i 0 0) + (k - 2 ^ i) = rw bits (omega arith) in
-        ap (cellOf (cube (suc i) 0 0)) e
-        ∙ cut-high (cube (suc i) 0 0) (cube i 0 0) _ _ i w (k - 2 ^ i) (rw bits m)
-        ∙ ap (λ (c : Cell). record { x = c .x + 2 ^ i; y = c .y; z = c .z }) (ih (k - 2 ^ i) (omega arith) m)
-        ∙ cellEq (omega arith) refl refl

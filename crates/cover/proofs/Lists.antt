@@ -1,13 +1,11 @@
 -- The numbers of a range that pass a test.
 use Prim.Native.Nat.{ℕ, zero, suc, _+_, _-_, _≤_, _<_}
-use mathlib.Core.Path.{_≡_, refl, sym, ap, ap₂, _∙_}
-use mathlib.Core.Bool.{Bool, true, false, _&&_}
-use mathlib.Core.List.{List, [], _∷_, _++_, append-nil}
+use mathlib.Core.Path.{_≡_, refl, sym, ap, _∙_}
+use mathlib.Core.Bool.{Bool, true, false}
+use mathlib.Core.List.{List, [], _∷_, _++_}
 use native.Mathlib.Omega.{arith}
 use native.Mathlib.Nat.{zero-add, add-zero, sub-zero}
-use lib.Dec.{ltb, leb}
 use lib.ListN.{length, set}
-use borrow.Author.Tests.{lt-leb, le-leb, lt-ltb, le-ltb}
 use Rattle.endian.specs.Place.{paste}
 use Rattle.endian.proofs.Paste.{paste-nil, paste-cons}
 use Rattle.cover.specs.Cover.{keep, passing}
@@ -46,32 +44,9 @@ unfolding passing keep counting
 passing-all p k zero h = refl
 passing-all p k (suc n) h = rw (h k, passing-all p (suc k) n h)
 
--- a test that some numbers in a row pass, and no others of the range
-pub passing-row : (p : ℕ → Bool) (k n from to : ℕ) → from ≤ to → to ≤ n
-    → ((i : ℕ) → k ≤ i → i < k + n → p i ≡ leb from (i - k) && ltb (i - k) to) → passing p k n ≡ counting (k + from) (to - from)
-passing-row p k n from to l m h =
-    let e : n ≡ from + ((to - from) + (n - to)) = omega arith in
-    ap (passing p k) e
-    ∙ passing-split p k from ((to - from) + (n - to))
-    ∙ ap₂ _++_ before (passing-split p (k + from) (to - from) (n - to) ∙ ap₂ _++_ within after)
-    ∙ append-nil (counting (k + from) (to - from))
-  where
-    before : passing p k from ≡ []
-    before =
-        passing-same p (λ i. false) k from (λ i a b. h i a (omega arith) ∙ rw (lt-leb from (i - k) (omega arith)))
-        ∙ passing-none (λ i. false) k from (λ i. refl)
-
-    within : passing p (k + from) (to - from) ≡ counting (k + from) (to - from)
-    within =
-        passing-same p (λ i. true) (k + from) (to - from)
-        (λ i a b. h i (omega arith) (omega arith) ∙ rw (le-leb from (i - k) (omega arith)) (lt-ltb (i - k) to (omega arith)))
-        ∙ passing-all (λ i. true) (k + from) (to - from) (λ i. refl)
-
-    after : passing p (k + from + (to - from)) (n - to) ≡ []
-    after =
-        passing-same p (λ i. false) (k + from + (to - from)) (n - to)
-        (λ i a b. h i (omega arith) (omega arith) ∙ rw (le-leb from (i - k) (omega arith)) (le-ltb (i - k) to (omega arith)))
-        ∙ passing-none (λ i. false) (k + from + (to - from)) (n - to) (λ i. refl)
+-- no number of the range passes
+pub passing-nothing : (test : ℕ → Bool) (k n : ℕ) → ((i : ℕ) → k ≤ i → i < k + n → test i ≡ false) → passing test k n ≡ []
+passing-nothing test k n h = passing-same test (λ i. false) k n h ∙ passing-none (λ i. false) k n (λ i. refl)
 
 pub length-counting : (k n : ℕ) → length (counting k n) ≡ n
 unfolding counting

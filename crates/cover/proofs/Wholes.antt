@@ -24,16 +24,13 @@ use Rattle.grid.proofs.Lengths.{key-bits-sum}
 use Rattle.cover.specs.declared.Along.{Along}
 use Rattle.cover.specs.declared.Part.{Part}
 use Rattle.cover.specs.Cover.{shares, meets, covers, coverKeys}
-use Rattle.cover.specs.Search.{marked, Fitting, markedCell, frame, leftBits, partKeys, before, Spans, Whole}
+use Rattle.cover.specs.Search.{marked, Fitting, markedCell, frame, leftBits, partKeys, Framed, before, Spans, Whole}
+use Rattle.cover.proofs.Tests.{not-true-false}
 use Rattle.cover.proofs.Lists.{passing-same}
 use Rattle.cover.proofs.Cuts.{false-last}
 use Rattle.cover.proofs.Places.{above, ground, low-o, low-l, low-u, difference, cell-shares, met, meets-yes, test-same}
 
 -- ---- one axis
-not-true-false : (t : Bool) → (t ≡ true → ⊥) → t ≡ false
-not-true-false true f = absurd (f refl)
-not-true-false false f = refl
-
 module _ (offset : ℤ) (size chunk : ℕ) (lower upper : ℤ) (some : 0 < chunk) (c : ℕ) where
   abbrev n : ℕ
   n = ground offset lower upper
@@ -133,6 +130,15 @@ cells-same g h x y z k = cell-is g k ∙ go 32 0 k ∙ sym (cell-is h k)
     go zero i k = refl
     go (suc n) i k = rw (x i, y i, z i, go n (suc i))
 
+module _ (g : Extents) (p : Part) (f : Framed g p) where
+  pub frame-bits : leftBits p ≡ keyBits g
+  unfolding leftBits
+  frame-bits = key-bits-sum g (f .x) (f .y) (f .z)
+
+  pub frame-cell : (k : ℕ) → cellOf g k ≡ cellOf (frame p) k
+  unfolding frame
+  frame-cell k = cells-same _ _ (used-same _ _ (f .x)) (used-same _ _ (f .y)) (used-same _ _ (f .z)) k
+
 absorbed : (a b c p q r : Bool) → (p ≡ true → a ≡ true) → (q ≡ true → b ≡ true) → (r ≡ true → c ≡ true)
     → (a && (b && c)) && (p && (q && r)) ≡ p && (q && r)
 absorbed a b c true true true f g h = rw (f refl, g refl, h refl)
@@ -147,13 +153,15 @@ module _ (v : Volume) (lower upper : Point) (p : Part)
   fits : {o : ℤ} {s c : ℕ} {l u : ℤ} {a : Along} → Spans o s c l u a → Fitting a
   fits w = record { most = w .bits .most; within = le-trans (w .within) (w .bits .holds) }
 
+  framed : Framed (gridOf v) p
+  unfolding gridOf
+  framed = record { x = sx .bits; y = sy .bits; z = sz .bits }
+
   bits : leftBits p ≡ keyBits (gridOf v)
-  unfolding leftBits gridOf
-  bits = key-bits-sum _ (sx .bits) (sy .bits) (sz .bits)
+  bits = frame-bits (gridOf v) p framed
 
   cell : (k : ℕ) → cellOf (gridOf v) k ≡ cellOf (frame p) k
-  unfolding gridOf frame
-  cell k = cells-same _ _ (used-same _ _ (sx .bits)) (used-same _ _ (sy .bits)) (used-same _ _ (sz .bits)) k
+  cell = frame-cell (gridOf v) p framed
 
   marked-in : {o : ℤ} {s c : ℕ} {l u : ℤ} (a : Along) → Spans o s c l u a → (g : ℕ) → marked a g ≡ true → ltb g (gridSize s c) ≡ true
   unfolding marked
@@ -177,4 +185,4 @@ module _ (v : Volume) (lower upper : Point) (p : Part)
       (λ k l m. ap (λ (n : ℕ). markedCell p (cellOf (frame p) n)) (omega arith) ∙ sym (covers-is k (omega arith))))
 
   pub whole-is : Whole v lower upper p
-  whole-is = record { sized = record { x = fits sx; y = fits sy; z = fits sz }; bits = bits; keys = keys }
+  whole-is = record { sized = record { x = fits sx; y = fits sy; z = fits sz }; framed = framed; keys = keys }

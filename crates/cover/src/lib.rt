@@ -16,22 +16,11 @@ pub struct Along {
     pub to: u32,
 }
 
-// A part of the grid that some high key bits leave, its cells counted from 0.
+// The same along each axis of a grid.
 pub struct Part {
     pub x: Along,
     pub y: Along,
     pub z: Along,
-}
-
-// Half of a part, and whether no cell of it is marked.
-pub struct Half {
-    pub part: Part,
-    pub misses: bool,
-}
-
-pub struct Halves {
-    pub low: Half,
-    pub high: Half,
 }
 
 // The keys of all cells that share a voxel with the box from `lower` up to `upper`, rising, into `out`, and how many:
@@ -52,5 +41,5 @@ pub fn cover(volume: Volume, lower: Point, upper: Point, out: &mut [u64]) -> Wri
     if parts::exceeds(face, deep, out.len() as u64) {
         return Written::Refused(13);
     }
-    Written::Length(walk::search(whole, out))
+    Written::Length(walk::search(grid::inner::grid(volume), whole, out))
 }

@@ -222,6 +222,7 @@ pub fn run_covers() {
     let published = [101, 104, 127];
     let large = [2_000_000; 3];
     let far = [333_333, 55_555, 99_999];
+    let (even, flat) = ([5_000; 3], [5_000, 1, 5_000]);
     covering("16 x 16 x 16 of 21 bits", published, [3, 5, 9], [16; 3]);
     covering("64 x 64 x 64 of 21 bits", published, [3, 5, 9], [64; 3]);
     covering("16 x 16 x 16 of 63 bits", large, far, [16; 3]);
@@ -229,7 +230,10 @@ pub fn run_covers() {
     covering("64 x 64 x 1 of 21 bits", published, [3, 5, 9], [64, 64, 1]);
     covering("1 x 64 x 64 of 21 bits", published, [3, 5, 9], [1, 64, 64]);
     covering("4096 x 1 x 1 of 63 bits", large, far, [4096, 1, 1]);
+    covering("1 x 4096 x 1 of 63 bits", large, far, [1, 4096, 1]);
     covering("1 x 1 x 4096 of 63 bits", large, far, [1, 1, 4096]);
+    covering("1 x 2 x 2048 of 39 bits", even, [77, 8, 9], [1, 2, 2048]);
+    covering("1 x 1 x 4096 of 26 bits", flat, [8, 0, 9], [1, 1, 4096]);
     refusing("the whole of 63 bits", large);
 }
 

@@ -143,6 +143,38 @@ fn grids_of_all_bits() {
     assert!(bits.iter().filter(|count| **count > 0).count() > 60);
 }
 
+/// Boxes that are long along one axis and one or two cells wide along the
+/// others, in grids of all bits: most key bits have the box on one side.
+#[test]
+fn long_thin_boxes() {
+    let mut rng = Rng::new(7);
+    let mut long = [0; 3];
+    while long.iter().any(|boxes| *boxes < 100) {
+        let sample = places::volume(&mut rng);
+        let size = match grid::grid_size(&sample) {
+            Ok(size) if grid::key_bits(size) <= 64 => size,
+            _ => continue,
+        };
+        let along = rng.within(0, 2) as usize;
+        let lower: [i64; 3] = std::array::from_fn(|axis| {
+            let cell = rng.within(0, u64::from(size[axis]) / 2) as i64;
+            i64::from(sample.offset[axis]) + cell * i64::from(sample.chunk[axis])
+        });
+        let upper = std::array::from_fn(|axis| {
+            let cells = rng.within(1, if axis == along { 3_000 } else { 2 }) as i64;
+            lower[axis] + cells * i64::from(sample.chunk[axis])
+        });
+        let expected = grid::cover(&sample, lower, upper, usize::MAX).unwrap();
+        if expected.len() < 1_000 {
+            continue;
+        }
+        let (library, boxed) = (volume(&sample), within(lower, upper));
+        let found = library.cover(boxed, expected.len());
+        assert!(found == Ok(expected), "{sample:?} {boxed:?}");
+        long[along] += 1;
+    }
+}
+
 /// Boxes of more keys than are held at a time, in grids of 0 to 64 key bits.
 #[test]
 fn keys_some_at_a_time() {

@@ -10,4 +10,4 @@ cover-spec =
     (tie.spec (λ c κs. search entry) (λ c. (search entry, cover-kept _ _ _ _ 2 (omega arith) (search entry))) (λ c κs. search entry)
     (λ c. (search entry, cover-kept _ _ _ _ 3 (omega arith) (search entry))) (λ c κs. search entry) (λ c κs. search entry) (λ c κs. search entry)
     (λ c κs. search entry) (λ c. (search entry, cover-kept _ _ _ _ 13 (omega arith) (search entry)))
-    (λ c κs. (search entry, search entry, search entry)) (λ c. search entry) (λ c. (search entry, search entry)))
+    (λ c κs. search entry) (λ c κs. (search entry, search entry, search entry, search entry)) (λ c. search entry) (λ c. (search entry, search entry)))

@@ -5,4 +5,7 @@ use Rattle.cover.proofs.walk.search.Tie as tie
 
 pub search-spec : {M : Type 1} → statement M
 search-spec =
-    tie.close (tie.spec (λ c κs. search searching) (λ c. search searching) (λ c κs. search searching) (λ c. search searching) (λ c. search searching))
+    tie.close
+    (tie.spec (λ c κs. search searching) (λ c. search searching) (λ c κs. search searching) (λ c κs. search searching) (λ c κs. search searching)
+    (λ c κs. search searching) (λ c κs. search searching) (λ c κs. search searching) (λ c κs. search searching) (λ c κs. search searching)
+    (λ c. search searching) (λ c. search searching))
