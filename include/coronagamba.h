@@ -30,16 +30,21 @@
  *       CORONAGAMBA_HAS_POSITION(word))
  *     look_at(file + CORONAGAMBA_POSITION(word));
  *
- * What names a minishard: coronagamba_check with 7 to 11. What names a
- * position: coronagamba_check, coronagamba_lookup, coronagamba_listed_count,
- * coronagamba_listing, coronagamba_settled_length and coronagamba_settle with 7
- * to 11.
+ * What names a minishard: coronagamba_check with 7 to 11, 15 to 17 and 21. What
+ * names a position: coronagamba_check, coronagamba_lookup,
+ * coronagamba_fragment, coronagamba_listed_count, coronagamba_listing,
+ * coronagamba_settled_length and coronagamba_settle with 7 to 11, 15 to 17 and
+ * 21.
  *
  * A position is a byte of the shard, counted from its start. With 7 and 8 the
  * minishard's entry in the shard index begins there, 16 bytes: start and end.
- * With 9 and 10 it is the id step of the first entry that offends, with 11 the
- * start step of that entry, 8 bytes each; of an id that stands twice the later
- * entry offends. The bytes are always within the shard.
+ * With 9 and 10 it is the id step of the first entry that offends, with 11, 15
+ * to 17 and 21 the start step of that entry, 8 bytes each; of an id that stands
+ * twice the later entry offends. The bytes are always within the shard.
+ *
+ * Meshes. In a shard of the kind mesh each chunk is a manifest, and the bytes
+ * right before it are its fragments. 15 to 17 and 21 are tested of such shards
+ * alone; the calls on a manifest give 15 to 17 of any bytes, with no position.
  *
  * A comment below ends with the refusals that its function can give, in the
  * order in which they are tested.
@@ -79,9 +84,9 @@
  * number, the library that is linked or loaded belongs to another header:
  * structs and answers may differ. */
 #define CORONAGAMBA_VERSION_MAJOR 0
-#define CORONAGAMBA_VERSION_MINOR 3
+#define CORONAGAMBA_VERSION_MINOR 4
 #define CORONAGAMBA_VERSION_PATCH 0
-#define CORONAGAMBA_VERSION_STRING "0.3.0"
+#define CORONAGAMBA_VERSION_STRING "0.4.0"
 #define CORONAGAMBA_VERSION                      \
   ((uint64_t)CORONAGAMBA_VERSION_PATCH +         \
    ((uint64_t)CORONAGAMBA_VERSION_MINOR << 16) + \
@@ -103,7 +108,7 @@
 /* ---- refusals ------------------------------------------------------------ */
 
 /* preshift above 63, hash neither identity nor murmur, minishard bits above
- * 16, or shard bits above 32 */
+ * 16, shard bits above 32, or a kind that is neither volume nor mesh */
 #define CORONAGAMBA_REFUSED_SHARDING_NOT_ALLOWED 1
 
 /* a volume or chunk extent is 0, or a cell coordinate is not below its grid
@@ -152,17 +157,21 @@
 /* the card is malformed */
 #define CORONAGAMBA_REFUSED_CARD_MALFORMED 14
 
-/* the manifest's length or level count is wrong */
+/* the manifest's length or level count is wrong; in a mesh shard, that of a
+ * listed manifest */
 #define CORONAGAMBA_REFUSED_MANIFEST_LENGTH 15
 
-/* a manifest real is not finite, or a chunk shape is not above zero */
+/* a manifest real is not finite, or a chunk shape is not above zero; in a
+ * mesh shard, of a listed manifest */
 #define CORONAGAMBA_REFUSED_MANIFEST_REAL 16
 
-/* a level's nodes are not in strictly rising Z-curve order */
+/* a level's nodes are not in strictly rising Z-curve order; in a mesh shard,
+ * of a listed manifest */
 #define CORONAGAMBA_REFUSED_NODE_ORDER 17
 
 /* no such level, node or field; or, where corners are asked for, that node
- * has a position of 2^24 or more or either corner is not finite */
+ * has a position of 2^24 or more or either corner is not finite; or, where a
+ * fragment is asked for, the shard is of a volume */
 #define CORONAGAMBA_REFUSED_NO_SUCH_NODE 18
 
 /* not JSON, not UTF-8 or too deep, the outermost value being at depth 1 and
@@ -174,6 +183,11 @@
  * kind, another @type or a refused encoding */
 #define CORONAGAMBA_REFUSED_INFO_SETTINGS 20
 
+/* in a mesh shard, the fragments of a listed manifest would start before the
+ * index end: the sum of its sizes, taken exactly, exceeds its start relative
+ * to the index end */
+#define CORONAGAMBA_REFUSED_FRAGMENTS_BEFORE_DATA 21
+
 /* ---- other numbers ------------------------------------------------------- */
 
 /* a sharding's hash that leaves an id as it is */
@@ -181,6 +195,13 @@
 
 /* a sharding's hash MurmurHash3_x86_128, its first 8 bytes */
 #define CORONAGAMBA_HASH_MURMUR 1
+
+/* a sharding's kind whose chunks are any bytes */
+#define CORONAGAMBA_KIND_VOLUME 0
+
+/* a sharding's kind whose chunks are manifests, each with its fragments
+ * before it */
+#define CORONAGAMBA_KIND_MESH 1
 
 /* the kind of a manifest's field that is a whole number */
 #define CORONAGAMBA_FIELD_WHOLE 0
@@ -280,13 +301,15 @@ uint64_t coronagamba_bounds_of(coronagamba_volume volume, coronagamba_cell cell,
 
 /* ---- Ids and shards ------------------------------------------------------ */
 
-/* The numbers as they stand in a card: hash 0 is identity, 1 is murmur. Any
- * values; the entry points judge them. */
+/* The numbers as they stand in a card: hash 0 is identity, 1 is murmur; kind
+ * 1 is mesh, and 0 is volume, for which a card has no field. Any values; the
+ * entry points judge them. */
 typedef struct {
   uint8_t preshift;
   uint8_t hash;
   uint8_t minishard_bits;
   uint8_t shard_bits;
+  uint8_t kind;
 } coronagamba_sharding;
 
 /* The shard and the minishard of an id. Writes them to `shard` and
@@ -319,25 +342,41 @@ uint64_t coronagamba_chunk_name(coronagamba_volume volume,
 uint64_t coronagamba_shard_name(coronagamba_sharding sharding, uint64_t shard,
                                 uint8_t *out, size_t count, uint64_t *length);
 
-/* ---- Shards: lookup, the check, listings, settling ----------------------- */
+/* ---- Shards: lookup, fragments, the check, listings, settling ------------ */
 
-/* Where the chunk of an id lies in the shard's file. Writes where it begins,
- * counted from the file's first byte, to `start`, and its number of bytes to
- * `length`. Of the minishards it judges the id's own alone. Refusals: 1, 5,
- * 6, 7 to 11 of the id's minishard with the position, 12 */
+/* Where the chunk of an id lies in the shard's file; in a mesh the chunk is
+ * a manifest. Writes where it begins, counted from the file's first byte, to
+ * `start`, and its number of bytes to `length`. Of the minishards it judges
+ * the id's own alone. Refusals: 1, 5, 6, 7 to 11, 15 to 17 (mesh), 21 (mesh)
+ * of the id's minishard with the position, 12 */
 uint64_t coronagamba_lookup(coronagamba_sharding sharding, uint64_t shard,
                             const uint8_t *file, size_t count, uint64_t id,
                             uint64_t *start, uint64_t *length);
 
-/* Whether the whole shard is sound. Writes nothing. Where a minishard has a
- * fault, the answer word names the first such minishard and the position.
- * Refusals: 1, 5, 6, 7 to 11 with the minishard and the position */
+/* Where the fragment of a node lies in a mesh shard's file, by the id of its
+ * manifest, its level and its number, both counted from 0. A manifest's
+ * fragments are the bytes right before it, as many as its sizes make
+ * together, one after the other in the order of its nodes. Writes where the
+ * fragment begins, counted from the file's first byte, to `start`, and its
+ * number of bytes to `length`. Of the minishards it judges the id's own
+ * alone. Refusals: 1, 5, 6, 7 to 11, 15 to 17 (mesh), 21 (mesh) of the id's
+ * minishard with the position, 12, 18 also where the kind is volume */
+uint64_t coronagamba_fragment(coronagamba_sharding sharding, uint64_t shard,
+                              const uint8_t *file, size_t count, uint64_t id,
+                              uint32_t level, uint32_t node, uint64_t *start,
+                              uint64_t *length);
+
+/* Whether the whole shard is sound; in a mesh each chunk must be a sound
+ * manifest with its fragments before it. Writes nothing. Where a minishard
+ * has a fault, the answer word names the first such minishard and the
+ * position. Refusals: 1, 5, 6, 7 to 11, 15 to 17 (mesh), 21 (mesh) with the
+ * minishard and the position */
 uint64_t coronagamba_check(coronagamba_sharding sharding, uint64_t shard,
                            const uint8_t *file, size_t count);
 
 /* How many chunks a minishard lists. Writes the number to `chunks`.
- * Refusals: 1, 5 (also for a minishard that is not there), 6, 7 to 11 of
- * that minishard with the position */
+ * Refusals: 1, 5 (also for a minishard that is not there), 6, 7 to 11, 15 to
+ * 17 (mesh), 21 (mesh) of that minishard with the position */
 uint64_t coronagamba_listed_count(coronagamba_sharding sharding, uint64_t shard,
                                   const uint8_t *file, size_t count,
                                   uint64_t minishard, uint64_t *chunks);
@@ -346,25 +385,26 @@ uint64_t coronagamba_listed_count(coronagamba_sharding sharding, uint64_t shard,
  * for each to the front of `out`: id, start counted from the file's first
  * byte, length in bytes. Writes how many numbers these are, three times what
  * coronagamba_listed_count gives, to `length`. Refusals: 1, 5 (also for a
- * minishard that is not there), 6, 7 to 11 of that minishard with the
- * position, 13 where `out` has room for fewer */
+ * minishard that is not there), 6, 7 to 11, 15 to 17 (mesh), 21 (mesh) of
+ * that minishard with the position, 13 where `out` has room for fewer */
 uint64_t coronagamba_listing(coronagamba_sharding sharding, uint64_t shard,
                              const uint8_t *file, size_t count,
                              uint64_t minishard, uint64_t *out,
                              size_t out_count, uint64_t *length);
 
 /* How many bytes a shard's settled form has. Writes the number to `length`.
- * Refusals: 1, 5, 6, 7 to 11 of the first faulty minishard with the
- * position, 13 where the form would pass 1 GiB */
+ * Refusals: 1, 5, 6, 7 to 11, 15 to 17 (mesh), 21 (mesh) of the first faulty
+ * minishard with the position, 13 where the form would pass 1 GiB */
 uint64_t coronagamba_settled_length(coronagamba_sharding sharding,
                                     uint64_t shard, const uint8_t *file,
                                     size_t count, uint64_t *length);
 
-/* A shard's settled form. Writes it to the front of `out`, which needs the
- * room that coronagamba_settled_length tells, and its number of bytes to
- * `length`. Refusals: 1, 5, 6, 7 to 11 of the first faulty minishard with
- * the position, 13 where `out` is shorter than the form or the form would
- * pass 1 GiB */
+/* A shard's settled form; in a mesh each manifest has its fragments right
+ * before it there too. Writes it to the front of `out`, which needs the room
+ * that coronagamba_settled_length tells, and its number of bytes to
+ * `length`. Refusals: 1, 5, 6, 7 to 11, 15 to 17 (mesh), 21 (mesh) of the
+ * first faulty minishard with the position, 13 where `out` is shorter than
+ * the form or the form would pass 1 GiB */
 uint64_t coronagamba_settle(coronagamba_sharding sharding, uint64_t shard,
                             const uint8_t *file, size_t count, uint8_t *out,
                             size_t out_count, uint64_t *length);
@@ -372,17 +412,17 @@ uint64_t coronagamba_settle(coronagamba_sharding sharding, uint64_t shard,
 /* ---- Deposit cards ------------------------------------------------------- */
 
 /* What a deposit card of these bytes says. Writes preshift, hash, minishard
- * bits and shard bits to `sharding`, and volume size, chunk size and voxel
- * offset along x, y and z to `size`, `chunk` and `offset`. To use them in
- * other calls, copy the numbers into the structs one by one. Refusals: 14,
- * 1, 2, 3 */
+ * bits, shard bits and kind to `sharding`, and volume size, chunk size and
+ * voxel offset along x, y and z to `size`, `chunk` and `offset`. To use them
+ * in other calls, copy the numbers into the structs one by one. Refusals:
+ * 14, 1, 2, 3 */
 uint64_t coronagamba_card_read(const uint8_t *bytes, size_t count,
-                               uint8_t sharding[4], uint32_t size[3],
+                               uint8_t sharding[5], uint32_t size[3],
                                uint32_t chunk[3], int32_t offset[3]);
 
-/* A deposit card. Writes its bytes, 46 or 61, to the front of `out`, and
- * their number to `length`. Refusals: 1, 2, 3, 13 where `out` is shorter
- * than the card */
+/* A deposit card. Writes its bytes, 46 or 61, of a mesh 50 or 65, to the
+ * front of `out`, and their number to `length`. Refusals: 1, 2, 3, 13 where
+ * `out` is shorter than the card */
 uint64_t coronagamba_card_write(coronagamba_sharding sharding,
                                 coronagamba_volume volume, uint8_t *out,
                                 size_t count, uint64_t *length);
@@ -391,9 +431,10 @@ uint64_t coronagamba_card_write(coronagamba_sharding sharding,
 
 /* What the text of an info file says of its scale number `scale`, from 0:
  * the numbers that a deposit card of it says, written as
- * coronagamba_card_read writes them. Refusals: 19, 20, 1, 2, 3 */
+ * coronagamba_card_read writes them. The kind is 0, volume. Refusals: 19,
+ * 20, 1, 2, 3 */
 uint64_t coronagamba_info_read(const uint8_t *text, size_t count,
-                               uint64_t scale, uint8_t sharding[4],
+                               uint64_t scale, uint8_t sharding[5],
                                uint32_t size[3], uint32_t chunk[3],
                                int32_t offset[3]);
 

@@ -84,8 +84,10 @@ static void grid(void) {
 
 /* Identity, preshift 1, minishard bits 1: ids 2 and 3 go to minishard 1. */
 static void places(void) {
-  coronagamba_sharding sharding = {1, CORONAGAMBA_HASH_IDENTITY, 1, 0};
-  coronagamba_sharding five = {0, 0, 0, 5};
+  coronagamba_sharding sharding = {1, CORONAGAMBA_HASH_IDENTITY, 1, 0,
+                                   CORONAGAMBA_KIND_VOLUME};
+  coronagamba_sharding five = {0, 0, 0, 5, 0};
+  coronagamba_sharding other = {0, 0, 0, 0, 2};
   const uint64_t ids[3] = {2, 3, 4};
   uint64_t shard = 9, minishard = 9, length = 0;
   uint64_t shards[3], minishards[3];
@@ -93,6 +95,10 @@ static void places(void) {
   see(coronagamba_place_of(sharding, 3, &shard, &minishard) == 0 &&
           shard == 0 && minishard == 1,
       "place_of");
+  see(coronagamba_place_of(other, 3, &shard, &minishard) ==
+              CORONAGAMBA_REFUSED_SHARDING_NOT_ALLOWED &&
+          minishard == 1,
+      "place_of, neither volume nor mesh");
   see(coronagamba_places_of(sharding, ids, 3, shards, 3, minishards, 3,
                             &length) == 0 &&
           length == 3 && minishards[0] == 1 && minishards[2] == 0,
@@ -105,7 +111,7 @@ static void places(void) {
 /* Ids 4 and 10 with bytes `ab` and `cde`: settled length 85, id 10 is bytes 34
  * up to 37, id 6 gives 12. */
 static void shards(void) {
-  coronagamba_sharding sharding = {0, 0, 1, 0};
+  coronagamba_sharding sharding = {0, 0, 1, 0, CORONAGAMBA_KIND_VOLUME};
   const uint64_t numbers[4] = {5, 53, 0, 0};
   const uint64_t rows[6] = {4, 6, 0, 0, 2, 3};
   uint8_t file[85], out[90];
@@ -172,23 +178,76 @@ static void shards(void) {
       "lookup, an id that stands twice");
 }
 
+/* A mesh of one shard with one minishard, which lists a manifest under id 9.
+ * Its two nodes have fragments of 4 and 3 bytes, right before it: the second is
+ * bytes 20 up to 23. With a size of 8 in place of 4 they would start before the
+ * data: refusal 21, its position the entry's start step at byte 111. */
+static void meshes(void) {
+  coronagamba_sharding mesh = {0, 0, 0, 0, CORONAGAMBA_KIND_MESH};
+  coronagamba_sharding volume = {0, 0, 0, 0, CORONAGAMBA_KIND_VOLUME};
+  const uint32_t one = 0x3f800000;
+  const uint32_t items[20] = {one, one, one, 0, 0, 0, 1, 0, 0, 0,
+                              0,   2,   0,   1, 0, 0, 0, 0, 4, 3};
+  uint8_t file[16 + 7 + 80 + 24], out[16 + 7 + 80 + 24];
+  const size_t count = sizeof file;
+  uint64_t start = 0, length = 0, word;
+  size_t i;
+  put(file, 87, 8);
+  put(file + 8, 111, 8);
+  memcpy(file + 16, "nearfar", 7);
+  for (i = 0; i < 20; i++) put(file + 23 + 4 * i, items[i], 4);
+  put(file + 103, 9, 8);
+  put(file + 111, 7, 8);
+  put(file + 119, 80, 8);
+  see(coronagamba_check(mesh, 0, file, count) == 0, "check, a mesh");
+  see(coronagamba_fragment(mesh, 0, file, count, 9, 0, 1, &start, &length) ==
+              0 &&
+          start == 20 && length == 3 && memcmp(file + start, "far", 3) == 0,
+      "fragment");
+  see(coronagamba_fragment(mesh, 0, file, count, 9, 0, 2, &start, &length) ==
+              CORONAGAMBA_REFUSED_NO_SUCH_NODE &&
+          start == 20,
+      "fragment, no such node");
+  see(coronagamba_fragment(volume, 0, file, count, 9, 0, 1, &start, &length) ==
+          CORONAGAMBA_REFUSED_NO_SUCH_NODE,
+      "fragment, a volume");
+  see(coronagamba_settle(mesh, 0, file, count, out, count, &length) == 0 &&
+          length == count && memcmp(out, file, count) == 0,
+      "settle, a mesh");
+  see(coronagamba_settled_length(volume, 0, file, count, &length) == 0 &&
+          length == count - 7,
+      "settled_length, a volume keeps what is listed");
+  file[95] = 8;
+  word = coronagamba_check(mesh, 0, file, count);
+  see(CORONAGAMBA_NUMBER(word) == CORONAGAMBA_REFUSED_FRAGMENTS_BEFORE_DATA &&
+          CORONAGAMBA_MINISHARD(word) == 0 &&
+          CORONAGAMBA_POSITION(word) == 111,
+      "check, fragments before the data");
+}
+
 static void cards(void) {
-  coronagamba_sharding sharding = {0, 0, 1, 2};
+  coronagamba_sharding sharding = {0, 0, 1, 2, CORONAGAMBA_KIND_VOLUME};
+  coronagamba_sharding mesh = {0, 0, 1, 2, CORONAGAMBA_KIND_MESH};
   coronagamba_volume volume = {{100, 100, 100}, {64, 64, 64}, {0, 0, 0}};
-  uint8_t card[61], four[4];
+  uint8_t card[65], five[5];
   uint32_t size[3], chunk[3];
   int32_t offset[3] = {9, 9, 9};
   uint64_t length = 0;
-  see(coronagamba_card_write(sharding, volume, card, 61, &length) == 0 &&
+  see(coronagamba_card_write(sharding, volume, card, 65, &length) == 0 &&
           length == 46,
       "card_write");
-  see(coronagamba_card_read(card, 46, four, size, chunk, offset) == 0 &&
-          four[2] == 1 && four[3] == 2 && size[0] == 100 && chunk[2] == 64 &&
-          offset[1] == 0,
+  see(coronagamba_card_read(card, 46, five, size, chunk, offset) == 0 &&
+          five[2] == 1 && five[3] == 2 && five[4] == CORONAGAMBA_KIND_VOLUME &&
+          size[0] == 100 && chunk[2] == 64 && offset[1] == 0,
       "card_read");
-  see(coronagamba_card_read(card, 45, four, size, chunk, offset) ==
+  see(coronagamba_card_read(card, 45, five, size, chunk, offset) ==
           CORONAGAMBA_REFUSED_CARD_MALFORMED,
       "card_read, cut short");
+  see(coronagamba_card_write(mesh, volume, card, 65, &length) == 0 &&
+          length == 50 &&
+          coronagamba_card_read(card, 50, five, size, chunk, offset) == 0 &&
+          five[4] == CORONAGAMBA_KIND_MESH,
+      "card_write and card_read, a mesh");
 }
 
 static void infos(void) {
@@ -201,18 +260,19 @@ static void infos(void) {
       " \"minishard_bits\": 6, \"shard_bits\": 15}}]}";
   const uint8_t *bytes = (const uint8_t *)text;
   size_t count = sizeof text - 1;
-  uint8_t four[4];
+  uint8_t five[5];
   uint32_t size[3], chunk[3];
   int32_t offset[3];
-  see(coronagamba_info_read(bytes, count, 0, four, size, chunk, offset) == 0 &&
-          four[0] == 9 && four[1] == CORONAGAMBA_HASH_MURMUR && four[2] == 6 &&
-          four[3] == 15 && size[0] == 100 && chunk[0] == 64 &&
-          offset[0] == -64 && offset[2] == 0,
+  see(coronagamba_info_read(bytes, count, 0, five, size, chunk, offset) == 0 &&
+          five[0] == 9 && five[1] == CORONAGAMBA_HASH_MURMUR && five[2] == 6 &&
+          five[3] == 15 && five[4] == CORONAGAMBA_KIND_VOLUME &&
+          size[0] == 100 && chunk[0] == 64 && offset[0] == -64 &&
+          offset[2] == 0,
       "info_read");
-  see(coronagamba_info_read(bytes, count, 1, four, size, chunk, offset) ==
+  see(coronagamba_info_read(bytes, count, 1, five, size, chunk, offset) ==
           CORONAGAMBA_REFUSED_INFO_SETTINGS,
       "info_read, no such scale");
-  see(coronagamba_info_read(bytes, count - 1, 0, four, size, chunk, offset) ==
+  see(coronagamba_info_read(bytes, count - 1, 0, five, size, chunk, offset) ==
           CORONAGAMBA_REFUSED_INFO_NOT_JSON,
       "info_read, cut short");
 }
@@ -270,6 +330,7 @@ int main(void) {
   grid();
   places();
   shards();
+  meshes();
   cards();
   infos();
   manifests();

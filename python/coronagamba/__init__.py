@@ -15,11 +15,13 @@ from .grid import Bounds, Cell, Extents, Offset, Point, Volume
 from .manifest import Corners, Header, Manifest, Node, Visit
 from .refusal import Absent, Refused
 from .shard import Listed, Shard, Span
-from .sharding import IDENTITY, MURMUR, Place, Sharding
+from .sharding import IDENTITY, MESH, MURMUR, VOLUME, Place, Sharding
 
 __all__ = [
     "IDENTITY",
+    "MESH",
     "MURMUR",
+    "VOLUME",
     "Absent",
     "Bounds",
     "Card",

@@ -9,14 +9,21 @@ import ctypes
 from ctypes import POINTER
 from typing import Any, Dict, Tuple
 
-VERSION = (0, 3, 0)
-__version__ = "0.3.0"
+VERSION = (0, 4, 0)
+__version__ = "0.4.0"
 
 # a sharding's hash that leaves an id as it is
 HASH_IDENTITY = 0
 
 # a sharding's hash MurmurHash3_x86_128, its first 8 bytes
 HASH_MURMUR = 1
+
+# a sharding's kind whose chunks are any bytes
+KIND_VOLUME = 0
+
+# a sharding's kind whose chunks are manifests, each with its fragments before
+# it
+KIND_MESH = 1
 
 # the kind of a manifest's field that is a whole number
 FIELD_WHOLE = 0
@@ -26,14 +33,16 @@ FIELD_REAL = 1
 
 
 class Sharding(ctypes.Structure):
-    """The numbers as they stand in a card: hash 0 is identity, 1 is murmur.
-    Any values; the entry points judge them."""
+    """The numbers as they stand in a card: hash 0 is identity, 1 is murmur;
+    kind 1 is mesh, and 0 is volume, for which a card has no field. Any
+    values; the entry points judge them."""
 
     _fields_ = [
         ("preshift", ctypes.c_uint8),
         ("hash", ctypes.c_uint8),
         ("minishard_bits", ctypes.c_uint8),
         ("shard_bits", ctypes.c_uint8),
+        ("kind", ctypes.c_uint8),
     ]
 
 
@@ -242,10 +251,12 @@ FUNCTIONS: Dict[str, Tuple[Any, Tuple[Any, ...]]] = {
             POINTER(ctypes.c_uint64),
         ),
     ),
-    # Where the chunk of an id lies in the shard's file. Writes where it
-    # begins, counted from the file's first byte, to `start`, and its number of
-    # bytes to `length`. Of the minishards it judges the id's own alone.
-    # Refusals: 1, 5, 6, 7 to 11 of the id's minishard with the position, 12
+    # Where the chunk of an id lies in the shard's file; in a mesh the chunk is
+    # a manifest. Writes where it begins, counted from the file's first byte,
+    # to `start`, and its number of bytes to `length`. Of the minishards it
+    # judges the id's own alone.
+    # Refusals: 1, 5, 6, 7 to 11, 15 to 17 (mesh), 21 (mesh) of the id's
+    # minishard with the position, 12
     "coronagamba_lookup": (
         ctypes.c_uint64,
         (
@@ -258,9 +269,35 @@ FUNCTIONS: Dict[str, Tuple[Any, Tuple[Any, ...]]] = {
             POINTER(ctypes.c_uint64),
         ),
     ),
-    # Whether the whole shard is sound. Writes nothing. Where a minishard has a
-    # fault, the answer word names the first such minishard and the position.
-    # Refusals: 1, 5, 6, 7 to 11 with the minishard and the position
+    # Where the fragment of a node lies in a mesh shard's file, by the id of
+    # its manifest, its level and its number, both counted from 0. A manifest's
+    # fragments are the bytes right before it, as many as its sizes make
+    # together, one after the other in the order of its nodes. Writes where the
+    # fragment begins, counted from the file's first byte, to `start`, and its
+    # number of bytes to `length`. Of the minishards it judges the id's own
+    # alone.
+    # Refusals: 1, 5, 6, 7 to 11, 15 to 17 (mesh), 21 (mesh) of the id's
+    # minishard with the position, 12, 18 also where the kind is volume
+    "coronagamba_fragment": (
+        ctypes.c_uint64,
+        (
+            Sharding,
+            ctypes.c_uint64,
+            POINTER(ctypes.c_uint8),
+            ctypes.c_size_t,
+            ctypes.c_uint64,
+            ctypes.c_uint32,
+            ctypes.c_uint32,
+            POINTER(ctypes.c_uint64),
+            POINTER(ctypes.c_uint64),
+        ),
+    ),
+    # Whether the whole shard is sound; in a mesh each chunk must be a sound
+    # manifest with its fragments before it. Writes nothing. Where a minishard
+    # has a fault, the answer word names the first such minishard and the
+    # position.
+    # Refusals: 1, 5, 6, 7 to 11, 15 to 17 (mesh), 21 (mesh) with the minishard
+    # and the position
     "coronagamba_check": (
         ctypes.c_uint64,
         (
@@ -271,8 +308,8 @@ FUNCTIONS: Dict[str, Tuple[Any, Tuple[Any, ...]]] = {
         ),
     ),
     # How many chunks a minishard lists. Writes the number to `chunks`.
-    # Refusals: 1, 5 (also for a minishard that is not there), 6, 7 to 11 of
-    # that minishard with the position
+    # Refusals: 1, 5 (also for a minishard that is not there), 6, 7 to 11, 15
+    # to 17 (mesh), 21 (mesh) of that minishard with the position
     "coronagamba_listed_count": (
         ctypes.c_uint64,
         (
@@ -288,8 +325,9 @@ FUNCTIONS: Dict[str, Tuple[Any, Tuple[Any, ...]]] = {
     # for each to the front of `out`: id, start counted from the file's first
     # byte, length in bytes. Writes how many numbers these are, three times
     # what coronagamba_listed_count gives, to `length`.
-    # Refusals: 1, 5 (also for a minishard that is not there), 6, 7 to 11 of
-    # that minishard with the position, 13 where `out` has room for fewer
+    # Refusals: 1, 5 (also for a minishard that is not there), 6, 7 to 11, 15
+    # to 17 (mesh), 21 (mesh) of that minishard with the position, 13 where
+    # `out` has room for fewer
     "coronagamba_listing": (
         ctypes.c_uint64,
         (
@@ -304,8 +342,8 @@ FUNCTIONS: Dict[str, Tuple[Any, Tuple[Any, ...]]] = {
         ),
     ),
     # How many bytes a shard's settled form has. Writes the number to `length`.
-    # Refusals: 1, 5, 6, 7 to 11 of the first faulty minishard with the
-    # position, 13 where the form would pass 1 GiB
+    # Refusals: 1, 5, 6, 7 to 11, 15 to 17 (mesh), 21 (mesh) of the first
+    # faulty minishard with the position, 13 where the form would pass 1 GiB
     "coronagamba_settled_length": (
         ctypes.c_uint64,
         (
@@ -316,12 +354,13 @@ FUNCTIONS: Dict[str, Tuple[Any, Tuple[Any, ...]]] = {
             POINTER(ctypes.c_uint64),
         ),
     ),
-    # A shard's settled form. Writes it to the front of `out`, which needs the
+    # A shard's settled form; in a mesh each manifest has its fragments right
+    # before it there too. Writes it to the front of `out`, which needs the
     # room that coronagamba_settled_length tells, and its number of bytes to
     # `length`.
-    # Refusals: 1, 5, 6, 7 to 11 of the first faulty minishard with the
-    # position, 13 where `out` is shorter than the form or the form would pass
-    # 1 GiB
+    # Refusals: 1, 5, 6, 7 to 11, 15 to 17 (mesh), 21 (mesh) of the first
+    # faulty minishard with the position, 13 where `out` is shorter than the
+    # form or the form would pass 1 GiB
     "coronagamba_settle": (
         ctypes.c_uint64,
         (
@@ -335,23 +374,23 @@ FUNCTIONS: Dict[str, Tuple[Any, Tuple[Any, ...]]] = {
         ),
     ),
     # What a deposit card of these bytes says. Writes preshift, hash, minishard
-    # bits and shard bits to `sharding`, and volume size, chunk size and voxel
-    # offset along x, y and z to `size`, `chunk` and `offset`. To use them in
-    # other calls, copy the numbers into the structs one by one.
+    # bits, shard bits and kind to `sharding`, and volume size, chunk size and
+    # voxel offset along x, y and z to `size`, `chunk` and `offset`. To use
+    # them in other calls, copy the numbers into the structs one by one.
     # Refusals: 14, 1, 2, 3
     "coronagamba_card_read": (
         ctypes.c_uint64,
         (
             POINTER(ctypes.c_uint8),
             ctypes.c_size_t,
-            POINTER(ctypes.c_uint8 * 4),
+            POINTER(ctypes.c_uint8 * 5),
             POINTER(ctypes.c_uint32 * 3),
             POINTER(ctypes.c_uint32 * 3),
             POINTER(ctypes.c_int32 * 3),
         ),
     ),
-    # A deposit card. Writes its bytes, 46 or 61, to the front of `out`, and
-    # their number to `length`.
+    # A deposit card. Writes its bytes, 46 or 61, of a mesh 50 or 65, to the
+    # front of `out`, and their number to `length`.
     # Refusals: 1, 2, 3, 13 where `out` is shorter than the card
     "coronagamba_card_write": (
         ctypes.c_uint64,
@@ -365,7 +404,7 @@ FUNCTIONS: Dict[str, Tuple[Any, Tuple[Any, ...]]] = {
     ),
     # What the text of an info file says of its scale number `scale`, from 0:
     # the numbers that a deposit card of it says, written as
-    # coronagamba_card_read writes them.
+    # coronagamba_card_read writes them. The kind is 0, volume.
     # Refusals: 19, 20, 1, 2, 3
     "coronagamba_info_read": (
         ctypes.c_uint64,
@@ -373,7 +412,7 @@ FUNCTIONS: Dict[str, Tuple[Any, Tuple[Any, ...]]] = {
             POINTER(ctypes.c_uint8),
             ctypes.c_size_t,
             ctypes.c_uint64,
-            POINTER(ctypes.c_uint8 * 4),
+            POINTER(ctypes.c_uint8 * 5),
             POINTER(ctypes.c_uint32 * 3),
             POINTER(ctypes.c_uint32 * 3),
             POINTER(ctypes.c_int32 * 3),

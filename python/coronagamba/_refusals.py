@@ -12,7 +12,7 @@ class Numbers:
     """The numbers by name."""
 
     # preshift above 63, hash neither identity nor murmur, minishard bits above
-    # 16, or shard bits above 32
+    # 16, shard bits above 32, or a kind that is neither volume nor mesh
     SHARDING_NOT_ALLOWED = 1
 
     # a volume or chunk extent is 0, or a cell coordinate is not below its grid
@@ -61,17 +61,21 @@ class Numbers:
     # the card is malformed
     CARD_MALFORMED = 14
 
-    # the manifest's length or level count is wrong
+    # the manifest's length or level count is wrong; in a mesh shard, that of a
+    # listed manifest
     MANIFEST_LENGTH = 15
 
-    # a manifest real is not finite, or a chunk shape is not above zero
+    # a manifest real is not finite, or a chunk shape is not above zero; in a
+    # mesh shard, of a listed manifest
     MANIFEST_REAL = 16
 
-    # a level's nodes are not in strictly rising Z-curve order
+    # a level's nodes are not in strictly rising Z-curve order; in a mesh
+    # shard, of a listed manifest
     NODE_ORDER = 17
 
     # no such level, node or field; or, where corners are asked for, that node
-    # has a position of 2^24 or more or either corner is not finite
+    # has a position of 2^24 or more or either corner is not finite; or, where
+    # a fragment is asked for, the shard is of a volume
     NO_SUCH_NODE = 18
 
     # not JSON, not UTF-8 or too deep, the outermost value being at depth 1 and
@@ -82,6 +86,11 @@ class Numbers:
     # no scale k, a needed member missing, a used one doubled or of the wrong
     # kind, another @type or a refused encoding
     INFO_SETTINGS = 20
+
+    # in a mesh shard, the fragments of a listed manifest would start before
+    # the index end: the sum of its sizes, taken exactly, exceeds its start
+    # relative to the index end
+    FRAGMENTS_BEFORE_DATA = 21
 
 
 # Each number with its sentence, rising.
@@ -112,4 +121,8 @@ SENTENCES: Dict[int, str] = {
     18: "There is no such level, node or field, or the node has no corners.",
     19: "The info file is not JSON in UTF-8, or values in it lie too deep.",
     20: "The info file does not give the settings of this scale.",
+    21: (
+        "The fragments of a manifest would start before the end of the shard "
+        "index."
+    ),
 }

@@ -13,21 +13,21 @@ from .grid import Volume
 from .refusal import answer
 from .sharding import Sharding
 
-_FourU8 = c_uint8 * 4
+_FiveU8 = c_uint8 * 5
 _ThreeU32 = c_uint32 * 3
 _ThreeI32 = c_int32 * 3
 
-# The longer of the two lengths that a card can have.
-_Bytes = c_uint8 * 61
+# The longest that a card can be.
+_Bytes = c_uint8 * 65
 
 
 @dataclass(frozen=True)
 class Card:
     """What a deposit card says.
 
-    >>> from coronagamba import IDENTITY, Card, Sharding, Volume
+    >>> from coronagamba import IDENTITY, VOLUME, Card, Sharding, Volume
     >>> card = Card(
-    ...     Sharding(0, IDENTITY, 1, 2),
+    ...     Sharding(0, IDENTITY, 1, 2, VOLUME),
     ...     Volume(size=(100, 100, 100), chunk=(64, 64, 64)),
     ... )
     >>> len(card.to_bytes())
@@ -54,7 +54,7 @@ class Card:
     @classmethod
     def read_info(cls, text: ReadableBuffer, scale: int) -> Card:
         """What the text of an info file says of its scale number `scale`,
-        from 0, as a card. Refusals 19, 20, 1, 2, 3.
+        from 0, as a card of a volume. Refusals 19, 20, 1, 2, 3.
 
         >>> from coronagamba import Card, Refused
         >>> text = b'''{"type": "image", "scales": [{
@@ -80,14 +80,15 @@ class Card:
     def _said(cls, function: Any, *question: Any) -> Card:
         """What a function writes of this question, behind which its results
         stand."""
-        sharding, offset = _FourU8(), _ThreeI32()
+        sharding, offset = _FiveU8(), _ThreeI32()
         size, chunk = _ThreeU32(), _ThreeU32()
         results = map(byref, (sharding, size, chunk, offset))
         answer(function(*question, *results))
         return cls(Sharding(*sharding), Volume(size, chunk, offset))
 
     def to_bytes(self) -> bytes:
-        """The card, of 46 or 61 bytes. Refusals 1, 2, 3."""
+        """The card, of 46 or 61 bytes, of a mesh 50 or 65. Refusals 1, 2,
+        3."""
         out, length = _Bytes(), c_uint64()
         answer(
             library.coronagamba_card_write(

@@ -8,18 +8,19 @@ from ._refusals import SENTENCES, Numbers
 
 class Refused(Numbers, Exception):
     """A call was refused: a number from the archive's table, as in
-    `Refused.NOT_LISTED`; with 7 to 11 the position, which is the byte to look
-    at, counted from the start of the shard; and, from the whole-shard check,
-    the minishard with the fault.
+    `Refused.NOT_LISTED`; of a shard, with 7 to 11, 15 to 17 and 21, the
+    position, which is the byte to look at, counted from the start of the
+    shard; and, from the whole-shard check, the minishard with the fault.
 
     With 7 and 8 the minishard's entry in the shard index begins at the
     position, 16 bytes; with 9 and 10 the id step of the first entry that
-    offends, with 11 its start step, 8 bytes each. Of an id that stands twice
-    it is the later entry.
+    offends, with 11, 15 to 17 and 21 its start step, 8 bytes each. Of an id
+    that stands twice it is the later entry. A manifest by itself is refused
+    with 15 to 17 and no position.
 
-    >>> from coronagamba import IDENTITY, Refused, Sharding
+    >>> from coronagamba import IDENTITY, VOLUME, Refused, Sharding
     >>> try:
-    ...     Sharding(64, IDENTITY, 0, 0).place(7)
+    ...     Sharding(64, IDENTITY, 0, 0, VOLUME).place(7)
     ... except Refused as refusal:
     ...     print(refusal.number, refusal.sentence)
     1 The sharding specification has a field that is not allowed.
@@ -54,8 +55,8 @@ class Refused(Numbers, Exception):
 class Absent(Refused, KeyError):
     """Refusal 12: the id's minishard is sound and does not list the id.
 
-    >>> from coronagamba import IDENTITY, Absent, Shard, Sharding
-    >>> shard = Shard(Sharding(0, IDENTITY, 0, 0), 0, bytes(16))
+    >>> from coronagamba import IDENTITY, VOLUME, Absent, Shard, Sharding
+    >>> shard = Shard(Sharding(0, IDENTITY, 0, 0, VOLUME), 0, bytes(16))
     >>> try:
     ...     shard.chunk(7)
     ... except Absent as absent:

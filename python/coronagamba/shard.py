@@ -1,4 +1,5 @@
-"""Shard files: lookup, the whole-shard check, listings and settling."""
+"""Shard files: lookup, fragments, the whole-shard check, listings and
+settling."""
 
 from __future__ import annotations
 
@@ -7,13 +8,14 @@ from typing import Any, List, NamedTuple, Tuple
 
 from ._buffers import Held, Lent, ReadableBuffer, WriteableBuffer, own, zeros
 from ._library import library
-from ._numbers import u64
+from ._numbers import item, u64
 from .refusal import answer
 from .sharding import Sharding
 
 
 class Span(NamedTuple):
-    """The place of a chunk, counted from the start of the file."""
+    """The place of a chunk or a fragment, counted from the start of the
+    file."""
 
     start: int
     length: int
@@ -32,10 +34,10 @@ class Shard(Held):
     The bytes stay the caller's: they are not copied, and must not change
     while a call runs. Opening judges nothing.
 
-    >>> from coronagamba import IDENTITY, Shard, Sharding
+    >>> from coronagamba import IDENTITY, VOLUME, Shard, Sharding
     >>> index = b"".join(n.to_bytes(8, "little") for n in (2, 26, 7, 0, 2))
     >>> file = index[:16] + b"ab" + index[16:]
-    >>> shard = Shard(Sharding(0, IDENTITY, 0, 0), 0, file)
+    >>> shard = Shard(Sharding(0, IDENTITY, 0, 0, VOLUME), 0, file)
     >>> shard.check()
     >>> shard.lookup(7)
     Span(start=16, length=2)
@@ -75,8 +77,9 @@ class Shard(Held):
         return self._sharding._struct(), self._number, lent.bytes, lent.count
 
     def lookup(self, id: int) -> Span:
-        """The place of an id's chunk. Refusals 1, 5, 6, 7 to 11 of the id's
-        minishard with a position, and 12, which is `Absent`."""
+        """The place of an id's chunk; in a mesh it is a manifest. Refusals 1,
+        5, 6, 7 to 11 and, in a mesh, 15 to 17 and 21 of the id's minishard
+        with a position, and 12, which is `Absent`."""
         start, length = c_uint64(), c_uint64()
         with self._lent() as lent:
             answer(
@@ -95,16 +98,45 @@ class Shard(Held):
         start, length = self.lookup(id)
         return self._view[start:start + length]
 
+    def lookup_fragment(self, id: int, level: int, node: int) -> Span:
+        """The place of the fragment of a node in a mesh shard, by the id of
+        its manifest, its level and its number, both counted from 0. Refused
+        as `lookup` is, then with 18 where there is no such node, or where the
+        kind is a volume.
+
+        A manifest's fragments are the bytes right before it, one after the
+        other in the order of its nodes; no index lists them."""
+        start, length = c_uint64(), c_uint64()
+        with self._lent() as lent:
+            answer(
+                library.coronagamba_fragment(
+                    *self._arguments(lent),
+                    u64("id", id),
+                    item("level", level),
+                    item("node", node),
+                    byref(start),
+                    byref(length),
+                )
+            )
+        return Span(start.value, length.value)
+
+    def fragment(self, id: int, level: int, node: int) -> memoryview:
+        """The fragment of a node, as a read-only part of the caller's bytes,
+        refused as `lookup_fragment` is."""
+        start, length = self.lookup_fragment(id, level, node)
+        return self._view[start:start + length]
+
     def check(self) -> None:
-        """Passes exactly the sound shards. Refusals 1, 5, 6, and 7 to 11 with
-        the first minishard that has a fault, and a position."""
+        """Passes exactly the sound shards. Refusals 1, 5, 6, and 7 to 11 and,
+        in a mesh, 15 to 17 and 21 with the first minishard that has a fault,
+        and a position."""
         with self._lent() as lent:
             answer(library.coronagamba_check(*self._arguments(lent)))
 
     def listed_count(self, minishard: int) -> int:
         """How many chunks a minishard lists. Refusals 1, 5 (also for a
-        minishard that is not there), 6, 7 to 11 of that minishard with a
-        position."""
+        minishard that is not there), 6, 7 to 11 and, in a mesh, 15 to 17 and
+        21 of that minishard with a position."""
         chunks = c_uint64()
         with self._lent() as lent:
             answer(
@@ -137,8 +169,9 @@ class Shard(Held):
         ]
 
     def settled_length(self) -> int:
-        """The length of the settled form. Refusals 1, 5, 6, 7 to 11 with a
-        position, and 13 where it would pass 1 GiB."""
+        """The length of the settled form. Refusals 1, 5, 6, 7 to 11 and, in a
+        mesh, 15 to 17 and 21 with a position, and 13 where it would pass
+        1 GiB."""
         length = c_uint64()
         with self._lent() as lent:
             answer(
@@ -156,9 +189,8 @@ class Shard(Held):
 
     def settle(self, out: WriteableBuffer) -> int:
         """Writes the settled form to the front of `out` and gives its length.
-        Refusals 1, 5, 6, 7 to 11 with a position, and 13 where `out` is too
-        short or the form would pass 1 GiB. `out` and the shard's bytes must
-        have no memory in common."""
+        Refused as `settled_length` is, and with 13 where `out` is too short.
+        `out` and the shard's bytes must have no memory in common."""
         length = c_uint64()
         with self._lent() as lent, Lent("out", out, True) as room:
             if room.overlaps(lent):

@@ -3,7 +3,7 @@
 from __future__ import annotations
 
 from ctypes import byref, c_uint8, c_uint64
-from dataclasses import dataclass
+from dataclasses import dataclass, fields
 from typing import Iterable, NamedTuple, Tuple, Union
 
 from . import _declared
@@ -15,6 +15,11 @@ from .refusal import answer
 # The hash that gives back the id, and MurmurHash3_x86_128.
 IDENTITY = _declared.HASH_IDENTITY
 MURMUR = _declared.HASH_MURMUR
+
+# The kind whose chunks are any bytes, and the one whose chunks are manifests,
+# each with its fragments right before it.
+VOLUME = _declared.KIND_VOLUME
+MESH = _declared.KIND_MESH
 
 # 8 digits and `.shard`.
 _Name = c_uint8 * (8 + 6)
@@ -30,11 +35,13 @@ class Place(NamedTuple):
 @dataclass(frozen=True)
 class Sharding:
     """A sharding specification, its fields as in a deposit card. None has a
-    default: a specification comes from the deposit.
+    default: a specification comes from the deposit, and a mesh that is settled
+    as a volume loses its fragments.
 
-    >>> from coronagamba import IDENTITY, Sharding
+    >>> from coronagamba import IDENTITY, VOLUME, Sharding
     >>> sharding = Sharding(
-    ...     preshift=1, hash=IDENTITY, minishard_bits=1, shard_bits=4
+    ...     preshift=1, hash=IDENTITY, minishard_bits=1, shard_bits=4,
+    ...     kind=VOLUME,
     ... )
     >>> sharding.place(42)
     Place(shard=10, minishard=1)
@@ -46,14 +53,20 @@ class Sharding:
     hash: int
     minishard_bits: int
     shard_bits: int
+    kind: int
 
     def __post_init__(self) -> None:
-        for name in ("preshift", "hash", "minishard_bits", "shard_bits"):
-            object.__setattr__(self, name, u8(name, getattr(self, name)))
+        for field in fields(self):
+            value = u8(field.name, getattr(self, field.name))
+            object.__setattr__(self, field.name, value)
 
     def _struct(self) -> _declared.Sharding:
         return _declared.Sharding(
-            self.preshift, self.hash, self.minishard_bits, self.shard_bits
+            self.preshift,
+            self.hash,
+            self.minishard_bits,
+            self.shard_bits,
+            self.kind,
         )
 
     def place(self, id: int) -> Place:

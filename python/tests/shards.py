@@ -41,8 +41,10 @@ def rows(ids, starts, sizes):
     return u64s(*steps(ids), *gaps, *sizes)
 
 
-def settled(sharding, content):
-    """The settled form of this content."""
+def settled(sharding, content, leads=None):
+    """The settled form of this content, with what stands right before each
+    chunk: fragments in a mesh, nothing in a volume."""
+    leads = leads or {}
     index, data = b"", b""
     for ids in by_minishard(sharding, content):
         if not ids:
@@ -50,6 +52,7 @@ def settled(sharding, content):
             continue
         starts = []
         for id in ids:
+            data += leads.get(id, b"")
             starts.append(len(data))
             data += content[id]
         table = rows(ids, starts, [len(content[id]) for id in ids])
@@ -58,13 +61,14 @@ def settled(sharding, content):
     return index + data
 
 
-def scattered(sharding, content, rng, groups=None):
+def scattered(sharding, content, rng, groups=None, leads=None):
     """A sound shard of this content with its minishards in any order, bytes
     that nothing lists, and minishard indexes before or after their chunks.
     Entries of empty minishards point anywhere. Each minishard lists its group
     of ids in the group's order, by rising id where none are given; chunks lie
-    by rising id."""
+    by rising id, each right behind its lead."""
     groups = groups or by_minishard(sharding, content)
+    leads = leads or {}
     entries, data = [None] * len(groups), b""
     for number in rng.sample(range(len(groups)), len(groups)):
         ids = groups[number]
@@ -77,7 +81,7 @@ def scattered(sharding, content, rng, groups=None):
         data += bytes(length) if before else b""
         place = {}
         for id in sorted(ids):
-            data += rng.randbytes(rng.randrange(4))
+            data += rng.randbytes(rng.randrange(4)) + leads.get(id, b"")
             place[id] = len(data)
             data += content[id]
         starts = [place[id] for id in ids]

@@ -23,7 +23,7 @@ except ImportError:
 
 # The names of what is held, in complaints.
 HELD = "^(file|bytes) must be"
-SHARDING = Sharding(0, 0, 1, 0)
+SHARDING = Sharding(0, 0, 1, 0, 0)
 CONTENT = {4: b"ab", 10: b"cde", 7: b"f" * 8}
 FILE = shards.settled(SHARDING, CONTENT)
 MANIFEST = manifest((8, 8, 8), (0, 0, 0), [(1, (0, 0, 0), [(0, 0, 0, 1)])])
@@ -318,7 +318,7 @@ class Writing(unittest.TestCase):
             (Shard(SHARDING, 0, FILE), len(FILE) - 1, 13),
             (Shard(SHARDING, 0, damaged), len(FILE), 7),
             (Shard(SHARDING, 1, FILE), len(FILE), 5),
-            (Shard(Sharding(64, 0, 0, 0), 0, FILE), len(FILE), 1),
+            (Shard(Sharding(64, 0, 0, 0, 0), 0, FILE), len(FILE), 1),
         ):
             out = bytearray(b"\x55" * room)
             with self.assertRaises(Refused) as caught:

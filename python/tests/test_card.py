@@ -2,8 +2,10 @@
 
 import struct
 import unittest
+from dataclasses import replace
 
-from coronagamba import IDENTITY, MURMUR, Card, Refused, Sharding, Volume
+from coronagamba import IDENTITY, MESH, MURMUR, VOLUME, Card, Refused
+from coronagamba import Sharding, Volume
 
 
 def field(tag, body):
@@ -20,15 +22,21 @@ def fields(sharding, size, chunk):
 
 
 SHORT = Card(
-    Sharding(0, IDENTITY, 1, 2), Volume((100, 100, 100), (64, 64, 64))
+    Sharding(0, IDENTITY, 1, 2, VOLUME), Volume((100, 100, 100), (64, 64, 64))
 )
 SHORT_FIELDS = fields((0, 0, 1, 2), (100, 100, 100), (64, 64, 64))
 LONG = Card(
-    Sharding(9, MURMUR, 6, 15),
+    Sharding(9, MURMUR, 6, 15, VOLUME),
     Volume((100, 2, 2**21), (64, 1, 3), (-64, 0, 2**31 - 1)),
 )
 OFFSET = field(7, struct.pack("<3i", -64, 0, 2**31 - 1))
 LONG_FIELDS = fields((9, 1, 6, 15), (100, 2, 2**21), (64, 1, 3)) + [OFFSET]
+KIND = field(8, b"\1")
+
+
+def mesh(card):
+    """The same card, of a mesh."""
+    return replace(card, sharding=replace(card.sharding, kind=MESH))
 
 
 class Cards(unittest.TestCase):
@@ -41,6 +49,8 @@ class Cards(unittest.TestCase):
         for card, parts, length in (
             (SHORT, SHORT_FIELDS, 46),
             (LONG, LONG_FIELDS, 61),
+            (mesh(SHORT), SHORT_FIELDS + [KIND], 50),
+            (mesh(LONG), LONG_FIELDS + [KIND], 65),
         ):
             data = b"".join(parts)
             self.assertEqual(len(data), length)
@@ -50,6 +60,17 @@ class Cards(unittest.TestCase):
 
     def test_an_offset_of_zeros_is_refused(self):
         self.assert_malformed(SHORT_FIELDS + [field(7, bytes(12))])
+
+    def test_a_kind_that_is_no_mesh_or_in_another_place(self):
+        for number in (0, 2, 255):
+            self.assert_malformed(SHORT_FIELDS + [field(8, bytes([number]))])
+        for body in (b"", b"\1\0"):
+            self.assert_malformed(SHORT_FIELDS + [field(8, body)])
+        self.assert_malformed(SHORT_FIELDS + [KIND, KIND])
+        self.assert_malformed(SHORT_FIELDS + [KIND, OFFSET])
+        for i in range(7):
+            moved = LONG_FIELDS[:i] + [KIND] + LONG_FIELDS[i:]
+            self.assert_malformed(moved)
 
     def test_a_missing_doubled_or_displaced_field(self):
         for i in range(6):

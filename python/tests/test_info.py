@@ -4,7 +4,8 @@ import json
 import random
 import unittest
 
-from coronagamba import IDENTITY, MURMUR, Card, Refused, Sharding, Volume
+from coronagamba import IDENTITY, MURMUR, VOLUME, Card, Refused, Sharding
+from coronagamba import Volume
 
 from .infos import Refuse, settings
 
@@ -34,7 +35,7 @@ INFO = {
 }
 TEXT = json.dumps(INFO).encode()
 CARD = Card(
-    Sharding(9, MURMUR, 6, 15),
+    Sharding(9, MURMUR, 6, 15, VOLUME),
     Volume((6446, 6643, 8090), (64, 64, 64), (-64, 0, 7)),
 )
 
@@ -61,7 +62,7 @@ def expected(text, scale):
         sharding, size, chunk, offset = settings(text, scale)
     except Refuse as refuse:
         return refuse.args[0]
-    card = Card(Sharding(*sharding), Volume(size, chunk, offset))
+    card = Card(Sharding(*sharding, VOLUME), Volume(size, chunk, offset))
     try:
         card.to_bytes()
     except Refused as refused:
@@ -105,7 +106,8 @@ class InfoFiles(unittest.TestCase):
         del scale["voxel_offset"]
         text = json.dumps({"scales": [scale]}).encode()
         card = Card.read_info(text, 0)
-        self.assertEqual(card.sharding, Sharding(9, IDENTITY, 6, 15))
+        expected = Sharding(9, IDENTITY, 6, 15, VOLUME)
+        self.assertEqual(card.sharding, expected)
         self.assertEqual(card.volume.offset, (0, 0, 0))
 
     def test_other_scales_are_not_taken(self):

@@ -12,8 +12,8 @@ from .manifests import manifest
 from .shards import u64s
 
 KEPT = 0x55
-ALLOWED = _declared.Sharding(0, 0, 1, 0)
-FORBIDDEN = _declared.Sharding(64, 0, 0, 0)
+ALLOWED = _declared.Sharding(0, 0, 1, 0, 0)
+FORBIDDEN = _declared.Sharding(64, 0, 0, 0, 0)
 UNIT = _declared.Volume((1, 1, 1), (1, 1, 1), (0, 0, 0))
 ROW = _declared.Volume((3, 1, 1), (1, 1, 1), (0, 0, 0))
 NO_VOLUME = _declared.Volume()
@@ -23,6 +23,9 @@ CELL = _declared.Cell(0, 0, 0)
 # The first minishard is empty, the second one's entry is reversed.
 FILE = (c_uint8 * 32).from_buffer_copy(u64s(0, 0, 1, 0))
 SHARD = (ALLOWED, 0, FILE, 32)
+# A shard of a volume that lists id 0.
+LISTING = (c_uint8 * 56).from_buffer_copy(u64s(0, 24, 0, 0, 0, 0, 0))
+LISTED = (ALLOWED, 0, LISTING, 56)
 NO_SCALES = (c_uint8 * 2).from_buffer_copy(b"{}")
 MANIFEST = (c_uint8 * 28).from_buffer_copy(manifest((1, 1, 1), (0, 0, 0), []))
 CELLS = (c_uint32 * 6)()
@@ -72,6 +75,9 @@ CALLS = [
     (13, "shard_name", (ALLOWED, 0), [(c_uint8 * 6, 6), U64]),
     (SECOND, "lookup", SHARD + (1,), [U64, U64]),
     (12, "lookup", SHARD + (2,), [U64, U64]),
+    (SECOND, "fragment", SHARD + (1, 0, 0), [U64, U64]),
+    (12, "fragment", SHARD + (2, 0, 0), [U64, U64]),
+    (18, "fragment", LISTED + (0, 0, 0), [U64, U64]),
     (SECOND, "listed_count", SHARD + (1,), [U64]),
     (SECOND, "listing", SHARD + (1,), [(c_uint64 * 3, 3), U64]),
     (SECOND, "settled_length", SHARD, [U64]),
@@ -80,21 +86,21 @@ CALLS = [
         14,
         "card_read",
         (FILE, 32),
-        [c_uint8 * 4, THREE_U32, THREE_U32, c_int32 * 3],
+        [c_uint8 * 5, THREE_U32, THREE_U32, c_int32 * 3],
     ),
     (
         19,
         "info_read",
         (FILE, 32, 0),
-        [c_uint8 * 4, THREE_U32, THREE_U32, c_int32 * 3],
+        [c_uint8 * 5, THREE_U32, THREE_U32, c_int32 * 3],
     ),
     (
         20,
         "info_read",
         (NO_SCALES, 2, 0),
-        [c_uint8 * 4, THREE_U32, THREE_U32, c_int32 * 3],
+        [c_uint8 * 5, THREE_U32, THREE_U32, c_int32 * 3],
     ),
-    (1, "card_write", (FORBIDDEN, UNIT), [(c_uint8 * 61, 61), U64]),
+    (1, "card_write", (FORBIDDEN, UNIT), [(c_uint8 * 65, 65), U64]),
     (13, "card_write", (ALLOWED, UNIT), [(c_uint8 * 45, 45), U64]),
     (15, "manifest_header", (FILE, 27), [c_uint32 * 6]),
     (18, "manifest_field", (MANIFEST, 28, 7), [c_uint32, c_uint32]),

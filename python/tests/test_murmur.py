@@ -5,7 +5,7 @@ import random
 import unittest
 from pathlib import Path
 
-from coronagamba import MURMUR, Sharding
+from coronagamba import MURMUR, VOLUME, Sharding
 
 from . import murmur, shards
 
@@ -26,7 +26,11 @@ class Murmur(unittest.TestCase):
         rng = random.Random(1)
         for _ in range(2000):
             sharding = Sharding(
-                rng.randrange(64), MURMUR, rng.randrange(13), rng.randrange(33)
+                rng.randrange(64),
+                MURMUR,
+                rng.randrange(13),
+                rng.randrange(33),
+                VOLUME,
             )
             id = rng.getrandbits(rng.randrange(1, 65))
             self.assertEqual(sharding.place(id), shards.place(sharding, id))
@@ -36,6 +40,6 @@ class Murmur(unittest.TestCase):
         self.assertGreater(len(lines), 60)
         for line in lines:
             preshift, id, hashed = map(int, line.split())
-            place = Sharding(preshift, MURMUR, 12, 32).place(id)
+            place = Sharding(preshift, MURMUR, 12, 32, VOLUME).place(id)
             self.assertEqual(place.minishard, hashed % 2**12, line)
             self.assertEqual(place.shard, (hashed >> 12) % 2**32, line)

@@ -6,7 +6,7 @@ from coronagamba import Card, Manifest, Shard, Sharding, Volume
 
 from .shards import u64s
 
-SHARDING = Sharding(0, 0, 0, 0)
+SHARDING = Sharding(0, 0, 0, 0, 0)
 VOLUME = Volume((9, 9, 9), (1, 1, 1))
 SHARD = Shard(SHARDING, 0, bytes(16))
 MANIFEST = Manifest(bytes(28))
@@ -17,10 +17,11 @@ U32 = (0, 2**32 - 1)
 U64 = (0, 2**64 - 1)
 I32 = (-(2**31), 2**31 - 1)
 ARGUMENTS = [
-    ("preshift", U8, lambda n: Sharding(n, 0, 0, 0)),
-    ("hash", U8, lambda n: Sharding(0, n, 0, 0)),
-    ("minishard_bits", U8, lambda n: Sharding(0, 0, n, 0)),
-    ("shard_bits", U8, lambda n: Sharding(0, 0, 0, n)),
+    ("preshift", U8, lambda n: Sharding(n, 0, 0, 0, 0)),
+    ("hash", U8, lambda n: Sharding(0, n, 0, 0, 0)),
+    ("minishard_bits", U8, lambda n: Sharding(0, 0, n, 0, 0)),
+    ("shard_bits", U8, lambda n: Sharding(0, 0, 0, n, 0)),
+    ("kind", U8, lambda n: Sharding(0, 0, 0, 0, n)),
     ("id", U64, SHARDING.place),
     ("ids[1]", U64, lambda n: SHARDING.places([0, n])),
     ("shard", U64, SHARDING.shard_name),
@@ -76,17 +77,17 @@ class Numbers(unittest.TestCase):
                 self.assert_raises_naming(TypeError, name, call, value)
 
     def test_the_edges_of_the_range_are_let_through(self):
-        sharding = Sharding(255, 255, 255, 255)
+        sharding = Sharding(255, 255, 255, 255, 255)
         self.assertEqual(sharding.preshift, 255)
         edges = Volume([2**32 - 1] * 3, [2**32 - 1] * 3, [-(2**31)] * 3)
         self.assertEqual(edges.bounds((0, 0, 0)).begin.x, -(2**31))
         self.assertEqual(edges.bounds((0, 0, 0)).end.x, 2**31 - 1)
-        last = Sharding(0, 0, 12, 32).place(2**64 - 1)
+        last = Sharding(0, 0, 12, 32, 0).place(2**64 - 1)
         self.assertEqual(last, (2**32 - 1, 2**12 - 1))
 
     def test_what_python_takes_for_an_integer(self):
-        sharding = Sharding(Index(1), False, True, Index(0))
-        self.assertEqual(sharding, Sharding(1, 0, 1, 0))
+        sharding = Sharding(Index(1), False, True, Index(0), 0)
+        self.assertEqual(sharding, Sharding(1, 0, 1, 0, 0))
         self.assertEqual(repr(sharding.hash), "0")
         self.assertEqual(sharding.place(Index(2)), (0, 1))
 

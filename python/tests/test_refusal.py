@@ -13,8 +13,9 @@ from coronagamba.refusal import answer
 from .manifests import manifest
 from .shards import one_minishard, rows, u64s
 
-ONE = Sharding(0, 0, 0, 0)
-TWO = Sharding(0, 0, 1, 0)
+ONE = Sharding(0, 0, 0, 0, 0)
+TWO = Sharding(0, 0, 1, 0, 0)
+MESH = Sharding(0, 0, 0, 0, 1)
 UNIT = (1, 1, 1)
 SOUND = manifest((8, 8, 8), (0, 0, 0), [(1, (0, 0, 0), [(2**24, 0, 0, 5)])])
 
@@ -25,7 +26,7 @@ def shard(file, sharding=ONE, number=0):
 
 def huge_settled_form():
     """A shard of 4,096 minishards that each list the same 300,000 bytes."""
-    sharding, size, count = Sharding(0, 0, 12, 0), 300_000, 4096
+    sharding, size, count = Sharding(0, 0, 12, 0, 0), 300_000, 4096
     index = b"".join(
         u64s(size + 24 * m, size + 24 * m + 24) for m in range(count)
     )
@@ -35,12 +36,13 @@ def huge_settled_form():
 
 CALLS = {
     1: [
-        lambda: Sharding(64, 0, 0, 0).place(0),
-        lambda: Sharding(0, 2, 0, 0).place(0),
-        lambda: Sharding(0, 0, 17, 0).places([]),
-        lambda: Sharding(0, 0, 0, 33).shard_name(0),
-        lambda: shard(b"", Sharding(255, 0, 0, 0)).lookup(0),
-        lambda: Card(Sharding(64, 0, 0, 0), Volume(UNIT, UNIT)).to_bytes(),
+        lambda: Sharding(64, 0, 0, 0, 0).place(0),
+        lambda: Sharding(0, 2, 0, 0, 0).place(0),
+        lambda: Sharding(0, 0, 17, 0, 0).places([]),
+        lambda: Sharding(0, 0, 0, 33, 0).shard_name(0),
+        lambda: Sharding(0, 0, 0, 0, 2).place(0),
+        lambda: shard(b"", Sharding(255, 0, 0, 0, 0)).lookup(0),
+        lambda: Card(Sharding(64, 0, 0, 0, 0), Volume(UNIT, UNIT)).to_bytes(),
     ],
     2: [
         lambda: Volume((0, 1, 1), UNIT).grid(),
@@ -63,9 +65,9 @@ CALLS = {
         lambda: Volume((5, 3, 1), UNIT).cell(32),
     ],
     5: [
-        lambda: Sharding(0, 0, 0, 4).shard_name(16),
+        lambda: Sharding(0, 0, 0, 4, 0).shard_name(16),
         lambda: shard(bytes(16), ONE, 1).check(),
-        lambda: shard(bytes(16), Sharding(0, 0, 0, 1)).lookup(1),
+        lambda: shard(bytes(16), Sharding(0, 0, 0, 1, 0)).lookup(1),
         lambda: shard(bytes(16)).listing(1),
     ],
     6: [
@@ -89,14 +91,17 @@ CALLS = {
     10: [
         lambda: shard(u64s(0, 24, 0, 0, 1, 0, 0), TWO).check(),
         lambda: shard(
-            u64s(0, 24, 1, 0, 0), Sharding(0, 0, 0, 1)
+            u64s(0, 24, 1, 0, 0), Sharding(0, 0, 0, 1, 0)
         ).listed_count(0),
     ],
     11: [
         lambda: shard(one_minishard(u64s(0, 0, 25))).check(),
         lambda: shard(one_minishard(u64s(0, 2**64 - 1, 1))).lookup(0),
     ],
-    12: [lambda: shard(bytes(16)).lookup(0)],
+    12: [
+        lambda: shard(bytes(16)).lookup(0),
+        lambda: shard(bytes(16), MESH).fragment(0, 0, 0),
+    ],
     13: [
         lambda: shard(bytes(16)).settle(bytearray(15)),
         lambda: huge_settled_form().settled(),
@@ -139,6 +144,7 @@ CALLS = {
         lambda: Manifest(SOUND).node(0, 1),
         lambda: Manifest(SOUND).nodes_of(1),
         lambda: Manifest(SOUND).corners(0, 0),
+        lambda: shard(one_minishard(u64s(0, 0, 0))).fragment(0, 0, 0),
     ],
     19: [
         lambda: Card.read_info(b"", 0),
@@ -150,6 +156,16 @@ CALLS = {
         lambda: Card.read_info(b"{}", 0),
         lambda: Card.read_info(b'{"scales": [{}]}', 0),
         lambda: Card.read_info(b'{"scales": []}', 2**64 - 1),
+    ],
+    21: [
+        # A fragment of 5 bytes, and 4 before the manifest.
+        lambda: shard(
+            u64s(4 + len(SOUND), 28 + len(SOUND))
+            + bytes(4)
+            + SOUND
+            + u64s(0, 4, len(SOUND)),
+            MESH,
+        ).check(),
     ],
 }
 
@@ -291,7 +307,7 @@ class Exceptions(unittest.TestCase):
     def test_numbers_have_names(self):
         self.assertEqual(Refused.NOT_LISTED, 12)
         with self.assertRaises(Refused) as caught:
-            Sharding(64, 0, 0, 0).place(0)
+            Sharding(64, 0, 0, 0, 0).place(0)
         self.assertEqual(
             caught.exception.number, Refused.SHARDING_NOT_ALLOWED
         )

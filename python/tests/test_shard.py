@@ -4,13 +4,13 @@ import mmap
 import random
 import unittest
 
-from coronagamba import IDENTITY, MURMUR, Absent, Listed, Refused
+from coronagamba import IDENTITY, MURMUR, VOLUME, Absent, Listed, Refused
 from coronagamba import Shard, Sharding, Span
 
 from . import shards
 from .shards import u64s
 
-CASE = Sharding(0, IDENTITY, 1, 0)
+CASE = Sharding(0, IDENTITY, 1, 0, VOLUME)
 CONTENT = {4: b"ab", 10: b"cde"}
 # The scope's settled form, written out: entries, chunks, rows.
 SETTLED = (
@@ -36,6 +36,7 @@ def samples(seed, count):
             rng.choice([IDENTITY, MURMUR]),
             rng.randrange(4),
             rng.randrange(3),
+            VOLUME,
         )
         number = rng.randrange(2**sharding.shard_bits)
         ids = [rng.getrandbits(rng.choice([8, 64])) for _ in range(40)]
@@ -51,7 +52,7 @@ class ManyMinishards(unittest.TestCase):
     """Change requests, order 4: up to 2^16 minishards."""
 
     def test_the_last_of_65536(self):
-        sharding = Sharding(0, IDENTITY, 16, 0)
+        sharding = Sharding(0, IDENTITY, 16, 0, VOLUME)
         last = 65535
         front = bytes(16 * last) + u64s(3, 27) + b"abc"
         shard = Shard(sharding, 0, front + u64s(last, 0, 3))
@@ -67,7 +68,8 @@ class ManyMinishards(unittest.TestCase):
 
     def test_17_bits(self):
         with self.assertRaises(Refused) as told:
-            Shard(Sharding(0, IDENTITY, 17, 0), 0, bytes(2**21)).check()
+            sharding = Sharding(0, IDENTITY, 17, 0, VOLUME)
+            Shard(sharding, 0, bytes(2**21)).check()
         self.assertEqual(told.exception.number, 1)
 
 

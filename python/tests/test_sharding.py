@@ -6,11 +6,13 @@ import random
 import unittest
 from array import array
 
-from coronagamba import IDENTITY, MURMUR, Place, Sharding
+from coronagamba import IDENTITY, MESH, MURMUR, VOLUME, Place, Sharding
 
 from . import shards
 
-CASE = Sharding(preshift=1, hash=IDENTITY, minishard_bits=1, shard_bits=0)
+CASE = Sharding(
+    preshift=1, hash=IDENTITY, minishard_bits=1, shard_bits=0, kind=VOLUME
+)
 
 
 class Places(unittest.TestCase):
@@ -20,13 +22,13 @@ class Places(unittest.TestCase):
         self.assertEqual(CASE.place(4).minishard, 0)
 
     def test_shard_bits_stand_above_minishard_bits(self):
-        sharding = Sharding(4, IDENTITY, 4, 8)
+        sharding = Sharding(4, IDENTITY, 4, 8, VOLUME)
         self.assertEqual(sharding.place(0xABCDE), Place(0xBC, 0xD))
 
     def test_many_at_once(self):
         rng = random.Random(2)
         for hash in (IDENTITY, MURMUR):
-            sharding = Sharding(3, hash, 5, 9)
+            sharding = Sharding(3, hash, 5, 9, VOLUME)
             ids = [rng.getrandbits(64) for _ in range(100)]
             expected = [shards.place(sharding, id) for id in ids]
             found = sharding.places(ids)
@@ -84,24 +86,31 @@ class Names(unittest.TestCase):
             (32, 2**32 - 1, "ffffffff.shard"),
             (12, 0, "000.shard"),
         ):
-            sharding = Sharding(0, IDENTITY, 0, bits)
+            sharding = Sharding(0, IDENTITY, 0, bits, VOLUME)
             self.assertEqual(sharding.shard_name(shard), name)
 
 
 class Values(unittest.TestCase):
     def test_a_specification_is_a_value(self):
-        same = Sharding(1, 0, 1, 0)
+        same = Sharding(1, 0, 1, 0, 0)
         self.assertEqual(CASE, same)
         self.assertEqual(hash(CASE), hash(same))
-        self.assertNotEqual(CASE, Sharding(1, 1, 1, 0))
+        self.assertNotEqual(CASE, Sharding(1, 1, 1, 0, 0))
         with self.assertRaises(dataclasses.FrozenInstanceError):
             CASE.preshift = 2
 
     def test_no_field_is_assumed(self):
         with self.assertRaises(TypeError):
-            Sharding(0, 0, 0)
+            Sharding(0, 0, 0, 0)
 
     def test_replacing_a_field_tests_it(self):
         self.assertEqual(dataclasses.replace(CASE, hash=1).hash, 1)
-        with self.assertRaises(OverflowError):
-            dataclasses.replace(CASE, hash=256)
+        for field in ("hash", "kind"):
+            with self.assertRaises(OverflowError):
+                dataclasses.replace(CASE, **{field: 256})
+
+    def test_the_kind_decides_nothing_about_places(self):
+        mesh = dataclasses.replace(CASE, kind=MESH)
+        self.assertNotEqual(mesh, CASE)
+        self.assertEqual(mesh.place(2), CASE.place(2))
+        self.assertEqual(mesh.shard_name(0), CASE.shard_name(0))

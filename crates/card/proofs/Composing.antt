@@ -1,10 +1,11 @@
 -- What the functions that write a card need: how long its parts are, and one part written after another.
 use Prim.Native.Nat.{ℕ, _+_, _≤_}
 use mathlib.Core.Path.{_≡_, refl, sym, ap, _∙_}
-use mathlib.Core.Bool.{Bool, true, false}
+use mathlib.Core.Bool.{Bool, true, false, not}
 use mathlib.Core.List.{List, [], _∷_, _++_, append-assoc}
 use native.Mathlib.Omega.{arith}
 use borrow.Author.Needs.{needs}
+use borrow.Author.Tests.{not-true, not-false}
 use lib.ListN.{length, length-append}
 use mir.Syntax.{w32}
 use mir.Val.{SFits, toZ, ofZ}
@@ -17,10 +18,10 @@ use Rattle.endian.proofs.Buffer.{too-long, kept-whole, how-long, at-front}
 use Rattle.grid.specs.declared.Extents.{Extents}
 use Rattle.grid.specs.declared.Offset.{Offset}
 use Rattle.grid.specs.declared.Volume.{Volume}
-use Rattle.sharding.specs.Specification.{minishardBits, shardBits}
+use Rattle.sharding.specs.Specification.{mesh, isMesh, minishardBits, shardBits}
 use Rattle.sharding.specs.declared.Sharding.{Sharding}
 use Rattle.card.specs.declared.Card.{Card}
-use Rattle.card.specs.Layout.{head, field, oneByte, three, bits32, shardingBytes, extentsBytes, noOffset, offsetTag, offsetBytes, volumeBytes, cardBytes}
+use Rattle.card.specs.Layout.{head, field, oneByte, three, bits32, shardingBytes, extentsBytes, noOffset, offsetTag, offsetBytes, volumeBytes, kindBytes, cardBytes}
 
 -- ---- how long
 length-head : (tag n : ℕ) → length (head tag n) ≡ 3
@@ -53,10 +54,10 @@ length-volume v =
     rw (length-append (extentsBytes 5 (v .size)) (extentsBytes 6 (v .chunk) ++ offsetBytes (v .offset)), length-append (extentsBytes 6 (v .chunk)) (offsetBytes (v .offset)))
     (omega (arith, length-extents 5 (v .size), length-extents 6 (v .chunk)))
 
-pub length-card : (c : Card) → length (cardBytes c) ≡ 46 + length (offsetBytes (c .volume .offset))
+pub length-card : (c : Card) → length (cardBytes c) ≡ 46 + length (offsetBytes (c .volume .offset)) + length (kindBytes (c .sharding))
 unfolding cardBytes
 length-card c =
-    rw (length-append (shardingBytes (c .sharding)) (volumeBytes (c .volume)))
+    rw (length-append (shardingBytes (c .sharding)) (volumeBytes (c .volume) ++ kindBytes (c .sharding)), length-append (volumeBytes (c .volume)) (kindBytes (c .sharding)))
     (omega (arith, length-sharding (c .sharding), length-volume (c .volume)))
 
 -- ---- the offset
@@ -85,8 +86,35 @@ module _ (o : Offset) {b : Bool} (e : b ≡ noOffset o) where
     pub present-put : b ≡ false → {f : List ℕ} → f ≡ paste at (offsetTag o) d → f ≡ paste at (offsetBytes o) d
     present-put t u = u ∙ ap (λ (l : List ℕ). paste at l d) (sym (present t))
 
-pub offset-long : (c : Card) {n : ℕ} → n ≡ length (offsetBytes (c .volume .offset)) → 46 + n ≡ length (cardBytes c)
-offset-long c p = omega (arith, length-card c)
+-- ---- the kind
+module _ (s : Sharding) {b : Bool} (e : b ≡ isMesh s) where
+  pub volume-none : b ≡ false → kindBytes s ≡ []
+  unfolding kindBytes
+  volume-none t = rw (sym e ∙ t)
+
+  pub mesh-tag : b ≡ true → kindBytes s ≡ oneByte 8 mesh
+  unfolding kindBytes
+  mesh-tag t = rw (sym e ∙ t)
+
+  pub volume-length : b ≡ false → 0 ≡ length (kindBytes s)
+  volume-length t = sym (ap length (volume-none t))
+
+  pub mesh-length : b ≡ true → 4 ≡ length (kindBytes s)
+  mesh-length t = sym (ap length (mesh-tag t) ∙ length-one 8 mesh)
+
+  module _ (at : ℕ) (d : List ℕ) where
+    pub mesh-room : not b ≡ false → at + length (kindBytes s) ≤ length d → at + 4 ≤ length d
+    mesh-room t h = omega (arith, mesh-length (not-false b t))
+
+    pub volume-put-none : not b ≡ true → d ≡ paste at (kindBytes s) d
+    volume-put-none t = sym (ap (λ (l : List ℕ). paste at l d) (volume-none (not-true b t)) ∙ paste-nil at d)
+
+    pub mesh-put : not b ≡ false → {f : List ℕ} → f ≡ paste at (oneByte 8 mesh) d → f ≡ paste at (kindBytes s) d
+    mesh-put t u = u ∙ ap (λ (l : List ℕ). paste at l d) (sym (mesh-tag (not-false b t)))
+
+module _ (c : Card) {m n : ℕ} (p : m ≡ 46 + length (offsetBytes (c .volume .offset))) (q : n ≡ length (kindBytes (c .sharding))) where
+  pub card-long : m + n ≡ length (cardBytes c)
+  card-long = omega (arith, length-card c)
 
 -- ---- one part after another
 two : (at k : ℕ) (a b d : List ℕ) {e f : List ℕ} → length a ≡ k → e ≡ paste at a d → f ≡ paste (at + k) b e → at + k ≤ length d → f ≡ paste at (a ++ b) d
@@ -162,10 +190,18 @@ module _ (at : ℕ) (d : List ℕ) where
       let l : length (f1 ++ f2) ≡ 30 = omega (arith, length-append f1 f2) in
       two at 30 (f1 ++ f2) f3 d l p x (omega arith) ∙ ap (λ (t : List ℕ). paste at t d) (append-assoc f1 f2 f3)
 
-pub card-put : (c : Card) (d : List ℕ) {a b : List ℕ} → a ≡ paste 0 (shardingBytes (c .sharding)) d → b ≡ paste 16 (volumeBytes (c .volume)) a
-    → 46 + length (offsetBytes (c .volume .offset)) ≤ length d → b ≡ paste 0 (cardBytes c) d
+pub card-put : (c : Card) (d : List ℕ) {m : ℕ} {a b e : List ℕ} → a ≡ paste 0 (shardingBytes (c .sharding)) d → b ≡ paste 16 (volumeBytes (c .volume)) a
+    → e ≡ paste m (kindBytes (c .sharding)) b → m ≡ 46 + length (offsetBytes (c .volume .offset))
+    → 46 + length (offsetBytes (c .volume .offset)) + length (kindBytes (c .sharding)) ≤ length d → e ≡ paste 0 (cardBytes c) d
 unfolding cardBytes
-card-put c d u v h = two 0 16 (shardingBytes (c .sharding)) (volumeBytes (c .volume)) d (length-sharding (c .sharding)) u v (omega arith)
+card-put c d {m} {a} {b} {e} u v w p h =
+    let f1 = shardingBytes (c .sharding) in
+    let f2 = volumeBytes (c .volume) in
+    let f3 = kindBytes (c .sharding) in
+    let n1 : length f1 ≡ 16 = length-sharding (c .sharding) in
+    let t : b ≡ paste 0 (f1 ++ f2) d = two 0 16 f1 f2 d n1 u v (omega arith) in
+    let l : length (f1 ++ f2) ≡ m = omega (arith, length-append f1 f2, length-volume (c .volume)) in
+    paste-then 0 m (f1 ++ f2) f3 d t w (omega arith) (omega arith) ∙ ap (λ (x : List ℕ). paste 0 x d) (append-assoc f1 f2 f3)
 
 pub ruleset composing = (
   absent-length,
@@ -173,7 +209,12 @@ pub ruleset composing = (
   present-room,
   absent-put,
   present-put,
-  offset-long,
+  volume-length,
+  mesh-length,
+  mesh-room,
+  volume-put-none,
+  mesh-put,
+  card-long,
   head-put,
   one-put,
   three-put,

@@ -1,11 +1,11 @@
 -- The laws of a card: what is written is read back, what is read is what is written, and one meaning has one card.
 use Prim.Native.Nat.{ℕ, zero, suc, _+_, _^_, _≤_, _<_}
 use mathlib.Core.Path.{_≡_, refl, sym, ap, ap₂, _∙_}
-use mathlib.Core.Bool.{Bool, true, false, not, _&&_}
+use mathlib.Core.Bool.{Bool, true, false, not, _&&_, _||_}
 use mathlib.Core.Logic.{_⊎_, inl, inr}
 use mathlib.Core.List.{List, [], _∷_, _++_, append-assoc, append-nil}
 use native.Mathlib.Omega.{arith}
-use borrow.Author.Tests.{eqb-true, eq-eqb, ne-eqb, not-true, ltb-true, ltb-false}
+use borrow.Author.Tests.{eqb-true, not-true, ltb-true, ltb-false}
 use lib.Dec.{eqb, ltb}
 use lib.IntN.{ℤ, pos, negsuc}
 use lib.ListN.{length, getD, take, drop, take-append-drop, drop-of-length-le}
@@ -22,16 +22,19 @@ use Rattle.refusal.proofs.Tests.{both}
 use Rattle.grid.specs.declared.Offset.{Offset}
 use Rattle.grid.specs.Grid.{InU32, gridOf, zeroExtent}
 use Rattle.grid.specs.Key.{tooManyBits}
-use Rattle.sharding.specs.Specification.{allowed}
+use Rattle.sharding.specs.Specification.{volume, mesh, isMesh, minishardBits, shardBits, allowed, Within}
+use Rattle.sharding.specs.declared.Sharding.{Sharding}
+use Rattle.sharding.proofs.Allowed.{allowed-within}
 use Rattle.card.specs.declared.Card.{Card}
 use Rattle.card.specs.declared.CardAnswer.the-variants.{Says, Refused}
-use Rattle.card.specs.Layout.{head, field, oneByte, three, bits32, shardingBytes, extentsBytes, isZero, noOffset, offsetTag, offsetBytes, volumeBytes, cardBytes, InI32, Ranged, Bytes}
-use Rattle.card.specs.Reading.{signed32, fieldAt, sixFields, extentsAt, offsetAt, offsetField, wellFormed, shardingIn, zeros, offsetIn, volumeIn, cardIn}
+use Rattle.card.specs.Layout.{head, field, oneByte, three, bits32, shardingBytes, extentsBytes, isZero, noOffset, offsetTag, offsetBytes, volumeBytes, kindBytes, cardBytes, InI32, Ranged, Bytes}
+use Rattle.card.specs.Reading.{signed32, fieldAt, sixFields, extentsAt, offsetAt, offsetField, kindField, wellFormed, kindIn, shardingIn, zeros, offsetIn, volumeIn, cardIn}
 use Rattle.card.specs.Answers.{recordChecks, fault, readAnswer, writeAnswer, writeLeft}
 use Rattle.card.specs.Meaning.{OneCard}
 use Rattle.card.proofs.Words.{bits-signed, signed-bits, bits-below, signed-in}
-use Rattle.card.proofs.Parsing.{formed-length, formed-never}
-use Rattle.card.proofs.Judged.{read-first, write-first, left-first}
+use Rattle.card.proofs.Parsing.{CardLength, formed-length, formed-never}
+use Rattle.card.proofs.Parsing.CardLength.{bare, shifted, bareMesh, shiftedMesh}
+use Rattle.card.proofs.Judged.{faultless, read-first, write-first, left-first}
 
 -- ---- the bytes of a record are read back as the record
 
@@ -50,11 +53,12 @@ none-is o e =
     let pz = zero-is (o .z) (q .1) in
     λ i. record { x = px i; y = py i; z = pz i }
 
--- a card's bytes, by whether the offset is absent
-unfoldable bytesBy : Bool → Card → List ℕ
-bytesBy b c =
+-- a card's bytes, by whether the offset is absent and whether the kind is there
+unfoldable bytesBy : Bool → Bool → Card → List ℕ
+bytesBy b k c =
     shardingBytes (c .sharding)
-    ++ (extentsBytes 5 (c .volume .size) ++ (extentsBytes 6 (c .volume .chunk) ++ pick b [] (offsetTag (c .volume .offset))))
+    ++ (extentsBytes 5 (c .volume .size)
+    ++ (extentsBytes 6 (c .volume .chunk) ++ (pick b [] (offsetTag (c .volume .offset)) ++ pick k (oneByte 8 mesh) [])))
 
 number : (n : ℕ) → n < 2 ^ 32 → leAt 4 (le 4 n ++ []) 0 ≡ n
 number n h = leAt-le 4 n [] h
@@ -62,77 +66,111 @@ number n h = leAt-le 4 n [] h
 signed-number : (z : ℤ) → InI32 z → signed32 (leAt 4 (le 4 (bits32 z) ++ []) 0) ≡ z
 signed-number z h = ap signed32 (number (bits32 z) (bits-below z h)) ∙ signed-bits z h
 
-offset-back : (c : Card) → Ranged c → offsetAt (bytesBy false c) 49 ≡ c .volume .offset
+offset-back : (k : Bool) (c : Card) → Ranged c → offsetAt (bytesBy false k c) 49 ≡ c .volume .offset
 unfolding offsetAt bytesBy shardingBytes extentsBytes offsetTag oneByte field head three le leAt
-offset-back c r =
+offset-back k c r =
     let px = signed-number (c .volume .offset .x) (r .x) in
     let py = signed-number (c .volume .offset .y) (r .y) in
     let pz = signed-number (c .volume .offset .z) (r .z) in
     λ i. record { x = px i; y = py i; z = pz i }
 
-formed-back : (b : Bool) (c : Card) → Ranged c → noOffset (c .volume .offset) ≡ b → wellFormed (bytesBy b c) ≡ true
-unfolding wellFormed sixFields offsetField fieldAt bytesBy shardingBytes extentsBytes offsetTag oneByte field head three le leAt
-formed-back true c r e = refl
-formed-back false c r e = ap (λ (o : Offset). not (noOffset o)) (offset-back c r) ∙ ap not e
+formed-back : (b k : Bool) (c : Card) → Ranged c → noOffset (c .volume .offset) ≡ b → wellFormed (bytesBy b k c) ≡ true
+unfolding wellFormed sixFields offsetField kindField fieldAt bytesBy shardingBytes extentsBytes offsetTag oneByte field head three le leAt
+formed-back true false c r e = refl
+formed-back true true c r e = refl
+formed-back false false c r e = ap (λ (o : Offset). not (noOffset o)) (offset-back false c r) ∙ ap not e
+formed-back false true c r e = ap (λ (o : Offset). not (noOffset o) && true) (offset-back true c r) ∙ ap (λ (t : Bool). not t && true) e
 
-size-back : (b : Bool) (c : Card) → Ranged c → extentsAt (bytesBy b c) 19 ≡ c .volume .size
+size-back : (b k : Bool) (c : Card) → Ranged c → extentsAt (bytesBy b k c) 19 ≡ c .volume .size
 unfolding extentsAt bytesBy shardingBytes extentsBytes oneByte field head three le leAt
-size-back b c r =
+size-back b k c r =
     let px = number (c .volume .size .x) (r .size .x) in
     let py = number (c .volume .size .y) (r .size .y) in
     let pz = number (c .volume .size .z) (r .size .z) in
     λ i. record { x = px i; y = py i; z = pz i }
 
-chunk-back : (b : Bool) (c : Card) → Ranged c → extentsAt (bytesBy b c) 34 ≡ c .volume .chunk
+chunk-back : (b k : Bool) (c : Card) → Ranged c → extentsAt (bytesBy b k c) 34 ≡ c .volume .chunk
 unfolding extentsAt bytesBy shardingBytes extentsBytes oneByte field head three le leAt
-chunk-back b c r =
+chunk-back b k c r =
     let px = number (c .volume .chunk .x) (r .chunk .x) in
     let py = number (c .volume .chunk .y) (r .chunk .y) in
     let pz = number (c .volume .chunk .z) (r .chunk .z) in
     λ i. record { x = px i; y = py i; z = pz i }
 
-sharding-back : (b : Bool) (c : Card) → shardingIn (bytesBy b c) ≡ c .sharding
+kind-by : (b k : Bool) (c : Card) → kindIn (bytesBy b k c) ≡ pick k mesh volume
+unfolding kindIn bytesBy shardingBytes extentsBytes offsetTag oneByte field head three le
+kind-by true false c = refl
+kind-by true true c = refl
+kind-by false false c = refl
+kind-by false true c = refl
+
+kind-of : (h : Sharding) → (h .kind ≡ volume) ⊎ (h .kind ≡ mesh) → pick (isMesh h) mesh volume ≡ h .kind
+kind-of h (inl e) = rw e
+kind-of h (inr e) = rw e
+
+sharding-back : (b : Bool) (c : Card) → Within (c .sharding) → shardingIn (bytesBy b (isMesh (c .sharding)) c) ≡ c .sharding
 unfolding shardingIn bytesBy shardingBytes oneByte field head le
-sharding-back b c = refl
+sharding-back b c w =
+    let h = c .sharding in
+    let p = kind-by b (isMesh h) c ∙ kind-of h (w .kind) in
+    λ i. record { preshift = h .preshift; hash = h .hash; «minishard_bits» = minishardBits h; «shard_bits» = shardBits h; kind = p i }
 
-offset-in-back : (b : Bool) (c : Card) → Ranged c → noOffset (c .volume .offset) ≡ b → offsetIn (bytesBy b c) ≡ c .volume .offset
+offset-in-back : (b k : Bool) (c : Card) → Ranged c → noOffset (c .volume .offset) ≡ b → offsetIn (bytesBy b k c) ≡ c .volume .offset
 unfolding offsetIn bytesBy shardingBytes extentsBytes offsetTag oneByte field head three le
-offset-in-back true c r e = none-is (c .volume .offset) e
-offset-in-back false c r e = offset-back c r
+offset-in-back true false c r e = none-is (c .volume .offset) e
+offset-in-back true true c r e = none-is (c .volume .offset) e
+offset-in-back false false c r e = offset-back false c r
+offset-in-back false true c r e = offset-back true c r
 
-card-back : (b : Bool) (c : Card) → Ranged c → noOffset (c .volume .offset) ≡ b → cardIn (bytesBy b c) ≡ c
+card-back : (b : Bool) (c : Card) → Ranged c → noOffset (c .volume .offset) ≡ b → Within (c .sharding) → cardIn (bytesBy b (isMesh (c .sharding)) c) ≡ c
 unfolding cardIn volumeIn
-card-back b c r e =
-    let p = sharding-back b c in
-    let q = size-back b c r in
-    let s = chunk-back b c r in
-    let t = offset-in-back b c r e in
+card-back b c r e w =
+    let k = isMesh (c .sharding) in
+    let p = sharding-back b c w in
+    let q = size-back b k c r in
+    let s = chunk-back b k c r in
+    let t = offset-in-back b k c r e in
     λ i. record { sharding = p i; volume = record { size = q i; chunk = s i; offset = t i } }
 
-bytes-by : (c : Card) → cardBytes c ≡ bytesBy (noOffset (c .volume .offset)) c
-unfolding cardBytes volumeBytes offsetBytes bytesBy
-bytes-by c = refl
+bytes-by : (c : Card) → cardBytes c ≡ bytesBy (noOffset (c .volume .offset)) (isMesh (c .sharding)) c
+unfolding cardBytes volumeBytes offsetBytes kindBytes bytesBy
+bytes-by c =
+    ap (λ (l : List ℕ). shardingBytes (c .sharding) ++ l)
+    (append-assoc (extentsBytes 5 (c .volume .size)) (extentsBytes 6 (c .volume .chunk) ++ offsetBytes (c .volume .offset)) (kindBytes (c .sharding))
+    ∙ ap (λ (l : List ℕ). extentsBytes 5 (c .volume .size) ++ l) (append-assoc (extentsBytes 6 (c .volume .chunk)) (offsetBytes (c .volume .offset)) (kindBytes (c .sharding))))
 
--- a card has 46 or 61 bytes
-length-by : (b : Bool) (c : Card) → (length (bytesBy b c) ≡ 46) ⊎ (length (bytesBy b c) ≡ 61)
+-- a card has 46 or 61 bytes, of a mesh 50 or 65
+volume-by : (b : Bool) (c : Card) → (length (bytesBy b false c) ≡ 46) ⊎ (length (bytesBy b false c) ≡ 61)
 unfolding bytesBy shardingBytes extentsBytes offsetTag oneByte field head three le
-length-by true c = inl refl
-length-by false c = inr refl
+volume-by true c = inl refl
+volume-by false c = inr refl
 
-card-length : (c : Card) → (length (cardBytes c) ≡ 46) ⊎ (length (cardBytes c) ≡ 61)
-card-length c = rw (bytes-by c) (length-by (noOffset (c .volume .offset)) c)
+mesh-by : (b : Bool) (c : Card) → (length (bytesBy b true c) ≡ 50) ⊎ (length (bytesBy b true c) ≡ 65)
+unfolding bytesBy shardingBytes extentsBytes offsetTag oneByte field head three le
+mesh-by true c = inl refl
+mesh-by false c = inr refl
+
+bytes-of : (c : Card) (k : Bool) → c .sharding .kind ≡ pick k mesh volume → cardBytes c ≡ bytesBy (noOffset (c .volume .offset)) k c
+bytes-of c false e = bytes-by c ∙ ap (λ (n : ℕ). bytesBy (noOffset (c .volume .offset)) (eqb n mesh) c) e
+bytes-of c true e = bytes-by c ∙ ap (λ (n : ℕ). bytesBy (noOffset (c .volume .offset)) (eqb n mesh) c) e
+
+volume-lengths : (c : Card) → c .sharding .kind ≡ volume → (length (cardBytes c) ≡ 46) ⊎ (length (cardBytes c) ≡ 61)
+volume-lengths c e = rw (bytes-of c false e) (volume-by (noOffset (c .volume .offset)) c)
+
+pub mesh-lengths : (c : Card) → c .sharding .kind ≡ mesh → (length (cardBytes c) ≡ 50) ⊎ (length (cardBytes c) ≡ 65)
+mesh-lengths c e = rw (bytes-of c true e) (mesh-by (noOffset (c .volume .offset)) c)
 
 module _ (c : Card) (r : Ranged c) where
   formed-bytes : wellFormed (cardBytes c) ≡ true
-  formed-bytes = rw (bytes-by c) (formed-back (noOffset (c .volume .offset)) c r refl)
+  formed-bytes = rw (bytes-by c) (formed-back (noOffset (c .volume .offset)) (isMesh (c .sharding)) c r refl)
 
-  card-bytes-say : cardIn (cardBytes c) ≡ c
-  card-bytes-say = ap cardIn (bytes-by c) ∙ card-back (noOffset (c .volume .offset)) c r refl
+  card-bytes-say : Within (c .sharding) → cardIn (cardBytes c) ≡ c
+  card-bytes-say w = ap cardIn (bytes-by c) ∙ card-back (noOffset (c .volume .offset)) c r refl w
 
   -- reading the bytes of a record gives the record back
   reads-back : fault c ≡ 0 → readAnswer (cardBytes c) ≡ Says c
   unfolding unless
-  reads-back e = read-first (cardBytes c) ∙ rw (formed-bytes, card-bytes-say, e)
+  reads-back e = read-first (cardBytes c) ∙ rw (formed-bytes, card-bytes-say (allowed-within (faultless c e .0)), e)
 
 -- ---- bytes that are read are those of the record
 
@@ -209,35 +247,57 @@ module _ (s : List ℕ) (bs : Bytes s) where
       ∙ four-assoc (oneByte 1 (getD s 3 0)) (oneByte 2 (getD s 7 0)) (oneByte 3 (getD s 11 0)) (oneByte 4 (getD s 15 0))
       (extentsBytes 5 (extentsAt s 19) ++ (extentsBytes 6 (extentsAt s 34) ++ drop 46 s))
 
-  -- the end: no offset, or the seventh field
-  rest-none : length s ≡ 46 → drop 46 s ≡ offsetBytes (offsetIn s)
+  -- the end: no offset, or the seventh field, and then no kind, or the eighth
+  no-offset-from : (eqb (length s) 46 || eqb (length s) 50) ≡ true → drop 46 s ≡ offsetBytes (offsetIn s) ++ drop 46 s
   unfolding offsetIn offsetBytes noOffset isZero
-  rest-none h = rw (eq-eqb (length s) 46 h) (drop-of-length-le s {i = 46} (omega arith))
+  no-offset-from h = rw h
 
-  rest-some : length s ≡ 61 → offsetField s ≡ true → drop 46 s ≡ offsetBytes (offsetIn s)
+  offset-from : (eqb (length s) 46 || eqb (length s) 50) ≡ false → 61 ≤ length s → offsetField s ≡ true → drop 46 s ≡ offsetBytes (offsetIn s) ++ drop 61 s
   unfolding offsetIn offsetBytes offsetField
-  rest-some h e =
+  offset-from h l e =
       let q = both (fieldAt 7 12 s 46) (not (noOffset (offsetAt s 49))) e in
-      let n : (length s ≡ 46 → ⊥) = λ (z : length s ≡ 46). omega arith in
-      let d : drop 61 s ≡ [] = drop-of-length-le s {i = 61} (omega arith) in
-      rw (ne-eqb (length s) 46 n, not-true (noOffset (offsetAt s 49)) (q .1))
-      (tag-from 46 (q .0) (omega arith) ∙ ap (λ (l : List ℕ). offsetTag (offsetAt s 49) ++ l) d ∙ append-nil (offsetTag (offsetAt s 49)))
+      rw (h, not-true (noOffset (offsetAt s 49)) (q .1)) (tag-from 46 (q .0) (omega arith))
 
-  rest-by : wellFormed s ≡ true → (length s ≡ 46) ⊎ (length s ≡ 61) → (sixFields s ≡ true) × (46 ≤ length s) × (drop 46 s ≡ offsetBytes (offsetIn s))
-  unfolding wellFormed
-  rest-by e (inl h) = (rw (eq-eqb (length s) 46 h) at e, omega arith, rest-none h)
-  rest-by e (inr h) =
-      let n : (length s ≡ 46 → ⊥) = λ (z : length s ≡ 46). omega arith in
-      let q = both (sixFields s) (offsetField s) (rw (ne-eqb (length s) 46 n, eq-eqb (length s) 61 h) at e) in
-      (q .0, omega arith, rest-some h (q .1))
+  no-kind-from : (p : ℕ) → length s ≡ p → kindIn s ≡ volume → drop p s ≡ kindBytes (shardingIn s)
+  unfolding kindBytes shardingIn
+  no-kind-from p h k = rw k (drop-of-length-le s {i = p} (omega arith))
+
+  kind-from : (p : ℕ) → length s ≡ p + 4 → kindIn s ≡ mesh → kindField s p ≡ true → drop p s ≡ kindBytes (shardingIn s)
+  unfolding kindBytes shardingIn kindField
+  kind-from p h k e =
+      let q = both (fieldAt 8 1 s p) (eqb (getD s (p + 3) 0) mesh) e in
+      let b : getD s (p + 3) 0 ≡ mesh = eqb-true (getD s (p + 3) 0) mesh (q .1) in
+      let d : drop (p + 4) s ≡ [] = drop-of-length-le s {i = p + 4} (omega arith) in
+      rw k (one-from 8 p (q .0) (omega arith) ∙ ap₂ _++_ (ap (oneByte 8) b) d ∙ append-nil (oneByte 8 mesh))
+
+  rest-by : wellFormed s ≡ true → CardLength (length s) → (sixFields s ≡ true) × (46 ≤ length s) × (drop 46 s ≡ offsetBytes (offsetIn s) ++ kindBytes (shardingIn s))
+  unfolding wellFormed kindIn
+  rest-by e (bare h) =
+      (rw h at e, omega arith, no-offset-from (rw h) ∙ ap (λ (l : List ℕ). offsetBytes (offsetIn s) ++ l) (no-kind-from 46 h (rw h)))
+  rest-by e (shifted h) =
+      let q = both (sixFields s) (offsetField s) (rw h at e) in
+      (q .0, omega arith, offset-from (rw h) (omega arith) (q .1) ∙ ap (λ (l : List ℕ). offsetBytes (offsetIn s) ++ l) (no-kind-from 61 h (rw h)))
+  rest-by e (bareMesh h) =
+      let q = both (sixFields s) (kindField s 46) (rw h at e) in
+      (q .0, omega arith, no-offset-from (rw h) ∙ ap (λ (l : List ℕ). offsetBytes (offsetIn s) ++ l) (kind-from 46 h (rw h) (q .1)))
+  rest-by e (shiftedMesh h) =
+      let q = both (sixFields s) (offsetField s && kindField s 61) (rw h at e) in
+      let t = both (offsetField s) (kindField s 61) (q .1) in
+      (q .0, omega arith, offset-from (rw h) (omega arith) (t .0) ∙ ap (λ (l : List ℕ). offsetBytes (offsetIn s) ++ l) (kind-from 61 h (rw h) (t .1)))
+
+  three-assoc : (a b c r : List ℕ) → a ++ (b ++ (c ++ r)) ≡ (a ++ (b ++ c)) ++ r
+  three-assoc a b c r = simp append-assoc
 
   -- bytes that are well formed are those of what they say
   formed-is-bytes : wellFormed s ≡ true → s ≡ cardBytes (cardIn s)
   unfolding cardBytes cardIn volumeBytes volumeIn
   formed-is-bytes e =
       let r = rest-by e (formed-length s e) in
+      let f5 = extentsBytes 5 (extentsAt s 19) in
+      let f6 = extentsBytes 6 (extentsAt s 34) in
       six-from (r .0) (r .1)
-      ∙ ap (λ (l : List ℕ). shardingBytes (shardingIn s) ++ (extentsBytes 5 (extentsAt s 19) ++ (extentsBytes 6 (extentsAt s 34) ++ l))) (r .2)
+      ∙ ap (λ (l : List ℕ). shardingBytes (shardingIn s) ++ l)
+      (ap (λ (l : List ℕ). f5 ++ (f6 ++ l)) (r .2) ∙ three-assoc f5 f6 (offsetBytes (offsetIn s)) (kindBytes (shardingIn s)))
 
   in-u32 : (p : ℕ) → InU32 (extentsAt s p)
   unfolding extentsAt
@@ -260,9 +320,9 @@ module _ (s : List ℕ) (bs : Bytes s) where
     shard = bs 15;
     size = in-u32 19;
     chunk = in-u32 34;
-    x = in-i32 (eqb (length s) 46) (λ (o : Offset). o .x) (omega arith) (at-i32 49);
-    y = in-i32 (eqb (length s) 46) (λ (o : Offset). o .y) (omega arith) (at-i32 53);
-    z = in-i32 (eqb (length s) 46) (λ (o : Offset). o .z) (omega arith) (at-i32 57);
+    x = in-i32 (eqb (length s) 46 || eqb (length s) 50) (λ (o : Offset). o .x) (omega arith) (at-i32 49);
+    y = in-i32 (eqb (length s) 46 || eqb (length s) 50) (λ (o : Offset). o .y) (omega arith) (at-i32 53);
+    z = in-i32 (eqb (length s) 46 || eqb (length s) 50) (λ (o : Offset). o .z) (omega arith) (at-i32 57);
   }
 
 -- ---- what reading answers
@@ -306,13 +366,13 @@ module _ (s : List ℕ) where
   pub read-faultless : (c : Card) → readAnswer s ≡ Says c → fault c ≡ 0
   read-faultless c e = sym (ap fault (said c e .2)) ∙ said c e .1
 
-  malformed-14 : wellFormed s ≡ false → readAnswer s ≡ Refused 14
+  pub malformed-14 : wellFormed s ≡ false → readAnswer s ≡ Refused 14
   unfolding unless
   malformed-14 e = read-first s ∙ rw e
 
   -- a card has no other length
-  pub never-14 : (length s ≡ 46 → ⊥) → (length s ≡ 61 → ⊥) → readAnswer s ≡ Refused 14
-  never-14 f g = malformed-14 (sym (formed-never s f g))
+  pub never-14 : (length s ≡ 46 → ⊥) → (length s ≡ 61 → ⊥) → (length s ≡ 50 → ⊥) → (length s ≡ 65 → ⊥) → readAnswer s ≡ Refused 14
+  never-14 a b c d = malformed-14 (sym (formed-never s a b c d))
 
   14-malformed : readAnswer s ≡ Refused 14 → wellFormed s ≡ false
   14-malformed e =
@@ -350,7 +410,7 @@ long-of s out n e false t =
     let p : Length n ≡ Length (length s) = sym e ∙ written-fits s out h in (h, cc)
 
 module _ (c : Card) (out : List ℕ) (n : ℕ) (e : writeAnswer c out ≡ Length n) where
-  left-bytes : take n (writeLeft c out) ≡ cardBytes c
+  pub left-bytes : take n (writeLeft c out) ≡ cardBytes c
   unfolding unless
   left-bytes =
       let q = written-of c out n (fault c) refl (sym (write-first c out) ∙ e) in
@@ -366,6 +426,7 @@ one-meaning-one-card =
       same = λ a b c ba bb p q. read-is-written a c ba p .0 ∙ sym (read-is-written b c bb q .0);
       only = λ s c bs. (read-is-written s c bs, λ p. ap readAnswer (p .0) ∙ reads-back c (p .1 .0) (p .1 .1));
       malformed = λ s bs. (λ e c r p. formed-none s c r p (14-malformed s e), λ f. malformed-14 s (formed-some s bs f (wellFormed s) refl));
-      long = card-length;
+      long = volume-lengths;
+      longMesh = mesh-lengths;
       written = λ c out n r e. (left-bytes c out n e, left-says c out n e r);
     }

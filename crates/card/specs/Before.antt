@@ -1,18 +1,61 @@
--- The reader of cards as it was before order 4, in the old reading room: it answers 1 above 12 minishard bits. No code uses it. It is
--- kept to say what it answers to the cards that are written now (02, order 4).
+-- The readers of cards as they were before order 7 and before order 4, in the old reading rooms, and the bytes of a card as they were.
+-- No code uses them. They are kept to say what these readers answer to the cards that are written now (02, orders 4 and 7).
 use Prim.Native.Nat.{ℕ, _<_, _≤_}
 use mathlib.Core.Path.{_≡_}
-use mathlib.Core.Bool.{true, not}
-use mathlib.Core.List.{List, [], _∷_}
+use mathlib.Core.Bool.{Bool, true, false, not, _&&_}
+use mathlib.Core.List.{List, [], _∷_, _++_}
+use lib.Dec.{eqb}
+use lib.ListN.{length, getD}
+use Rattle.refusal.specs.Choice.{pick}
 use Rattle.refusal.specs.Checks.{Check, check, answered}
 use Rattle.grid.specs.Grid.{gridOf, zeroExtent}
 use Rattle.grid.specs.Key.{tooManyBits}
-use Rattle.sharding.specs.Specification.{mostMinishardBits, minishardBits}
+use Rattle.grid.specs.declared.Offset.{Offset}
+use Rattle.sharding.specs.declared.Sharding.{Sharding}
+use Rattle.sharding.specs.Specification.{volume, mesh, mostMinishardBits, minishardBits}
 use Rattle.sharding.specs.Before.{mostMinishardBitsBefore, allowedBefore}
 use Rattle.card.specs.declared.Card.{Card}
 use Rattle.card.specs.declared.CardAnswer.{CardAnswer}
 use Rattle.card.specs.declared.CardAnswer.the-variants.{Says, Refused}
-use Rattle.card.specs.Reading.{wellFormed, shardingIn, cardIn}
+use Rattle.card.specs.Layout.{shardingBytes, volumeBytes}
+use Rattle.card.specs.Reading.{sixFields, offsetField, extentsAt, offsetAt, zeros, wellFormed, kindIn, shardingIn}
+use Rattle.card.specs.Answers.{recordChecks}
+
+-- ---- before order 7: seven tags, and volumes, since there was no other kind
+
+unfoldable pub cardBytesBeforeMesh : Card → List ℕ
+cardBytesBeforeMesh c = shardingBytes (c .sharding) ++ volumeBytes (c .volume)
+
+-- "A card has 46 or 61 bytes", without an offset or with one; "all else is refused"
+unfoldable pub wellFormedBeforeMesh : List ℕ → Bool
+wellFormedBeforeMesh s = pick (eqb (length s) 46) (sixFields s) (pick (eqb (length s) 61) (sixFields s && offsetField s) false)
+
+unfoldable pub shardingInBeforeMesh : List ℕ → Sharding
+shardingInBeforeMesh s =
+    record { preshift = getD s 3 0; hash = getD s 7 0; «minishard_bits» = getD s 11 0; «shard_bits» = getD s 15 0; kind = volume }
+
+unfoldable pub offsetInBeforeMesh : List ℕ → Offset
+offsetInBeforeMesh s = pick (eqb (length s) 46) zeros (offsetAt s 49)
+
+unfoldable pub cardInBeforeMesh : List ℕ → Card
+cardInBeforeMesh s =
+    record {
+      sharding = shardingInBeforeMesh s;
+      volume = record { size = extentsAt s 19; chunk = extentsAt s 34; offset = offsetInBeforeMesh s };
+    }
+
+unfoldable pub readChecksBeforeMesh : List ℕ → List Check
+readChecksBeforeMesh s = check 14 (not (wellFormedBeforeMesh s)) ∷ recordChecks (cardInBeforeMesh s)
+
+unfoldable pub readAnswerBeforeMesh : List ℕ → CardAnswer
+readAnswerBeforeMesh s = answered Refused (readChecksBeforeMesh s) (Says (cardInBeforeMesh s))
+
+-- what that reader did not know: a card with tag 8
+pub record MeshCard (s : List ℕ) : Type 0 where
+  pub formed : wellFormed s ≡ true
+  pub kind : kindIn s ≡ mesh
+
+-- ---- before order 4: the same form, and 1 above 12 minishard bits
 
 unfoldable pub recordChecksBefore : Card → List Check
 recordChecksBefore c =
@@ -22,13 +65,14 @@ recordChecksBefore c =
     ∷ []
 
 unfoldable pub readChecksBefore : List ℕ → List Check
-readChecksBefore s = check 14 (not (wellFormed s)) ∷ recordChecksBefore (cardIn s)
+readChecksBefore s = check 14 (not (wellFormedBeforeMesh s)) ∷ recordChecksBefore (cardInBeforeMesh s)
 
 unfoldable pub readAnswerBefore : List ℕ → CardAnswer
-readAnswerBefore s = answered Refused (readChecksBefore s) (Says (cardIn s))
+readAnswerBefore s = answered Refused (readChecksBefore s) (Says (cardInBeforeMesh s))
 
--- what the old reader did not know: a card with 13 to 16 minishard bits
+-- what that reader did not know of volumes: a card with 13 to 16 minishard bits
 pub record NewCard (s : List ℕ) : Type 0 where
   pub formed : wellFormed s ≡ true
+  pub kind : kindIn s ≡ volume
   pub above : mostMinishardBitsBefore < minishardBits (shardingIn s)
   pub within : minishardBits (shardingIn s) ≤ mostMinishardBits

@@ -11,7 +11,7 @@ use Rattle.grid.specs.Grid.{InU32}
 use Rattle.grid.specs.declared.Extents.{Extents}
 use Rattle.grid.specs.declared.Offset.{Offset}
 use Rattle.grid.specs.declared.Volume.{Volume}
-use Rattle.sharding.specs.Specification.{minishardBits, shardBits}
+use Rattle.sharding.specs.Specification.{mesh, isMesh, minishardBits, shardBits}
 use Rattle.sharding.specs.declared.Sharding.{Sharding}
 use Rattle.card.specs.declared.Card.{Card}
 
@@ -65,11 +65,15 @@ offsetBytes o = pick (noOffset o) [] (offsetTag o)
 unfoldable pub volumeBytes : Volume → List ℕ
 volumeBytes v = extentsBytes 5 (v .size) ++ (extentsBytes 6 (v .chunk) ++ offsetBytes (v .offset))
 
+-- "card tag 8, one byte of 1, means mesh and is absent for volume" (02, order 7)
+unfoldable pub kindBytes : Sharding → List ℕ
+kindBytes s = pick (isMesh s) (oneByte 8 mesh) []
+
 -- "tags rising, each once"
 unfoldable pub cardBytes : Card → List ℕ
-cardBytes c = shardingBytes (c .sharding) ++ volumeBytes (c .volume)
+cardBytes c = shardingBytes (c .sharding) ++ (volumeBytes (c .volume) ++ kindBytes (c .sharding))
 
--- ---- a record that a card can hold: each number has the width of its field
+-- ---- a record that a card can hold: each number has the width of its field; that the kind is one of the two is for 1 to say
 abbrev pub InI32 : ℤ → Type 0
 InI32 (pos n) = n < 2 ^ 31
 InI32 (negsuc n) = n < 2 ^ 31

@@ -1,6 +1,6 @@
 -- Reading a deposit card: which bytes are one, and what they say (01, 'Deposit card').
 use Prim.Native.Nat.{ℕ, suc, _+_, _-_, _^_}
-use mathlib.Core.Bool.{Bool, false, not, _&&_}
+use mathlib.Core.Bool.{Bool, false, not, _&&_, _||_}
 use mathlib.Core.List.{List}
 use lib.Dec.{ltb, eqb}
 use lib.IntN.{ℤ, pos, negsuc}
@@ -10,6 +10,7 @@ use Rattle.endian.specs.Little.{leAt}
 use Rattle.grid.specs.declared.Extents.{Extents}
 use Rattle.grid.specs.declared.Offset.{Offset}
 use Rattle.grid.specs.declared.Volume.{Volume}
+use Rattle.sharding.specs.Specification.{volume, mesh}
 use Rattle.sharding.specs.declared.Sharding.{Sharding}
 use Rattle.card.specs.declared.Card.{Card}
 use Rattle.card.specs.Layout.{noOffset}
@@ -37,20 +38,32 @@ offsetAt s p = record { x = signed32 (leAt 4 s p); y = signed32 (leAt 4 s (p + 4
 unfoldable pub offsetField : List ℕ → Bool
 offsetField s = fieldAt 7 12 s 46 && not (noOffset (offsetAt s 49))
 
--- "A card has 46 or 61 bytes", without an offset or with one; "all else is refused"
-unfoldable pub wellFormed : List ℕ → Bool
-wellFormed s = pick (eqb (length s) 46) (sixFields s) (pick (eqb (length s) 61) (sixFields s && offsetField s) false)
+-- "card tag 8, one byte of 1, means mesh" (02, order 7): the last field, so its place is the end of the others
+unfoldable pub kindField : List ℕ → ℕ → Bool
+kindField s p = fieldAt 8 1 s p && eqb (getD s (p + 3) 0) mesh
 
--- the bodies of tags 1 to 4
+-- "A card has 46 or 61 bytes", without an offset or with one, and "a mesh card has 50 or 65 bytes"; "all else is refused"
+unfoldable pub wellFormed : List ℕ → Bool
+wellFormed s =
+    pick (eqb (length s) 46) (sixFields s)
+    (pick (eqb (length s) 61) (sixFields s && offsetField s)
+    (pick (eqb (length s) 50) (sixFields s && kindField s 46)
+    (pick (eqb (length s) 65) (sixFields s && (offsetField s && kindField s 61)) false)))
+
+-- tag 8 is there in the lengths of mesh cards
+unfoldable pub kindIn : List ℕ → ℕ
+kindIn s = pick (eqb (length s) 50 || eqb (length s) 65) mesh volume
+
+-- the bodies of tags 1 to 4, and the kind
 unfoldable pub shardingIn : List ℕ → Sharding
-shardingIn s = record { preshift = getD s 3 0; hash = getD s 7 0; «minishard_bits» = getD s 11 0; «shard_bits» = getD s 15 0 }
+shardingIn s = record { preshift = getD s 3 0; hash = getD s 7 0; «minishard_bits» = getD s 11 0; «shard_bits» = getD s 15 0; kind = kindIn s }
 
 abbrev pub zeros : Offset
 zeros = record { x = pos 0; y = pos 0; z = pos 0 }
 
 -- the body of tag 7, or 0,0,0 where it is absent
 unfoldable pub offsetIn : List ℕ → Offset
-offsetIn s = pick (eqb (length s) 46) zeros (offsetAt s 49)
+offsetIn s = pick (eqb (length s) 46 || eqb (length s) 50) zeros (offsetAt s 49)
 
 -- the bodies of tags 5 to 7
 unfoldable pub volumeIn : List ℕ → Volume

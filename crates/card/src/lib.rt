@@ -1,4 +1,5 @@
-// The deposit card: what an archive's volume is and how its chunks are sharded, in 46 or 61 bytes.
+// The deposit card: what an archive's volume is and how its chunks are sharded, in 46 or 61 bytes,
+// of a mesh in 50 or 65.
 pub mod inner;
 mod reading;
 mod twos;

@@ -3,7 +3,7 @@ ghost use mathlib.Core.Path.{_≡_};
 ghost use mathlib.Core.Bool.{true};
 ghost use Prim.Native.Nat.{_+_, _≤_};
 ghost use lib.ListN.{length, getD};
-ghost use Rattle.card.specs.Reading.{fieldAt, sixFields, extentsAt, offsetAt, offsetField, wellFormed, shardingIn, offsetIn, volumeIn, cardIn};
+ghost use Rattle.card.specs.Reading.{fieldAt, sixFields, extentsAt, offsetAt, offsetField, kindField, wellFormed, kindIn, shardingIn, offsetIn, volumeIn, cardIn};
 use crate::Card;
 use crate::twos;
 use endian::inner;
@@ -68,6 +68,14 @@ fn offset_field(s: &[u8]) -> bool
     field_at(s, 46, 7, 12) & !twos::no_offset(offset_at(s, 49))
 }
 
+// The eighth field, where it is present: it says mesh, 1.
+fn kind_field(s: &[u8], at: usize) -> bool
+    requires { ⌜ at + 4 ≤ length (now s) ⌝ }
+    ensures { λ r. ⌜ r ≡ kindField (now (s .entry)) at ⌝ }
+{
+    field_at(s, at, 8, 1) & (byte(s, at + 3) == 1)
+}
+
 pub fn well_formed(s: &[u8]) -> bool
     ensures { λ r. ⌜ r ≡ wellFormed (now (s .entry)) ⌝ }
 {
@@ -77,7 +85,24 @@ pub fn well_formed(s: &[u8]) -> bool
     if s.len() == 61 {
         return six_fields(s) & offset_field(s);
     }
+    if s.len() == 50 {
+        return six_fields(s) & kind_field(s, 46);
+    }
+    if s.len() == 65 {
+        return six_fields(s) & (offset_field(s) & kind_field(s, 61));
+    }
     false
+}
+
+// The eighth field is there in cards of these lengths.
+fn kind_in(s: &[u8]) -> u8
+    ensures { λ r. ⌜ r ≡ kindIn (now (s .entry)) ⌝ }
+{
+    if (s.len() == 50) | (s.len() == 65) {
+        1
+    } else {
+        0
+    }
 }
 
 fn sharding_in(s: &[u8]) -> Sharding
@@ -89,6 +114,7 @@ fn sharding_in(s: &[u8]) -> Sharding
         hash: byte(s, 7),
         minishard_bits: byte(s, 11),
         shard_bits: byte(s, 15),
+        kind: kind_in(s),
     }
 }
 
@@ -96,7 +122,7 @@ fn offset_in(s: &[u8]) -> Offset
     requires { ⌜ wellFormed (now s) ≡ true ⌝ }
     ensures { λ r. ⌜ r ≡ offsetIn (now (s .entry)) ⌝ }
 {
-    if s.len() == 46 {
+    if (s.len() == 46) | (s.len() == 50) {
         return Offset { x: 0, y: 0, z: 0 };
     }
     offset_at(s, 49)

@@ -4,7 +4,7 @@ ghost use Prim.Native.Nat.{_+_, _≤_};
 ghost use lib.ListN.{length};
 ghost use Rattle.endian.specs.Place.{paste};
 ghost use Rattle.refusal.specs.Buffer.{written, leftBy};
-ghost use Rattle.card.specs.Layout.{head, oneByte, three, shardingBytes, extentsBytes, offsetTag, offsetBytes, volumeBytes, cardBytes};
+ghost use Rattle.card.specs.Layout.{head, oneByte, three, shardingBytes, extentsBytes, offsetTag, offsetBytes, volumeBytes, kindBytes, cardBytes};
 use crate::Card;
 use crate::twos;
 use endian::inner;
@@ -99,22 +99,47 @@ fn put_volume(out: &mut [u8], at: usize, volume: Volume)
     put_offset(out, at + 30, offset);
 }
 
-fn card_len(card: Card) -> usize
-    ensures { λ r. ⌜ (r ≡ length (cardBytes card)) × (r ≡ 46 + length (offsetBytes (card .volume .offset))) ⌝ }
+fn kind_len(spec: Sharding) -> usize
+    ensures { λ r. ⌜ (r ≡ length (kindBytes spec)) × (r ≤ 4) ⌝ }
+{
+    if sharding::inner::is_mesh(spec) { 4 } else { 0 }
+}
+
+fn put_kind(out: &mut [u8], at: usize, spec: Sharding)
+    requires { ⌜ at + length (kindBytes spec) ≤ length (now out) ⌝ }
+    ensures { λ _. ⌜ now (out .exit) ≡ paste at (kindBytes spec) (now (out .entry)) ⌝ }
+{
+    if !sharding::inner::is_mesh(spec) {
+        return;
+    }
+    put_one(out, at, 8, 1);
+}
+
+// Where the eighth field begins: behind all others.
+fn kind_place(card: Card) -> usize
+    ensures { λ r. ⌜ (r ≡ 46 + length (offsetBytes (card .volume .offset))) × (r ≤ 61) ⌝ }
 {
     let volume = card.volume;
     let offset = volume.offset;
     46 + offset_len(offset)
 }
 
+fn card_len(card: Card) -> usize
+    ensures { λ r. ⌜ (r ≡ length (cardBytes card)) × (r ≡ 46 + length (offsetBytes (card .volume .offset)) + length (kindBytes (card .sharding))) ⌝ }
+{
+    let sharding = card.sharding;
+    kind_place(card) + kind_len(sharding)
+}
+
 fn put_card(out: &mut [u8], card: Card)
-    requires { ⌜ 46 + length (offsetBytes (card .volume .offset)) ≤ length (now out) ⌝ }
+    requires { ⌜ 46 + length (offsetBytes (card .volume .offset)) + length (kindBytes (card .sharding)) ≤ length (now out) ⌝ }
     ensures { λ _. ⌜ now (out .exit) ≡ paste 0 (cardBytes card) (now (out .entry)) ⌝ }
 {
     let sharding = card.sharding;
     let volume = card.volume;
     put_sharding(out, 0, sharding);
     put_volume(out, 16, volume);
+    put_kind(out, kind_place(card), sharding);
 }
 
 // The bytes of a card that was judged.

@@ -1,4 +1,4 @@
--- What comes with a refusal of 7 to 11 has room in the answer word: the minishard that a check names is one of the shard's, and a position lies within
+-- What comes with a refusal has room in the answer word: the minishard that a check names is one of the shard's, and a position lies within
 -- the file.
 use Prim.Native.Nat.{ℕ, _+_, _<_}
 use mathlib.Core.Path.{_≡_, sym, _∙_}
@@ -15,6 +15,7 @@ use Rattle.shard.proofs.Whole.{check-names}
 use Rattle.lookup.specs.declared.LookupAnswer.{LookupAnswer}
 use Rattle.lookup.specs.declared.LookupAnswer.the-variants as L
 use Rattle.lookup.specs.Find.{lookupAnswer}
+use Rattle.fragment.specs.Fragment.{fragmentAnswer}
 use Rattle.listing.specs.declared.CountAnswer.{CountAnswer}
 use Rattle.listing.specs.declared.CountAnswer.the-variants as N
 use Rattle.listing.specs.Listing.{countAnswer, listingAnswer}
@@ -22,7 +23,7 @@ use Rattle.settle.specs.declared.SettleAnswer.{SettleAnswer}
 use Rattle.settle.specs.declared.SettleAnswer.the-variants as S
 use Rattle.settle.specs.Answers.{lengthAnswer, settleAnswer}
 use Rattle.positions.specs.Points.{PointsAt}
-use Rattle.positions.proofs.Points.{check-points, lookup-points, count-points, listing-points, length-named, settle-named}
+use Rattle.positions.proofs.Points.{check-points, lookup-points, fragment-points, count-points, listing-points, length-named, settle-named}
 
 pub minishard-fits : (spec : Sharding) (shard : ℕ) (file : List ℕ) {a : CheckAnswer} {k m p : ℕ} → a ≡ checkAnswer spec shard file → a ≡ Faulty k m p → m + 1 < 16777216
 minishard-fits spec shard file {a} {k} {m} {p} e h =
@@ -41,6 +42,9 @@ module _ (spec : Sharding) (shard : ℕ) (file : List ℕ) where
   pub lookup-fits : (id : ℕ) {a : LookupAnswer} {k p : ℕ} → a ≡ lookupAnswer spec shard file id → a ≡ L.Faulty k p → p + 1 < 4294967296
   lookup-fits id {a} {k} {p} e h = fits _ k p (lookup-points spec shard file id k p (sym e ∙ h))
 
+  pub fragment-fits : (id level node : ℕ) {a : LookupAnswer} {k p : ℕ} → a ≡ fragmentAnswer spec shard file id level node → a ≡ L.Faulty k p → p + 1 < 4294967296
+  fragment-fits id level node {a} {k} {p} e h = fits _ k p (fragment-points spec shard file id level node k p (sym e ∙ h))
+
   pub count-fits : (m : ℕ) {a : CountAnswer} {k p : ℕ} → a ≡ countAnswer spec shard file m → a ≡ N.Faulty k p → p + 1 < 4294967296
   count-fits m {a} {k} {p} e h = fits m k p (count-points spec shard file m k p (sym e ∙ h))
 
@@ -53,4 +57,4 @@ module _ (spec : Sharding) (shard : ℕ) (file : List ℕ) where
   pub settle-fits : (out : List ℕ) {a : SettleAnswer} {k p : ℕ} → a ≡ settleAnswer spec shard file out → a ≡ S.Faulty k p → p + 1 < 4294967296
   settle-fits out {a} {k} {p} e h = let t = settle-named spec shard file out k p (sym e ∙ h) in fits (t .minishard) k p (t .points)
 
-pub ruleset fitting = (minishard-fits, check-fits, lookup-fits, count-fits, listing-fits, length-fits, settle-fits, needs)
+pub ruleset fitting = (minishard-fits, check-fits, lookup-fits, fragment-fits, count-fits, listing-fits, length-fits, settle-fits, needs)

@@ -10,10 +10,10 @@ abbrev pub cardWord : CardAnswer → ℕ
 cardWord (Says card) = 0
 cardWord (Refused k) = k
 
--- preshift, hash, minishard bits, shard bits
+-- preshift, hash, minishard bits, shard bits, kind
 abbrev pub shardingAfter : CardAnswer → List ℕ → List ℕ
 shardingAfter (Says card) before =
-    card .sharding .preshift ∷ card .sharding .hash ∷ minishardBits (card .sharding) ∷ shardBits (card .sharding) ∷ []
+    card .sharding .preshift ∷ card .sharding .hash ∷ minishardBits (card .sharding) ∷ shardBits (card .sharding) ∷ card .sharding .kind ∷ []
 shardingAfter (Refused k) before = before
 
 abbrev pub volumeAfter : CardAnswer → List ℕ → List ℕ

@@ -9,14 +9,14 @@ use grid::Volume;
 use refusal::Written;
 use sharding::Sharding;
 
-// What a deposit card of these bytes says. Writes preshift, hash, minishard bits and shard bits to
-// `sharding`, and volume size, chunk size and voxel offset along x, y and z to `size`, `chunk` and
+// What a deposit card of these bytes says. Writes preshift, hash, minishard bits, shard bits and kind
+// to `sharding`, and volume size, chunk size and voxel offset along x, y and z to `size`, `chunk` and
 // `offset`. To use them in other calls, copy the numbers into the structs one by one.
 // Refusals: 14, 1, 2, 3
 #[no_mangle]
 pub extern "C" fn coronagamba_card_read(
     bytes: &[u8],
-    sharding: &mut [u8; 4],
+    sharding: &mut [u8; 5],
     size: &mut [u32; 3],
     chunk: &mut [u32; 3],
     offset: &mut [i32; 3],
@@ -30,7 +30,7 @@ pub extern "C" fn coronagamba_card_read(
     match card::read_card(bytes) {
         CardAnswer::Says(card) => {
             let volume = card.volume;
-            *sharding = crate::numbers::four(card.sharding);
+            *sharding = crate::numbers::five(card.sharding);
             *size = crate::numbers::three_extents(volume.size);
             *chunk = crate::numbers::three_extents(volume.chunk);
             *offset = crate::numbers::three_offsets(volume.offset);
@@ -40,7 +40,8 @@ pub extern "C" fn coronagamba_card_read(
     }
 }
 
-// A deposit card. Writes its bytes, 46 or 61, to the front of `out`, and their number to `length`.
+// A deposit card. Writes its bytes, 46 or 61, of a mesh 50 or 65, to the front of `out`, and their
+// number to `length`.
 // Refusals: 1, 2, 3, 13 where `out` is shorter than the card
 #[no_mangle]
 pub extern "C" fn coronagamba_card_write(

@@ -5,13 +5,13 @@ ghost use Rattle.coronagamba.specs.Cards.{cardWord, shardingAfter, volum
 use card::CardAnswer;
 
 // What the text of an info file says of its scale number `scale`, from 0: the numbers that a deposit
-// card of it says, written as coronagamba_card_read writes them.
+// card of it says, written as coronagamba_card_read writes them. The kind is 0, volume.
 // Refusals: 19, 20, 1, 2, 3
 #[no_mangle]
 pub extern "C" fn coronagamba_info_read(
     text: &[u8],
     scale: u64,
-    sharding: &mut [u8; 4],
+    sharding: &mut [u8; 5],
     size: &mut [u32; 3],
     chunk: &mut [u32; 3],
     offset: &mut [i32; 3],
@@ -25,7 +25,7 @@ pub extern "C" fn coronagamba_info_read(
     match info::read_info(text, scale) {
         CardAnswer::Says(card) => {
             let volume = card.volume;
-            *sharding = crate::numbers::four(card.sharding);
+            *sharding = crate::numbers::five(card.sharding);
             *size = crate::numbers::three_extents(volume.size);
             *chunk = crate::numbers::three_extents(volume.chunk);
             *offset = crate::numbers::three_offsets(volume.offset);

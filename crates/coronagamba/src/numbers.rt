@@ -6,14 +6,15 @@ use grid::Extents;
 use grid::Offset;
 use sharding::Sharding;
 
-pub fn four(sharding: Sharding) -> [u8; 4]
-    ensures { λ r. ⌜ r ≡ sharding .preshift ∷ sharding .hash ∷ minishardBits sharding ∷ shardBits sharding ∷ [] ⌝ }
+pub fn five(sharding: Sharding) -> [u8; 5]
+    ensures { λ r. ⌜ r ≡ sharding .preshift ∷ sharding .hash ∷ minishardBits sharding ∷ shardBits sharding ∷ sharding .kind ∷ [] ⌝ }
 {
     [
         sharding.preshift,
         sharding.hash,
         sharding.minishard_bits,
         sharding.shard_bits,
+        sharding.kind,
     ]
 }
 

@@ -1,9 +1,10 @@
-// Shards: lookup, the check, listings, settling.
+// Shards: lookup, fragments, the check, listings, settling.
 ghost use mathlib.Core.Path.{_≡_};
 ghost use Prim.Native.Nat.{_+_, _<_};
 ghost use mathlib.Core.Option.{none, some};
 ghost use Rattle.shard.specs.File.{checkAnswer};
 ghost use Rattle.lookup.specs.Find.{lookupAnswer};
+ghost use Rattle.fragment.specs.Fragment.{fragmentAnswer};
 ghost use Rattle.listing.specs.Listing.{countAnswer, listingAnswer, listingLeft};
 ghost use Rattle.settle.specs.Answers.{lengthAnswer, settleAnswer, settleLeft};
 ghost use Rattle.coronagamba.specs.Word.{word};
@@ -30,10 +31,10 @@ fn fault_word(refusal: u8, minishard: u64, position: u64) -> u64
     refusal as u64 + 256 * (minishard + 1) + 4294967296 * (position + 1)
 }
 
-// Where the chunk of an id lies in the shard's file. Writes where it begins, counted from the
-// file's first byte, to `start`, and its number of bytes to `length`. Of the minishards it judges
-// the id's own alone.
-// Refusals: 1, 5, 6, 7 to 11 of the id's minishard with the position, 12
+// Where the chunk of an id lies in the shard's file; in a mesh the chunk is a manifest. Writes where
+// it begins, counted from the file's first byte, to `start`, and its number of bytes to `length`. Of
+// the minishards it judges the id's own alone.
+// Refusals: 1, 5, 6, 7 to 11, 15 to 17 (mesh), 21 (mesh) of the id's minishard with the position, 12
 #[no_mangle]
 pub extern "C" fn coronagamba_lookup(
     sharding: Sharding,
@@ -64,9 +65,49 @@ pub extern "C" fn coronagamba_lookup(
     }
 }
 
-// Whether the whole shard is sound. Writes nothing. Where a minishard has a fault, the answer word
-// names the first such minishard and the position.
-// Refusals: 1, 5, 6, 7 to 11 with the minishard and the position
+// Where the fragment of a node lies in a mesh shard's file, by the id of its manifest, its level and
+// its number, both counted from 0. A manifest's fragments are the bytes right before it, as many as
+// its sizes make together, one after the other in the order of its nodes. Writes where the fragment
+// begins, counted from the file's first byte, to `start`, and its number of bytes to `length`. Of the
+// minishards it judges the id's own alone.
+// Refusals: 1, 5, 6, 7 to 11, 15 to 17 (mesh), 21 (mesh) of the id's minishard with the position, 12,
+// 18 also where the kind is volume
+#[no_mangle]
+pub extern "C" fn coronagamba_fragment(
+    sharding: Sharding,
+    shard: u64,
+    file: &[u8],
+    id: u64,
+    level: u32,
+    node: u32,
+    start: &mut u64,
+    length: &mut u64,
+) -> u64
+    ensures answer { λ r. ⌜ r ≡ lookupWord (fragmentAnswer sharding shard (now (file .entry)) id level node) ⌝ }
+    ensures start { λ _. ⌜ now (start .exit) ≡ startAfter (fragmentAnswer sharding shard (now (file .entry)) id level node) (now (start .entry)) ⌝ }
+    ensures length { λ _. ⌜ now (length .exit) ≡ sizeAfter (fragmentAnswer sharding shard (now (file .entry)) id level node) (now (length .entry)) ⌝ }
+{
+    match fragment::fragment(sharding, shard, file, id, level, node) {
+        LookupAnswer::Found {
+            start: begin,
+            length: bytes,
+        } => {
+            *start = begin as u64;
+            *length = bytes as u64;
+            0
+        }
+        LookupAnswer::Refused(refusal) => refusal as u64,
+        LookupAnswer::Faulty {
+            number: refusal,
+            position,
+        } => position_word(refusal, position),
+    }
+}
+
+// Whether the whole shard is sound; in a mesh each chunk must be a sound manifest with its fragments
+// before it. Writes nothing. Where a minishard has a fault, the answer word names the first such
+// minishard and the position.
+// Refusals: 1, 5, 6, 7 to 11, 15 to 17 (mesh), 21 (mesh) with the minishard and the position
 #[no_mangle]
 pub extern "C" fn coronagamba_check(sharding: Sharding, shard: u64, file: &[u8]) -> u64
     ensures answer { λ r. ⌜ r ≡ checkWord (checkAnswer sharding shard (now (file .entry))) ⌝ }
@@ -83,8 +124,8 @@ pub extern "C" fn coronagamba_check(sharding: Sharding, shard: u64, file: &[u8])
 }
 
 // How many chunks a minishard lists. Writes the number to `chunks`.
-// Refusals: 1, 5 (also for a minishard that is not there), 6, 7 to 11 of that minishard with the
-// position
+// Refusals: 1, 5 (also for a minishard that is not there), 6, 7 to 11, 15 to 17 (mesh), 21 (mesh) of
+// that minishard with the position
 #[no_mangle]
 pub extern "C" fn coronagamba_listed_count(
     sharding: Sharding,
@@ -112,8 +153,8 @@ pub extern "C" fn coronagamba_listed_count(
 // The chunks that a minishard lists, in stored order. Writes three numbers for each to the front of
 // `out`: id, start counted from the file's first byte, length in bytes. Writes how many numbers
 // these are, three times what coronagamba_listed_count gives, to `length`.
-// Refusals: 1, 5 (also for a minishard that is not there), 6, 7 to 11 of that minishard with the
-// position, 13 where `out` has room for fewer
+// Refusals: 1, 5 (also for a minishard that is not there), 6, 7 to 11, 15 to 17 (mesh), 21 (mesh) of
+// that minishard with the position, 13 where `out` has room for fewer
 #[no_mangle]
 pub extern "C" fn coronagamba_listing(
     sharding: Sharding,
@@ -141,8 +182,8 @@ pub extern "C" fn coronagamba_listing(
 }
 
 // How many bytes a shard's settled form has. Writes the number to `length`.
-// Refusals: 1, 5, 6, 7 to 11 of the first faulty minishard with the position, 13 where the form
-// would pass 1 GiB
+// Refusals: 1, 5, 6, 7 to 11, 15 to 17 (mesh), 21 (mesh) of the first faulty minishard with the
+// position, 13 where the form would pass 1 GiB
 #[no_mangle]
 pub extern "C" fn coronagamba_settled_length(
     sharding: Sharding,
@@ -166,10 +207,11 @@ pub extern "C" fn coronagamba_settled_length(
     }
 }
 
-// A shard's settled form. Writes it to the front of `out`, which needs the room that
-// coronagamba_settled_length tells, and its number of bytes to `length`.
-// Refusals: 1, 5, 6, 7 to 11 of the first faulty minishard with the position, 13 where `out` is
-// shorter than the form or the form would pass 1 GiB
+// A shard's settled form; in a mesh each manifest has its fragments right before it there too. Writes
+// it to the front of `out`, which needs the room that coronagamba_settled_length tells, and its
+// number of bytes to `length`.
+// Refusals: 1, 5, 6, 7 to 11, 15 to 17 (mesh), 21 (mesh) of the first faulty minishard with the
+// position, 13 where `out` is shorter than the form or the form would pass 1 GiB
 #[no_mangle]
 pub extern "C" fn coronagamba_settle(
     sharding: Sharding,

@@ -1,4 +1,4 @@
--- What settings give fits a card: each number has its field's width.
+-- What settings give fits a card: each number has its field's width, and the kind is volume.
 use Prim.Native.Nat.{ℕ, zero, suc, _+_, _^_, _≤_, _<_}
 use mathlib.Core.Path.{_≡_, refl}
 use mathlib.Core.Bool.{Bool, true, false, _&&_}
@@ -13,6 +13,7 @@ use Rattle.text.specs.Bytes.{isDigit}
 use Rattle.text.specs.Parts.{digits}
 use Rattle.grid.specs.Grid.{InU32}
 use Rattle.grid.specs.declared.Offset.{Offset}
+use Rattle.sharding.specs.Specification.{volume}
 use Rattle.card.specs.Layout.{bits32, InI32, Ranged}
 use Rattle.card.proofs.Words.{signed-in}
 use Rattle.text.specs.declared.Found.{Found}
@@ -172,7 +173,7 @@ module _ (s : List ℕ) where
 -- ---- the sharding too
 
 abbrev ShardingHeld : ShardingIn → Type 0
-ShardingHeld (ShardingIs g) = (g .preshift < 256) × (g .hash < 256) × (g .«minishard_bits» < 256) × (g .«shard_bits» < 256)
+ShardingHeld (ShardingIs g) = (g .preshift < 256) × (g .hash < 256) × (g .«minishard_bits» < 256) × (g .«shard_bits» < 256) × (g .kind ≡ volume)
 ShardingHeld NoSharding = Unit {0}
 
 sharding-of-held : (a h m n : ℕ) → ShardingHeld (shardingOf a h m n)
@@ -180,12 +181,12 @@ unfolding shardingOf
 sharding-of-held a h m n = go (ltb a 256 && (ltb h 256 && (ltb m 256 && ltb n 256))) refl
   where
     go : (b : Bool) → ltb a 256 && (ltb h 256 && (ltb m 256 && ltb n 256)) ≡ b
-        → ShardingHeld (pick b (ShardingIs (record { preshift = a; hash = h; «minishard_bits» = m; «shard_bits» = n })) NoSharding)
+        → ShardingHeld (pick b (ShardingIs (record { preshift = a; hash = h; «minishard_bits» = m; «shard_bits» = n; kind = volume })) NoSharding)
     go true e =
         let q = both (ltb a 256) (ltb h 256 && (ltb m 256 && ltb n 256)) e in
         let r = both (ltb h 256) (ltb m 256 && ltb n 256) (q .1) in
         let t = both (ltb m 256) (ltb n 256) (r .1) in
-        (ltb-true a 256 (q .0), ltb-true h 256 (r .0), ltb-true m 256 (t .0), ltb-true n 256 (t .1))
+        (ltb-true a 256 (q .0), ltb-true h 256 (r .0), ltb-true m 256 (t .0), ltb-true n 256 (t .1), refl)
     go false e = tt
 
 numbers-held : (p q r t : Number) → ShardingHeld (numbersOf p q r t)
@@ -213,7 +214,7 @@ sharding-held s p = named-held s (needed shardingName s p)
 -- ---- the settings
 
 abbrev pub SettingsHeld : Settings → Type 0
-SettingsHeld (SettingsAre c) = Ranged c
+SettingsHeld (SettingsAre c) = Ranged c × (c .sharding .kind ≡ volume)
 SettingsHeld NoSettings = Unit {0}
 
 abbrev volumeBy : ExtentsIn → ExtentsIn → OffsetIn → VolumeIn
@@ -226,18 +227,20 @@ settings-by NoSharding a b d h i j k = tt
 settings-by (ShardingIs g) NoExtents b d h i j k = tt
 settings-by (ShardingIs g) (ExtentsAre a) NoExtents d h i j k = tt
 settings-by (ShardingIs g) (ExtentsAre a) (ExtentsAre b) NoOffset h i j k = tt
-settings-by (ShardingIs g) (ExtentsAre a) (ExtentsAre b) (OffsetIs o) h i j k =
-    record {
-      preshift = h .0;
-      hash = h .1;
-      minishard = h .2;
-      shard = h .3;
-      size = i;
-      chunk = j;
-      x = k .0;
-      y = k .1;
-      z = k .2;
-    }
+settings-by (ShardingIs g) (ExtentsAre a) (ExtentsAre b) (OffsetIs o) h i j k = (
+  record {
+    preshift = h .0;
+    hash = h .1;
+    minishard = h .2;
+    shard = h .3;
+    size = i;
+    chunk = j;
+    x = k .0;
+    y = k .1;
+    z = k .2;
+  },
+  h .4,
+)
 
 settings-held : (s : List ℕ) (p : ℕ) → SettingsHeld (settingsAt s p)
 unfolding settingsAt volumeIn

@@ -3,7 +3,7 @@ use Prim.Native.Nat.{ℕ, zero, suc, _≤_, _<_}
 use mathlib.Core.Path.{_≡_, refl, sym, ap, _∙_}
 use mathlib.Core.Bool.{Bool, true, false, not}
 use mathlib.Core.List.{List}
-use mathlib.Core.Logic.{_↔_, _⊎_, inl, inr}
+use mathlib.Core.Logic.{_↔_}
 use native.Mathlib.Omega.{arith}
 use lib.ListN.{length, take}
 use Rattle.refusal.specs.Choice.{pick}
@@ -16,7 +16,7 @@ use Rattle.json.proofs.Agree.{json-sound, json-complete}
 use Rattle.json.proofs.Encoded.{json-utf8}
 use Rattle.grid.specs.Grid.{gridOf, zeroExtent}
 use Rattle.grid.specs.Key.{tooManyBits}
-use Rattle.sharding.specs.Specification.{allowed}
+use Rattle.sharding.specs.Specification.{volume, allowed}
 use Rattle.card.specs.declared.Card.{Card}
 use Rattle.card.specs.declared.CardAnswer.the-variants.{Says, Refused}
 use Rattle.card.specs.Layout.{cardBytes, Ranged}
@@ -45,16 +45,16 @@ judged-by (suc f) c d e = let z : _≡_ {A = ℕ} 0 1 = cc in absurd (omega arit
 
 accepted-by : (t : Bool) (w : Settings) (c : Card) → SettingsHeld w
     → unless Refused (pick (not t) 19 (pick (noSettings w) 20 (fault (recordOf w)))) (Says (recordOf w)) ≡ Says c
-    → (t ≡ true) × (w ≡ SettingsAre c) × (Ranged c) × (fault c ≡ 0)
+    → (t ≡ true) × (w ≡ SettingsAre c) × (Ranged c) × (fault c ≡ 0) × (c .sharding .kind ≡ volume)
 unfolding unless noSettings recordOf
 accepted-by false w c h e = let z : _≡_ {A = ℕ} 0 1 = cc in absurd (omega arith)
 accepted-by true NoSettings c h e = let z : _≡_ {A = ℕ} 0 1 = cc in absurd (omega arith)
 accepted-by true (SettingsAre d) c h e =
     let q = judged-by (fault d) c d e in
-    (refl, ap SettingsAre (q .1), rw (q .1) at h, ap fault (sym (q .1)) ∙ q .0)
+    (refl, ap SettingsAre (q .1), rw (q .1) at (h .0), ap fault (sym (q .1)) ∙ q .0, rw (q .1) at (h .1))
 
--- an accepted text is JSON, its settings give the record, and the record fits a card and passes the card's own checks
-pub accepted : (s : List ℕ) (k : ℕ) (c : Card) → infoAnswer s k ≡ Says c → (isJson deepest s ≡ true) × (settingsOf s k ≡ SettingsAre c) × (Ranged c) × (fault c ≡ 0)
+-- an accepted text is JSON, its settings give the record, and the record fits a card, passes the card's own checks and is of a volume
+pub accepted : (s : List ℕ) (k : ℕ) (c : Card) → infoAnswer s k ≡ Says c → (isJson deepest s ≡ true) × (settingsOf s k ≡ SettingsAre c) × (Ranged c) × (fault c ≡ 0) × (c .sharding .kind ≡ volume)
 unfolding infoAnswer
 accepted s k c e = accepted-by (isJson deepest s) (settingsOf s k) c (of-held s k) (rw (first-is s k) at e)
 
@@ -155,6 +155,7 @@ meaning =
       answer = by-document;
       unsaid = unsaid-20;
       given = given-said;
+      kind = λ s k c e. accepted s k c e .4;
       alike = alike;
       elements = elements-own;
       members = members-own;

@@ -11,6 +11,7 @@ use Rattle.strings.specs.Chars.{Utf8}
 use Rattle.json.specs.Grammar.{deepest}
 use Rattle.json.specs.Rfc.{Value, Listed, Member, JsonText, places, valuePlace}
 use Rattle.places.specs.Places.{elements, members, valueOf}
+use Rattle.sharding.specs.Specification.{volume}
 use Rattle.card.specs.Layout.{cardBytes}
 use Rattle.card.specs.Answers.{recordChecks, readAnswer, writeAnswer, writeLeft}
 use Rattle.card.specs.declared.Card.{Card}
@@ -33,6 +34,8 @@ pub record InfoMeaning : Type 0 where
   pub unsaid : (s : List ℕ) (k : ℕ) → JsonText deepest s → (infoAnswer s k ≡ Refused 20) ↔ (settingsIn k (document s) ≡ Wrong)
   -- and a record exactly where it says that record, and 1, 2 and 3 do not hold of it: its fields are the numbers that stand in the members named
   pub given : (s : List ℕ) (k : ℕ) (c : Card) → (infoAnswer s k ≡ Says c) ↔ (JsonText deepest s × (settingsIn k (document s) ≡ Are c) × (firstNumber (recordChecks c) ≡ 0))
+  -- of a volume (02, order 7)
+  pub kind : (s : List ℕ) (k : ℕ) (c : Card) → infoAnswer s k ≡ Says c → c .sharding .kind ≡ volume
   -- two JSON texts that say the same document, however it is written, are answered alike
   pub alike : (a b : List ℕ) (k : ℕ) → JsonText deepest a → JsonText deepest b → document a ≡ document b → infoAnswer a k ≡ infoAnswer b k
   -- the elements and members that a document is made of stand where the grammar's own items begin, and a member's value where its value does

@@ -2,6 +2,7 @@
 use Prim.Native.Nat.{ℕ, zero, suc}
 use mathlib.Core.List.{List, [], _∷_, _++_}
 use lib.IntN.{ℤ, pos, negsuc}
+use Rattle.sharding.specs.Specification.{volume}
 use Rattle.card.specs.declared.CardAnswer.{CardAnswer}
 use Rattle.card.specs.declared.CardAnswer.the-variants.{Says, Refused}
 use Rattle.info.specs.Words.{scalesName, sizeName, chunksName, offsetName, shardingName, typeName, preshiftName, hashName, minishardName, shardName, indexName, dataName, typeText, rawText, identityText}
@@ -78,7 +79,7 @@ plain = file (object (sizeOf d1 ∷ chunks ∷ sharding ∷ []) ∷ [])
 abbrev pub saidHashed : ℕ → ℕ → ℤ → CardAnswer
 saidHashed preshift hash x =
     Says (record {
-      sharding = record { preshift = preshift; hash = hash; «minishard_bits» = 0; «shard_bits» = 0 };
+      sharding = record { preshift = preshift; hash = hash; «minishard_bits» = 0; «shard_bits» = 0; kind = volume };
       volume = record { size = record { x = 1; y = 1; z = 1 }; chunk = record { x = 1; y = 1; z = 1 }; offset = record { x = x; y = pos 0; z = pos 0 } };
     })
 

@@ -12,6 +12,7 @@ use Rattle.index.specs.Index.{entryStart, startSteps, sizes, startAt, mostShard
 use Rattle.shard.specs.File.{indexPart, dataPart}
 use Rattle.shard.specs.Sound.{SoundMinishard, SoundShard}
 use Rattle.shard.specs.Items.{Item, Led}
+use Rattle.shard.proofs.Leads.{led-fragments}
 use Rattle.form.specs.Form.{partLength, partsFrom, entriesFrom, settledLength}
 use Rattle.form.specs.Sorted.{Member}
 use Rattle.form.specs.Content.{idOf, formOf, formLength, fileContent, fileForm, fileFormLength}
@@ -20,6 +21,19 @@ use Rattle.form.proofs.Measures.{length-content, length-form, length-pa
 use Rattle.form.proofs.Rows.{noItem, lead-offset, offset-size}
 use Rattle.form.proofs.ReadBack.{Readable, index-back, data-back, placeFrom, place-bound, entry-span, finish-most, reads-part, content-back}
 use Rattle.form.proofs.SoundContent.{Listed, listed-content, readable-content}
+
+-- where a shard is read as such items, each lead lies within the data
+part-led : {spec : Sharding} {shard : ℕ} {c : List (List Item)} (good : Readable spec c) (m : ℕ) → m < length c → Listed spec shard m (getD c m []) → (i : ℕ) → i < length (getD c m [])
+    → Led spec (partsFrom 0 c) (startAt (startSteps (partsFrom 0 c) (entryStart (row (entriesFrom 0 c)) m) (length (getD c m []))) (sizes (partsFrom 0 c) (entryStart (row (entriesFrom 0 c)) m) (length (getD c m []))) i) (sizes (partsFrom 0 c) (entryStart (row (entriesFrom 0 c)) m) (length (getD c m [])) i)
+part-led {spec} {c = c} good m l g i h =
+    let xs = getD c m [] in
+    let x = getD xs i noItem in
+    let t = reads-part good m l .the-items i h in
+    let e = good .each m l .led x (member-at noItem xs i h) in
+    record {
+      told = λ k. rw (t .the-body) (g .manifests k x (member-at noItem xs i h));
+      before = rw (t .the-body) (omega (arith, t .the-start, e, lead-offset xs i h));
+    }
 
 -- a minishard that is read as such items, and ends within the file, is sound
 sound-part : {spec : Sharding} {shard : ℕ} {c : List (List Item)} (good : Readable spec c) (m : ℕ) → m < length c → Listed spec shard m (getD c m [])
@@ -50,16 +64,9 @@ sound-part {c = c} good m l g =
           let h : i < length xs = omega (arith, r .the-count) in
           let t = r .the-items i h in
           rw (r .the-count) (omega (arith, t .the-start, t .the-size, offset-size xs i h));
+      manifests = λ mesh i k. rw (r .the-count) (part-led good m l g i (omega (arith, r .the-count)) .told mesh);
+      fragments = λ mesh i k. rw (r .the-count) (led-fragments (part-led good m l g i (omega (arith, r .the-count))) mesh);
     }
-
--- and each lead lies within the form
-pub part-led : {spec : Sharding} {c : List (List Item)} (good : Readable spec c) (m : ℕ) → m < length c → (i : ℕ) → i < length (getD c m [])
-    → Led spec (partsFrom 0 c) (startAt (startSteps (partsFrom 0 c) (entryStart (row (entriesFrom 0 c)) m) (length (getD c m []))) (sizes (partsFrom 0 c) (entryStart (row (entriesFrom 0 c)) m) (length (getD c m []))) i) (sizes (partsFrom 0 c) (entryStart (row (entriesFrom 0 c)) m) (length (getD c m [])) i)
-part-led {spec} {c} good m l i h =
-    let xs = getD c m [] in
-    let t = reads-part good m l .the-items i h in
-    let e = good .each m l .led (getD xs i noItem) (member-at noItem xs i h) in
-    record { before = rw (t .the-body) (omega (arith, t .the-start, e, lead-offset xs i h)) }
 
 module _ {spec : Sharding} {shard : ℕ} {a : List ℕ} (sound : SoundShard spec shard a) (short : fileFormLength spec a ≤ mostShardBytes) where
   count : length (fileContent spec a) ≡ minishardCount spec

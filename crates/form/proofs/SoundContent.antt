@@ -1,13 +1,15 @@
 -- What a sound minishard gives of its items, in whatever order they stand, and so of the content of a sound shard.
 use Prim.Native.Nat.{ℕ, zero, suc, _+_, _^_, _≤_, _<_}
 use mathlib.Core.Path.{_≡_, ap, _∙_}
+use mathlib.Core.Bool.{true}
 use mathlib.Core.List.{List, []}
 use native.Mathlib.Omega.{arith}
 use native.Mathlib.Nat.{not-suc-le-zero}
 use lib.ListN.{length, getD}
 use Rattle.sharding.specs.declared.Sharding.{Sharding}
-use Rattle.sharding.specs.Specification.{minishardCount}
+use Rattle.sharding.specs.Specification.{isMesh, minishardCount}
 use Rattle.sharding.specs.Place.{shardOf, minishardOf}
+use Rattle.manifest.specs.Soundness.{Sound}
 use Rattle.index.specs.Index.{entryCount, idSteps, idAt, mostShardBytes}
 use Rattle.shard.specs.File.{indexPart, dataPart}
 use Rattle.shard.specs.Sound.{SoundFrom, SoundShard}
@@ -30,6 +32,7 @@ pub record Listed (spec : Sharding) (shard m : ℕ) (xs : List Item) : Type 0 wh
   pub ours : (x : Item) → Member x xs → shardOf spec (x .id) ≡ shard
   pub here : (x : Item) → Member x xs → minishardOf spec (x .id) ≡ m
   pub led : (x : Item) → Member x xs → length (x .lead) ≡ leadLength spec (x .body)
+  pub manifests : isMesh spec ≡ true → (x : Item) → Member x xs → Sound (x .body)
 
 pub sound-listed : {spec : Sharding} {shard m : ℕ} {d : List ℕ} {s e : ℕ} → SoundFrom spec shard m d s e → Listed spec shard m (itemsAt spec d s (entryCount s e))
 unfolding itemAt itemOf
@@ -39,7 +42,8 @@ sound-listed {spec} {shard} {m} {d} {s} {e} g =
       bounded = each-item spec d s (entryCount s e) (λ (x : Item). x .id < 2 ^ 64) (λ i l. id-fits (idSteps d s) i);
       ours = each-item spec d s (entryCount s e) (λ (x : Item). shardOf spec (x .id) ≡ shard) (g .ours);
       here = each-item spec d s (entryCount s e) (λ (x : Item). minishardOf spec (x .id) ≡ m) (g .here);
-      led = each-item spec d s (entryCount s e) (λ (x : Item). length (x .lead) ≡ leadLength spec (x .body)) (λ i l. item-lead spec d (idAt (idSteps d s) i) _ _ (g .inside i l) (sound-led g i l));
+      led = each-item spec d s (entryCount s e) (λ (x : Item). length (x .lead) ≡ leadLength spec (x .body)) (λ i l. item-lead spec d (idAt (idSteps d s) i) _ _ (g .inside i l) (sound-led g i l .before));
+      manifests = λ k. each-item spec d s (entryCount s e) (λ (x : Item). Sound (x .body)) (g .manifests k);
     }
 
 -- what holds of them holds of them sorted
@@ -52,6 +56,7 @@ module _ {spec : Sharding} {shard m : ℕ} {xs : List Item} (g : Listed spec sha
     ours = λ x h. g .ours x (sort-mem idOf xs h);
     here = λ x h. g .here x (sort-mem idOf xs h);
     led = λ x h. g .led x (sort-mem idOf xs h);
+    manifests = λ k x h. g .manifests k x (sort-mem idOf xs h);
   }
 
   listed-form : InForm spec (byId xs)

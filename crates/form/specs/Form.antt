@@ -6,7 +6,7 @@ use lib.ListN.{length}
 use Rattle.endian.specs.Little.{row}
 use Rattle.shard.specs.Items.{Item}
 
--- the chunk bytes of a minishard, one after the other
+-- the chunks of a minishard, one after the other, each with its lead right before it
 unfoldable pub chunksOf : List Item → List ℕ
 chunksOf [] = []
 chunksOf (x ∷ xs) = x .lead ++ (x .body ++ chunksOf xs)
@@ -32,7 +32,7 @@ sizeRow (x ∷ xs) = length (x .body) ∷ sizeRow xs
 unfoldable pub indexOf : ℕ → List Item → List ℕ
 indexOf p items = row (idRow 0 items) ++ (row (startRow p items) ++ row (sizeRow items))
 
--- a minishard at the place p: its chunk bytes, then its minishard index. One with no item is empty
+-- a minishard at the place p: its chunks and their leads, then its minishard index. One with no item is empty
 unfoldable pub partOf : ℕ → List Item → List ℕ
 partOf p items = chunksOf items ++ indexOf p items
 

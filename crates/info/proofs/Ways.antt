@@ -304,7 +304,7 @@ module _ (a h m n : ℕ) where
     pub fits-4 : Fits w8 n
     fits-4 = omega (arith, ltb-true n 256 (q3 .1))
 
-    pub sharding-fits : ShardingIs (record { preshift = a; hash = h; «minishard_bits» = m; «shard_bits» = n }) ≡ shardingOf a h m n
+    pub sharding-fits : ShardingIs (record { preshift = a; hash = h; «minishard_bits» = m; «shard_bits» = n; kind = 0 }) ≡ shardingOf a h m n
     unfolding shardingOf
     sharding-fits = rw e
 

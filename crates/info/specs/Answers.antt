@@ -4,6 +4,7 @@ use mathlib.Core.Bool.{Bool, true, false, not}
 use mathlib.Core.List.{List, _∷_}
 use Rattle.refusal.specs.Checks.{Check, check, answered}
 use Rattle.json.specs.Grammar.{deepest, isJson}
+use Rattle.sharding.specs.Specification.{volume}
 use Rattle.card.specs.Answers.{recordChecks}
 use Rattle.card.specs.Reading.{zeros}
 use Rattle.card.specs.declared.Card.{Card}
@@ -23,7 +24,7 @@ unfoldable pub recordOf : Settings → Card
 recordOf (Are c) = c
 recordOf Wrong =
     record {
-      sharding = record { preshift = 0; hash = 0; «minishard_bits» = 0; «shard_bits» = 0 };
+      sharding = record { preshift = 0; hash = 0; «minishard_bits» = 0; «shard_bits» = 0; kind = volume };
       volume = record { size = record { x = 0; y = 0; z = 0 }; chunk = record { x = 0; y = 0; z = 0 }; offset = zeros };
     }
 

@@ -10,6 +10,7 @@ use Rattle.grid.specs.declared.Extents.{Extents}
 use Rattle.grid.specs.declared.Offset.{Offset}
 use Rattle.grid.specs.declared.Volume.{Volume}
 use Rattle.sharding.specs.declared.Sharding.{Sharding}
+use Rattle.sharding.specs.Specification.{volume}
 use Rattle.card.specs.Reading.{signed32, zeros}
 use Rattle.text.specs.declared.Found.{Found}
 use Rattle.text.specs.declared.Found.the-variants.{At, Nothing}
@@ -125,11 +126,11 @@ hashIn s p = whenAt (needed hashName s p) Wrong (hashAt s)
 unfoldable pub numberIn : List ℕ → List ℕ → ℕ → Number
 numberIn name s p = whenAt (needed name s p) Wrong (naturalAt s)
 
--- "A number its card field cannot hold is of the wrong kind"
+-- "A number its card field cannot hold is of the wrong kind"; "the info reader yields volume" (02, order 7)
 unfoldable pub shardingOf : ℕ → ℕ → ℕ → ℕ → ShardingIn
 shardingOf a h m n =
     pick (ltb a 256 && (ltb h 256 && (ltb m 256 && ltb n 256)))
-    (ShardingIs (record { preshift = a; hash = h; «minishard_bits» = m; «shard_bits» = n })) NoSharding
+    (ShardingIs (record { preshift = a; hash = h; «minishard_bits» = m; «shard_bits» = n; kind = volume })) NoSharding
 
 unfoldable pub numbersOf : Number → Number → Number → Number → ShardingIn
 numbersOf p q r t =

@@ -203,7 +203,7 @@ fn number_by(s: &[u8], given: Given) -> Number
     wholes::natural(s, v)
 }
 
-// The numbers as a card's fields hold them.
+// The numbers as a card's fields hold them, of a volume.
 fn sharding_of(a: u32, h: u32, m: u32, n: u32) -> ShardingIn
     ensures { λ r. ⌜ r ≡ shardingOf a h m n ⌝ }
 {
@@ -213,6 +213,7 @@ fn sharding_of(a: u32, h: u32, m: u32, n: u32) -> ShardingIn
             hash: h as u8,
             minishard_bits: m as u8,
             shard_bits: n as u8,
+            kind: 0,
         });
     }
     ShardingIn::Wrong

@@ -1,5 +1,5 @@
--- The listing of a minishard, in stored order: three numbers for each entry (01, 'From id to shard' and 'Refusal numbers': 1, 5, 6, then 7 to 11
--- of that minishard, with their position, then 13).
+-- The listing of a minishard, in stored order: three numbers for each entry (01, 'From id to shard' and 'Refusal numbers'; 02, order 7): 1, 5, 6,
+-- then 7 to 11 of that minishard, for a mesh also 15 to 17 and 21, with their position, then 13.
 use Prim.Native.Nat.{ℕ, zero, suc, _+_}
 use mathlib.Core.Bool.{_||_}
 use mathlib.Core.List.{List, [], _∷_, _++_}

@@ -11,7 +11,8 @@ use sharding::inner::is_allowed;
 use sharding::inner::minishard_count;
 use sharding::inner::shard_count;
 
-// How many there are. 7 to 11 come with the byte position of what is wrong, counted from the beginning of the shard.
+// How many there are. 7 to 11, for a mesh also 15 to 17 and 21, come with the byte position of what is wrong, counted from the
+// beginning of the shard.
 pub enum CountAnswer {
     Count(usize),
     Refused(u8),

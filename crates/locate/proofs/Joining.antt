@@ -1,7 +1,7 @@
 -- What the program prints, part by part, is what is to be printed: its input may be cut into blocks of whole cells, and the card may be read before the cells.
 use Prim.Native.Nat.{ℕ, zero, suc, _+_, _*_, _/_, _%_, _≤_, _<_}
 use mathlib.Core.Path.{_≡_, refl, sym, ap, ap₂, _∙_}
-use mathlib.Core.Bool.{Bool, true, false}
+use mathlib.Core.Bool.{Bool, true, false, _||_}
 use mathlib.Core.List.{List, [], _++_, flatMap, append-assoc, append-nil}
 use native.Mathlib.Omega.{arith}
 use native.Mathlib.Nat.{zero-add}
@@ -10,6 +10,7 @@ use lib.Dec.{ltb, eqb}
 use lib.ListN.{length, take, drop, length-append, length-take, length-drop, take-append-drop, drop-of-length-le}
 use lib.Seq.{take-append-seam, drop-append-seam, take-nil}
 use Rattle.refusal.specs.Choice.{pick}
+use Rattle.refusal.proofs.Tests.{neither}
 use Rattle.endian.specs.Little.{leAt}
 use Rattle.endian.proofs.Little.{leAt-drop, leAt-take}
 use Rattle.grid.specs.declared.Cell.{Cell}
@@ -20,7 +21,7 @@ use Rattle.card.specs.Answers.{readAnswer}
 use Rattle.card.proofs.Meaning.{never-14}
 use Rattle.locate.specs.Lines.{lineOf}
 use Rattle.locate.specs.Output.{cellAt, linesBy, cutAfter, textBy, cellsText, framed, printed, output}
-use Rattle.locate.specs.Blocks.{cardLength, blockBytes, cutInto, blocksOf, LastIsShort, printedBlocks, printedParts, Prints}
+use Rattle.locate.specs.Blocks.{isCardLength, cardLength, blockBytes, cutInto, blocksOf, LastIsShort, printedBlocks, printedParts, Prints}
 
 -- ---- blocks of whole cells
 
@@ -79,23 +80,27 @@ blocks-join c a b k e = text-join a b (lineOf c) k e
 
 -- ---- the card's length first
 
-framed-by : (b : Bool) (n : ℕ) (t : List ℕ) → eqb (length t) n ≡ b → (n ≡ 46 → ⊥) → (n ≡ 61 → ⊥) → pick b (readAnswer t) (Refused 14) ≡ Refused 14
-framed-by true n t e f g =
-    let p : length t ≡ n = eqb-true (length t) n e in
-    never-14 t (λ (q : length t ≡ 46). f (sym p ∙ q)) (λ (q : length t ≡ 61). g (sym p ∙ q))
-framed-by false n t e f g = refl
+-- bytes that a card can't have as many of
+no-card : (t : List ℕ) → isCardLength (length t) ≡ false → readAnswer t ≡ Refused 14
+unfolding isCardLength
+no-card t e =
+    let n = length t in
+    let a = neither (eqb n 46) (eqb n 61 || (eqb n 50 || eqb n 65)) e in
+    let b = neither (eqb n 61) (eqb n 50 || eqb n 65) (a .1) in
+    let c = neither (eqb n 50) (eqb n 65) (b .1) in
+    never-14 t (eqb-false n 46 (a .0)) (eqb-false n 61 (b .0)) (eqb-false n 50 (c .0)) (eqb-false n 65 (c .1))
 
-framed-never : (n : ℕ) (t : List ℕ) → (n ≡ 46 → ⊥) → (n ≡ 61 → ⊥) → framed n t ≡ Refused 14
+framed-by : (b : Bool) (t : List ℕ) → (b ≡ true → isCardLength (length t) ≡ false) → pick b (readAnswer t) (Refused 14) ≡ Refused 14
+framed-by true t f = no-card t (f refl)
+framed-by false t f = refl
+
+framed-never : (n : ℕ) (t : List ℕ) → isCardLength n ≡ false → framed n t ≡ Refused 14
 unfolding framed
-framed-never n t f g = framed-by (eqb (length t) n) n t refl f g
-
-empty-by : (b : Bool) → pick b (readAnswer []) (Refused 14) ≡ Refused 14
-empty-by true = never-14 [] (λ (q : 0 ≡ 46). omega arith) (λ (q : 0 ≡ 61). omega arith)
-empty-by false = refl
+framed-never n t f = framed-by (eqb (length t) n) t (λ e. ap isCardLength (eqb-true (length t) n e) ∙ f)
 
 framed-empty : (n : ℕ) → framed n [] ≡ Refused 14
-unfolding framed
-framed-empty n = empty-by (eqb 0 n)
+unfolding framed isCardLength
+framed-empty n = framed-by (eqb 0 n) [] (λ e. refl)
 
 -- a refused card prints one line, whatever follows
 printed-14 : {r : CardAnswer} → r ≡ Refused 14 → (s t : List ℕ) → printed r s ≡ printed (Refused 14) t
@@ -115,14 +120,12 @@ module _ (s : List ℕ) where
       let q : framed 0 (take 0 (drop 2 s)) ≡ Refused 14 = framed-empty 0 in
       printed-14 p (drop (2 + n) s) s ∙ sym (printed-14 q (drop 2 s) s)
 
-  long : (a b : Bool) → eqb (leAt 2 s 0) 46 ≡ a → eqb (leAt 2 s 0) 61 ≡ b → output s ≡ read-by (pick a 46 (pick b 61 0))
+  long : (b : Bool) → isCardLength (leAt 2 s 0) ≡ b → output s ≡ read-by (pick b (leAt 2 s 0) 0)
   unfolding output read-by
-  long true b p q = ap (λ (n : ℕ). printed (framed n (take n (drop 2 s))) (drop (2 + n) s)) (eqb-true (leAt 2 s 0) 46 p)
-  long false true p q = ap (λ (n : ℕ). printed (framed n (take n (drop 2 s))) (drop (2 + n) s)) (eqb-true (leAt 2 s 0) 61 q)
-  long false false p q =
+  long true e = refl
+  long false e =
       let n = leAt 2 s 0 in
-      let f : framed n (take n (drop 2 s)) ≡ Refused 14 = framed-never n (take n (drop 2 s)) (eqb-false n 46 p) (eqb-false n 61 q) in
-      printed-14 f (drop (2 + n) s) s ∙ sym (printed-14 (framed-empty 0) (drop 2 s) s)
+      printed-14 (framed-never n (take n (drop 2 s)) e) (drop (2 + n) s) s ∙ sym (printed-14 (framed-empty 0) (drop 2 s) s)
 
   started : (b : Bool) → ltb (length s) 2 ≡ b → output s ≡ read-by (cardLength (take 2 s))
   unfolding cardLength
@@ -133,7 +136,7 @@ module _ (s : List ℕ) where
   started false e =
       let h : 2 ≤ length s = ltb-false (length s) 2 e in
       let l : 2 ≤ length (take 2 s) = rw length-take (omega arith) in
-      rw (le-ltb (length (take 2 s)) 2 l, leAt-take 2 s 2 0 (omega arith)) (long (eqb (leAt 2 s 0) 46) (eqb (leAt 2 s 0) 61) refl refl)
+      rw (le-ltb (length (take 2 s)) 2 l, leAt-take 2 s 2 0 (omega arith)) (long (isCardLength (leAt 2 s 0)) refl)
 
   -- what the program prints is what comes of the length, then of the bytes that `card_length` gives, then of the rest
   output-is : output s ≡ printed (framed (cardLength (take 2 s)) (take (cardLength (take 2 s)) (drop 2 s))) (drop (2 + cardLength (take 2 s)) s)

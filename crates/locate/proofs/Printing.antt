@@ -1,15 +1,17 @@
 -- What the functions that print lines need, and that they print what the definitions over a card say.
 use Prim.Native.Nat.{ℕ, zero, suc, _+_, _-_, _*_, _/_, _%_, _≤_, _<_}
 use mathlib.Core.Path.{_≡_, refl, sym, ap, _∙_}
-use mathlib.Core.Bool.{Bool, true, false, not}
+use mathlib.Core.Bool.{Bool, true, false, not, _||_, false≢true}
 use mathlib.Core.List.{List, [], _∷_, _++_, append-nil}
 use native.Mathlib.Omega.{arith}
 use borrow.Author.Needs.{needs}
-use borrow.Author.Tests.{lt-ltb, le-ltb, eq-eqb, ne-eqb, not-true, not-false}
+use borrow.Author.Tests.{eqb-true, lt-ltb, le-ltb, eq-eqb, ne-eqb, not-true, not-false}
+use lib.Dec.{eqb}
 use lib.ListN.{length, length-append}
 use mir.Syntax.{w64}
 use mir.Val.{Fits}
 use Rattle.refusal.specs.Choice.{pick}
+use Rattle.refusal.proofs.Tests.{told-no, told-yes}
 use Rattle.endian.specs.Little.{le, leAt}
 use Rattle.endian.specs.Place.{paste}
 use Rattle.endian.proofs.Paste.{paste-nil, paste-on, paste-then}
@@ -37,26 +39,38 @@ use Rattle.card.specs.Answers.{fault, readAnswer}
 use Rattle.card.proofs.Judged.{faultless}
 use Rattle.locate.specs.Lines.{ending, refusedWord, refusedLine, filed, keyed, lineFor, lineOf, lineIn, lineRoom}
 use Rattle.locate.specs.Output.{cellAt, linesBy, cutLine, cutAfter, textBy, cellsText, framed}
-use Rattle.locate.specs.Blocks.{cardLength}
+use Rattle.locate.specs.Blocks.{isCardLength, cardLength}
 
 -- ---- a card's length, and a card of that length
+pub is-length : (n : ℕ) → (eqb n 46 || (eqb n 61 || (eqb n 50 || eqb n 65))) ≡ isCardLength n
+unfolding isCardLength
+is-length n = refl
+
+most-of : (n : ℕ) (a b c d : Bool) → eqb n 46 ≡ a → eqb n 61 ≡ b → eqb n 50 ≡ c → eqb n 65 ≡ d → a || (b || (c || d)) ≡ true → n ≤ 65
+most-of n true b c d p q r t e = omega (arith, eqb-true n 46 p)
+most-of n false true c d p q r t e = omega (arith, eqb-true n 61 q)
+most-of n false false true d p q r t e = omega (arith, eqb-true n 50 r)
+most-of n false false false true p q r t e = omega (arith, eqb-true n 65 t)
+most-of n false false false false p q r t e = absurd (false≢true e)
+
+pub length-most : (n : ℕ) {b : Bool} → b ≡ isCardLength n → not b ≡ false → n ≤ 65
+unfolding isCardLength
+length-most n eb t = most-of n (eqb n 46) (eqb n 61) (eqb n 50) (eqb n 65) refl refl refl refl (told-yes eb t)
+
 module _ (s : List ℕ) where
   pub length-short : length s < 2 → 0 ≡ cardLength s
   unfolding cardLength
   length-short h = rw (lt-ltb (length s) 2 h)
 
   module _ (h : 2 ≤ length s) {n : ℕ} (e : n ≡ leAt 2 s 0) where
-    pub length-46 : n ≡ 46 → 46 ≡ cardLength s
-    unfolding cardLength
-    length-46 p = rw (le-ltb (length s) 2 h, ← e, eq-eqb n 46 p)
+    module _ {b : Bool} (eb : b ≡ isCardLength n) where
+      pub length-said : not b ≡ false → n ≡ cardLength s
+      unfolding cardLength
+      length-said t = rw (le-ltb (length s) 2 h, ← e, told-yes eb t)
 
-    pub length-61 : (n ≡ 46 → ⊥) → n ≡ 61 → 61 ≡ cardLength s
-    unfolding cardLength
-    length-61 f p = rw (le-ltb (length s) 2 h, ← e, ne-eqb n 46 f, eq-eqb n 61 p)
-
-    pub length-none : (n ≡ 46 → ⊥) → (n ≡ 61 → ⊥) → 0 ≡ cardLength s
-    unfolding cardLength
-    length-none f g = rw (le-ltb (length s) 2 h, ← e, ne-eqb n 46 f, ne-eqb n 61 g)
+      pub length-none : not b ≡ true → 0 ≡ cardLength s
+      unfolding cardLength
+      length-none t = rw (le-ltb (length s) 2 h, ← e, told-no eb t)
 
   pub framed-14 : {n : ℕ} → (length s ≡ n → ⊥) → Refused 14 ≡ framed n s
   unfolding framed
@@ -66,7 +80,7 @@ module _ (s : List ℕ) where
   unfolding framed
   framed-read {n} e p = rw (eq-eqb (length s) n e) p
 
-pub ruleset framing = (length-short, length-46, length-61, length-none, framed-14, framed-read, needs)
+pub ruleset framing = (is-length, length-short, length-said, length-most, length-none, framed-14, framed-read, needs)
 
 -- ---- a text that a byte ends
 module _ (xs : List ℕ) (x at : ℕ) (d : List ℕ) (l : at + length (xs ++ (x ∷ [])) ≤ length d) (m : ℕ) (p : m ≡ at + length xs) where

@@ -1,7 +1,7 @@
 -- The same, part by part as the program reads it: the card's length, the card, then blocks of cells.
 use Prim.Native.Nat.{ℕ, zero, suc, _+_, _/_, _<_, _≤_}
 use mathlib.Core.Path.{_≡_}
-use mathlib.Core.Bool.{Bool, true}
+use mathlib.Core.Bool.{Bool, true, _||_}
 use mathlib.Core.List.{List, [], _∷_, flatMap}
 use lib.Dec.{ltb, eqb}
 use lib.ListN.{length, take, drop}
@@ -15,9 +15,13 @@ use Rattle.locate.specs.declared.Block.{Block}
 use Rattle.locate.specs.Lines.{refusedLine}
 use Rattle.locate.specs.Output.{cellsText, framed, output}
 
--- how many bytes to read as a card: 46 or 61, as the length says, else none
+-- "A card has 46 or 61 bytes", and "a mesh card has 50 or 65" (02, order 7)
+unfoldable pub isCardLength : ℕ → Bool
+isCardLength n = eqb n 46 || (eqb n 61 || (eqb n 50 || eqb n 65))
+
+-- how many bytes to read as a card: as many as the length says where a card can have these, else none
 unfoldable pub cardLength : List ℕ → ℕ
-cardLength s = pick (ltb (length s) 2) 0 (pick (eqb (leAt 2 s 0) 46) 46 (pick (eqb (leAt 2 s 0) 61) 61 0))
+cardLength s = pick (ltb (length s) 2) 0 (pick (isCardLength (leAt 2 s 0)) (leAt 2 s 0) 0)
 
 -- a block: a thousand cells
 abbrev pub blockBytes : ℕ

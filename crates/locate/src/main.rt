@@ -89,7 +89,7 @@ fn read_body(bytes: &mut [u8]) -> CardAnswer
 
 // What the card says whose length comes first.
 fn read_start(head: &mut [u8], bytes: &mut [u8]) -> CardAnswer
-    requires { ⌜ (length (now head) ≡ 2) × (length (now bytes) ≡ 61) ⌝ }
+    requires { ⌜ (length (now head) ≡ 2) × (length (now bytes) ≡ 65) ⌝ }
     ensures { λ r. ⌜ Started (now (head .exit)) (now (bytes .exit)) r ⌝ }
 {
     let got = io::read_full(STDIN_FILENO, head);
@@ -99,7 +99,7 @@ fn read_start(head: &mut [u8], bytes: &mut [u8]) -> CardAnswer
 
 fn main() {
     let mut head = [0u8; 2];
-    let mut bytes = [0u8; 61];
+    let mut bytes = [0u8; 65];
     match read_start(&mut head, &mut bytes) {
         CardAnswer::Says(card) => locate_all(card),
         CardAnswer::Refused(number) => print_refused(number),

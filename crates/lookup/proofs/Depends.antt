@@ -1,6 +1,7 @@
--- What a lookup's answer depends on (01, 'From id to shard'): the file's length, one index entry, that minishard's index and the chunk handed out.
+-- What a lookup's answer depends on (01, 'From id to shard'; 02, order 7): the file's length, one index entry, that minishard's index, of a mesh every
+-- manifest that it lists, and the chunk handed out.
 use Prim.Native.Nat.{ℕ, zero, suc, _+_, _*_, _-_, _<_, _≤_, min}
-use mathlib.Core.List.{List}
+use mathlib.Core.List.{List, []}
 use mathlib.Core.Path.{_≡_, refl, sym, _∙_, ap}
 use mathlib.Core.Bool.{Bool, true, false, not}
 use native.Mathlib.Omega.{arith}
@@ -13,19 +14,21 @@ use Rattle.endian.specs.Range.{sumTo, anyBelow, first}
 use Rattle.endian.proofs.Ranges.{first-lt}
 use Rattle.endian.proofs.Little.{leAt-drop, leAt-take}
 use Rattle.sharding.specs.declared.Sharding.{Sharding}
-use Rattle.sharding.specs.Specification.{minishardCount}
+use Rattle.sharding.specs.Specification.{isMesh, minishardCount}
 use Rattle.sharding.specs.Place.{minishardOf}
 use Rattle.sharding.proofs.Placed.{minishard-below}
-use Rattle.index.specs.Index.{entryStart, entryEnd, entryCount, idSteps, startSteps, sizes, idAt, startAt}
-use Rattle.shard.specs.Faults.{badEntry, badId, foreignAt, outside, entryTests, faultAt, faultOf}
+use Rattle.index.specs.Index.{entryStart, entryEnd, entryCount, idSteps, startSteps, sizes, idAt, startAt, chunkAt}
+use Rattle.manifests.specs.Mesh.{wrongLength, badReal, unorderedNodes, fragmentsOutside, manifestTests}
+use Rattle.shard.specs.Faults.{badEntry, badId, foreignAt, outside, meshTests, entryTests, faultAt, faultOf}
 use Rattle.shard.specs.File.{indexLength, indexPart, dataPart, fileChecks}
 use Rattle.index.proofs.Tests.{Agree, same-any, same-first, same-tests}
 use Rattle.lookup.specs.declared.LookupAnswer.{LookupAnswer}
 use Rattle.lookup.specs.declared.LookupAnswer.the-variants.{Found, Refused, Faulty}
 use Rattle.lookup.specs.Find.{isId, chunkOf, foundIn, lookupIn, lookupAnswer, partBytes}
-use Rattle.lookup.specs.Lookups.{AgreeFor, AgreeInChunk, SameAnswer}
+use Rattle.lookup.specs.Lookups.{chunkBytes, indexBytes, AgreeFor, AgreeInChunk, SameAnswer}
 use Rattle.lookup.proofs.Seek.{found-picks}
 use Rattle.lookup.proofs.Answers.{in-parts, answer-files}
+use Rattle.lookup.proofs.Handed.{found-file, chosenEntry, found-bytes}
 
 -- ---- rows that are alike in their first n numbers
 
@@ -63,7 +66,10 @@ module _ (f g h k : ℕ → ℕ) (n : ℕ) (p : Alike n f g) (q : Alike n h k) w
   unfolding outside
   same-outside o i l = rw (o, same-start i l, q i l)
 
--- ---- data that agree in a minishard index
+-- ---- data that agree in a minishard index and, of a mesh, in the manifests that it lists
+
+abbrev AlikeChunks : Sharding → List ℕ → List ℕ → ℕ → ℕ → Type 0
+AlikeChunks spec a b s n = isMesh spec ≡ true → (i : ℕ) → i < n → chunkAt a s n i ≡ chunkAt b s n i
 
 module _ (a b : List ℕ) (s e : ℕ) (size : length a ≡ length b) (bytes : take (e - s) (drop s a) ≡ take (e - s) (drop s b)) where
   same-number : (j : ℕ) → j + 8 ≤ e - s → leAt 8 a (s + j) ≡ leAt 8 b (s + j)
@@ -87,20 +93,43 @@ module _ (a b : List ℕ) (s e : ℕ) (size : length a ≡ length b) (bytes : ta
   same-sizes : Alike (entryCount s e) (sizes a s (entryCount s e)) (sizes b s (entryCount s e))
   same-sizes = same-row (s + 16 * entryCount s e) (entryCount s e) (omega arith) (omega arith)
 
-  agree : (spec : Sharding) (shard m : ℕ) → Agree (entryCount s e) (entryTests spec shard m a s (entryCount s e)) (entryTests spec shard m b s (entryCount s e))
-  unfolding entryTests
-  agree spec shard m = (
+  agree-manifests : ((i : ℕ) → i < entryCount s e → chunkAt a s (entryCount s e) i ≡ chunkAt b s (entryCount s e) i)
+      → Agree (entryCount s e) (manifestTests a s (entryCount s e)) (manifestTests b s (entryCount s e))
+  unfolding manifestTests wrongLength badReal unorderedNodes fragmentsOutside
+  agree-manifests alike = (
     refl,
     refl,
-    same-bad _ _ _ same-ids,
-    (refl, refl, same-foreign _ _ _ same-ids spec shard m, (refl, refl, same-outside _ _ _ _ _ same-starts same-sizes size, tt)),
+    λ i l. rw (alike i l),
+    (
+      refl,
+      refl,
+      λ i l. rw (alike i l),
+      (refl, refl, λ i l. rw (alike i l), (refl, refl, λ i l. rw (alike i l, same-start _ _ _ _ _ same-starts same-sizes i l), tt)),
+    ),
   )
 
-  same-fault : (spec : Sharding) (shard m base : ℕ) → faultAt spec shard m base a s e ≡ faultAt spec shard m base b s e
-  unfolding faultAt badEntry
-  same-fault spec shard m base =
-      let n = entryCount s e in
-      rw (size, same-tests (base + s) n (entryTests spec shard m a s n) (entryTests spec shard m b s n) (agree spec shard m))
+  module _ (spec : Sharding) (alike : AlikeChunks spec a b s (entryCount s e)) where
+    agree-mesh : Agree (entryCount s e) (meshTests spec a s (entryCount s e)) (meshTests spec b s (entryCount s e))
+    agree-mesh = go (isMesh spec) refl
+      where
+        go : (t : Bool) → isMesh spec ≡ t → Agree (entryCount s e) (pick t (manifestTests a s (entryCount s e)) []) (pick t (manifestTests b s (entryCount s e)) [])
+        go true h = agree-manifests (alike h)
+        go false h = tt
+
+    agree : (shard m : ℕ) → Agree (entryCount s e) (entryTests spec shard m a s (entryCount s e)) (entryTests spec shard m b s (entryCount s e))
+    unfolding entryTests
+    agree shard m = (
+      refl,
+      refl,
+      same-bad _ _ _ same-ids,
+      (refl, refl, same-foreign _ _ _ same-ids spec shard m, (refl, refl, same-outside _ _ _ _ _ same-starts same-sizes size, agree-mesh)),
+    )
+
+    same-fault : (shard m base : ℕ) → faultAt spec shard m base a s e ≡ faultAt spec shard m base b s e
+    unfolding faultAt badEntry
+    same-fault shard m base =
+        let n = entryCount s e in
+        rw (size, same-tests (base + s) n (entryTests spec shard m a s n) (entryTests spec shard m b s n) (agree shard m))
 
   same-chunk : (base i : ℕ) (t : Bool) → (t ≡ true → i < entryCount s e)
       → pick (not t) (Refused 12) (Found (base + startAt (startSteps a s (entryCount s e)) (sizes a s (entryCount s e)) i) (sizes a s (entryCount s e) i))
@@ -119,10 +148,10 @@ module _ (a b : List ℕ) (s e : ℕ) (size : length a ≡ length b) (bytes : ta
 
 same-in : (spec : Sharding) (shard : ℕ) (x y a b : List ℕ) (id : ℕ) {s e : ℕ} → length x ≡ length y → length a ≡ length b
     → entryStart x (minishardOf spec id) ≡ s → entryEnd x (minishardOf spec id) ≡ e → entryStart y (minishardOf spec id) ≡ s → entryEnd y (minishardOf spec id) ≡ e
-    → take (e - s) (drop s a) ≡ take (e - s) (drop s b) → lookupIn spec shard x a id ≡ lookupIn spec shard y b id
+    → take (e - s) (drop s a) ≡ take (e - s) (drop s b) → AlikeChunks spec a b s (entryCount s e) → lookupIn spec shard x a id ≡ lookupIn spec shard y b id
 unfolding faultOf
-same-in spec shard x y a b id {s} {e} p q u v u′ v′ w =
-    rw (in-parts spec shard x a id, in-parts spec shard y b id, p, u, v, u′, v′, same-fault a b s e q w spec shard (minishardOf spec id) (length y), same-found a b s e q w (length y) id)
+same-in spec shard x y a b id {s} {e} p q u v u′ v′ w c =
+    rw (in-parts spec shard x a id, in-parts spec shard y b id, p, u, v, u′, v′, same-fault a b s e q w spec c shard (minishardOf spec id) (length y), same-found a b s e q w (length y) id)
 
 -- ---- files
 
@@ -139,25 +168,54 @@ module _ (spec : Sharding) (shard id : ℕ) (a b : List ℕ) (agree : AgreeFor s
       ∙ ap (λ (t : List ℕ). leAt 8 t j) (agree .entry)
       ∙ sym (entry-number spec (minishardOf spec id) j b (minishard-below spec id) h)
 
+  starts-alike : entryStart (indexPart spec a) (minishardOf spec id) ≡ entryStart (indexPart spec b) (minishardOf spec id)
+  starts-alike = let at : 16 * minishardOf spec id + 0 ≡ 16 * minishardOf spec id = omega arith in rw at at (same-entry 0 (omega arith))
+
+  ends-alike : entryEnd (indexPart spec a) (minishardOf spec id) ≡ entryEnd (indexPart spec b) (minishardOf spec id)
+  ends-alike = same-entry 8 (omega arith)
+
+  data-alike : length (dataPart spec a) ≡ length (dataPart spec b)
+  data-alike = length-drop (indexLength spec) a ∙ ap (λ (n : ℕ). n - indexLength spec) (agree .size) ∙ sym (length-drop (indexLength spec) b)
+
+  index-alike : take (entryEnd (indexPart spec b) (minishardOf spec id) - entryStart (indexPart spec b) (minishardOf spec id)) (drop (entryStart (indexPart spec b) (minishardOf spec id)) (dataPart spec a))
+      ≡ indexBytes spec b (minishardOf spec id)
+  index-alike = rw (starts-alike, ends-alike) at (agree .index)
+
+  -- the id stands at the same entry
+  entry-alike : chosenEntry spec a id ≡ chosenEntry spec b id
+  entry-alike =
+      let s = entryStart (indexPart spec b) (minishardOf spec id) in
+      let e = entryEnd (indexPart spec b) (minishardOf spec id) in
+      rw (starts-alike, ends-alike)
+      (same-first (isId (idSteps (dataPart spec a) s) id) (isId (idSteps (dataPart spec b) s) id) (entryCount s e)
+      (same-is _ _ _ (same-ids (dataPart spec a) (dataPart spec b) s e data-alike index-alike) id))
+
   answer-depends : lookupAnswer spec shard a id ≡ lookupAnswer spec shard b id
   unfolding fileChecks
   answer-depends =
-      let at : 16 * minishardOf spec id + 0 ≡ 16 * minishardOf spec id = omega arith in
-      let s : entryStart (indexPart spec a) (minishardOf spec id) ≡ entryStart (indexPart spec b) (minishardOf spec id) = rw at at (same-entry 0 (omega arith)) in
-      let e : entryEnd (indexPart spec a) (minishardOf spec id) ≡ entryEnd (indexPart spec b) (minishardOf spec id) = same-entry 8 (omega arith) in
       rw (
         answer-files spec shard a id,
         answer-files spec shard b id,
         agree .size,
         same-in spec shard (indexPart spec a) (indexPart spec b) (dataPart spec a) (dataPart spec b) id
             (length-take (indexLength spec) a ∙ ap (min (indexLength spec)) (agree .size) ∙ sym (length-take (indexLength spec) b))
-            (length-drop (indexLength spec) a ∙ ap (λ (n : ℕ). n - indexLength spec) (agree .size) ∙ sym (length-drop (indexLength spec) b))
-            s
-            e
+            data-alike
+            starts-alike
+            ends-alike
             refl
             refl
-            (rw (s, e) at (agree .index)),
+            index-alike
+            (rw (starts-alike, ends-alike) at (agree .manifests)),
       )
+
+  -- of a mesh, the manifest handed out is among those in which they agree
+  pub manifest-agrees : isMesh spec ≡ true → AgreeInChunk spec shard id a b
+  manifest-agrees h start n e =
+      let f = found-file spec shard a id start n (answer-depends ∙ e) in
+      found-bytes f
+      ∙ agree .manifests h (chosenEntry spec a id) (f .found .at .among)
+      ∙ ap (chunkBytes spec b (minishardOf spec id)) entry-alike
+      ∙ sym (found-bytes (found-file spec shard b id start n e))
 
   part-depends : AgreeInChunk spec shard id a b → partBytes (lookupAnswer spec shard a id) a ≡ partBytes (lookupAnswer spec shard b id) b
   part-depends chunk = rw answer-depends (go (lookupAnswer spec shard b id) refl)

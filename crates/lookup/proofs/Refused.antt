@@ -22,12 +22,12 @@ chosen-in spec shard x d id =
     all-in-both (minishardChecks spec shard x d (minishardOf spec id)) _ (minishard-in spec shard x d (minishardOf spec id)) ((omega arith, omega arith), tt)
 
 module _ (spec : Sharding) (shard : ℕ) (file : List ℕ) (id : ℕ) where
-  lookup-in : AllIn (lookupChecks spec shard file id)
+  pub all-in-lookup : AllIn (lookupChecks spec shard file id)
   unfolding lookupChecks
-  lookup-in =
+  all-in-lookup =
       all-in-both (fileChecks spec (noSuchShard spec shard || not (eqb (shardOf spec id) shard)) file) _
       (file-in spec (noSuchShard spec shard || not (eqb (shardOf spec id) shard)) file) (chosen-in spec shard (indexPart spec file) (dataPart spec file) id)
 
   pub lookup-refuses : RefusesAt (lookupAnswer spec shard file id) Refused Faulty (lookupChecks spec shard file id)
   unfolding lookupAnswer chosenChunk chunkOf
-  lookup-refuses = refusing-at Refused Faulty (λ j k e. cc) (λ j k p q e. (cc, cc)) (λ j k p e. cc) (lookupChecks spec shard file id) _ (λ k e. cc) (λ k p e. cc) lookup-in
+  lookup-refuses = refusing-at Refused Faulty (λ j k e. cc) (λ j k p q e. (cc, cc)) (λ j k p e. cc) (lookupChecks spec shard file id) _ (λ k e. cc) (λ k p e. cc) all-in-lookup

@@ -4,13 +4,12 @@ use mathlib.Core.List.{List, [], _∷_}
 use mathlib.Core.Path.{_≡_, refl, sym, ap₂, _∙_}
 use mathlib.Core.Bool.{Bool, true, false, not}
 use native.Mathlib.Omega.{arith}
-use lib.ListN.{length}
 use borrow.Author.Tests.{eq-eqb, ne-eqb}
 use Rattle.refusal.specs.Choice.{pick}
 use Rattle.refusal.proofs.Picks.{by-picks}
 use Rattle.endian.specs.Range.{anyBelow, first}
 use Rattle.endian.proofs.Ranges.{any-none, any-more, any-hit, any-no, first-hit, first-lt}
-use Rattle.index.specs.Index.{idAt, startAt, endAt, idSteps, startSteps, sizes}
+use Rattle.index.specs.Index.{idAt, startAt, idSteps, startSteps, sizes}
 use Rattle.index.proofs.Tally.{Tally, tally-id, tally-place}
 use Rattle.lookup.specs.declared.LookupAnswer.the-variants.{Found, Refused}
 use Rattle.lookup.specs.Find.{isId, unlisted, chunkOf, foundIn}
@@ -21,6 +20,15 @@ use Rattle.lookup.specs.Find.{isId, unlisted, chunkOf, foundIn}
 pub found-picks : (base : ℕ) (d : List ℕ) (s n id : ℕ) → foundIn base d s n id ≡ pick (not (anyBelow n (isId (idSteps d s) id))) (Refused 12) (chunkOf base d s n id)
 unfolding foundIn
 found-picks base d s n id = by-picks Refused (unlisted d s n id ∷ []) _ refl
+
+-- the first entry that has the id, and that its chunk is the k bytes from a on, in a file whose shard index has `base` bytes
+abbrev pub entryOf : List ℕ → ℕ → ℕ → ℕ → ℕ
+entryOf d s n id = first (isId (idSteps d s) id) n
+
+pub record FoundAt (base : ℕ) (d : List ℕ) (s n id a k : ℕ) : Type 0 where
+  pub among : entryOf d s n id < n
+  pub placed : a ≡ base + startAt (startSteps d s n) (sizes d s n) (entryOf d s n id)
+  pub counted : k ≡ sizes d s n (entryOf d s n id)
 
 module _ (base : ℕ) (d : List ℕ) (s n id : ℕ) where
   -- the first entry with the id is entry i
@@ -41,20 +49,13 @@ module _ (base : ℕ) (d : List ℕ) (s n id : ℕ) where
       let z : _≡_ {A = ℕ} 0 1 = cc in
       omega arith
 
-  -- a chunk that was found lies within the data
-  at-first : (i a k : ℕ) → endAt (startSteps d s n) (sizes d s n) i ≤ length d
-      → Found (base + startAt (startSteps d s n) (sizes d s n) i) (sizes d s n i) ≡ Found a k → a + k ≤ base + length d
-  at-first i a k l e =
-      let x : base + startAt (startSteps d s n) (sizes d s n) i ≡ a = cc in
-      let y : sizes d s n i ≡ k = cc in
-      omega arith
-
-  pub found-within : (a k : ℕ) → ((i : ℕ) → i < n → endAt (startSteps d s n) (sizes d s n) i ≤ length d) → foundIn base d s n id ≡ Found a k → a + k ≤ base + length d
+  -- a chunk that was found is that of an entry
+  pub found-entry : (a k : ℕ) → foundIn base d s n id ≡ Found a k → FoundAt base d s n id a k
   unfolding chunkOf
-  found-within a k inside e = go (anyBelow n (isId (idSteps d s) id)) refl
+  found-entry a k e = go (anyBelow n (isId (idSteps d s) id)) refl
     where
-      go : (b : Bool) → anyBelow n (isId (idSteps d s) id) ≡ b → a + k ≤ base + length d
-      go true t = at-first (first (isId (idSteps d s) id) n) a k (inside _ (first-lt (isId (idSteps d s) id) n t)) (rw (found-picks base d s n id, t) at e)
+      go : (b : Bool) → anyBelow n (isId (idSteps d s) id) ≡ b → FoundAt base d s n id a k
+      go true t = let f = rw (found-picks base d s n id, t) at e in record { among = first-lt (isId (idSteps d s) id) n t; placed = cc; counted = cc }
       go false t = let f = rw (found-picks base d s n id, t) at e in let z : _≡_ {A = ℕ} 0 1 = cc in absurd (omega arith)
 
 -- ---- as the loop finds it

@@ -1,4 +1,5 @@
--- Lookup (01, 'From id to shard' and 'Refusal numbers': 1, 5, 6, then 7 to 11 of the chosen minishard, with their position, then 12).
+-- Lookup (01, 'From id to shard' and 'Refusal numbers'; 02, order 7): 1, 5, 6, then 7 to 11 of the chosen minishard, for a mesh also 15 to 17 and
+-- 21, with their position, then 12.
 use Prim.Native.Nat.{ℕ, _+_}
 use mathlib.Core.Bool.{Bool, not, _||_}
 use mathlib.Core.List.{List, [], _∷_, _++_}
@@ -64,11 +65,16 @@ unfoldable pub lookupAnswer : Sharding → ℕ → List ℕ → ℕ → LookupAn
 lookupAnswer spec shard file id =
     answeredAt Refused Faulty (lookupChecks spec shard file id) (chosenChunk spec (indexPart spec file) (dataPart spec file) id)
 
--- the part handed out: the chunk's bytes, or, refused, the empty part at the file's start
+-- the part handed out: the bytes found, or, refused, the empty part at the file's start
 abbrev pub partStart : LookupAnswer → ℕ
 partStart (Found start n) = start
 partStart (Refused number) = 0
 partStart (Faulty number position) = 0
+
+abbrev pub partEnd : LookupAnswer → ℕ
+partEnd (Found start n) = start + n
+partEnd (Refused number) = 0
+partEnd (Faulty number position) = 0
 
 abbrev pub partBytes : LookupAnswer → List ℕ → List ℕ
 partBytes (Found start n) file = take n (drop start file)

@@ -1,13 +1,13 @@
--- What is said of a lookup's answer: the chunk that it hands out, and the bytes that it depends on (01, 'From id to shard').
-use Prim.Native.Nat.{ℕ, _+_, _*_, _-_, _≤_}
+-- What is said of a lookup's answer: the chunk that it hands out, and the bytes that it depends on (01, 'From id to shard'; 02, order 7).
+use Prim.Native.Nat.{ℕ, _+_, _*_, _-_, _≤_, _<_}
 use mathlib.Core.Path.{_≡_}
 use mathlib.Core.Bool.{true}
 use mathlib.Core.List.{List}
 use lib.ListN.{length, take, drop}
 use Rattle.sharding.specs.declared.Sharding.{Sharding}
-use Rattle.sharding.specs.Specification.{allowed}
+use Rattle.sharding.specs.Specification.{isMesh, allowed}
 use Rattle.sharding.specs.Place.{shardOf, minishardOf}
-use Rattle.index.specs.Index.{entryStart, entryEnd, entryCount, startSteps, sizes, startAt, mostShardBytes}
+use Rattle.index.specs.Index.{entryStart, entryEnd, entryCount, startSteps, sizes, startAt, chunkAt, mostShardBytes}
 use Rattle.shard.specs.File.{indexLength, indexPart, dataPart}
 use Rattle.lookup.specs.declared.LookupAnswer.the-variants.{Found}
 use Rattle.lookup.specs.Find.{lookupAnswer, partBytes}
@@ -51,11 +51,21 @@ indexBytes spec file m =
     let e = entryEnd (indexPart spec file) m in
     take (e - s) (drop s (dataPart spec file))
 
--- two files agree in their length, in the index entry of the id's minishard, and in that minishard's index
+-- how many chunks minishard m lists, and the bytes of chunk i
+abbrev pub chunkCount : Sharding → List ℕ → ℕ → ℕ
+chunkCount spec file m = entryCount (entryStart (indexPart spec file) m) (entryEnd (indexPart spec file) m)
+
+abbrev pub chunkBytes : Sharding → List ℕ → ℕ → ℕ → List ℕ
+chunkBytes spec file m i = chunkAt (dataPart spec file) (entryStart (indexPart spec file) m) (chunkCount spec file m) i
+
+-- two files agree in their length, in the index entry of the id's minishard, and in that minishard's index; of a mesh also in "every manifest of
+-- the chosen minishard"
 pub record AgreeFor (spec : Sharding) (id : ℕ) (a b : List ℕ) : Type 0 where
   pub size : length a ≡ length b
   pub entry : entryBytes a (minishardOf spec id) ≡ entryBytes b (minishardOf spec id)
   pub index : indexBytes spec a (minishardOf spec id) ≡ indexBytes spec b (minishardOf spec id)
+  pub manifests : isMesh spec ≡ true → (i : ℕ) → i < chunkCount spec a (minishardOf spec id)
+      → chunkBytes spec a (minishardOf spec id) i ≡ chunkBytes spec b (minishardOf spec id) i
 
 -- they agree in the chunk that is handed out of the second, if one is
 abbrev pub AgreeInChunk : Sharding → ℕ → ℕ → List ℕ → List ℕ → Type 0

@@ -1,13 +1,13 @@
-// The search in a minishard that passed the judge, over a shard index and the data behind it.
+// The search in a minishard that passed the judge, over a shard index and the data behind it; the part that an answer gives.
 ghost use mathlib.Core.Path.{_≡_};
 ghost use mathlib.Core.Bool.{true};
-ghost use Prim.Native.Nat.{_≤_};
+ghost use Prim.Native.Nat.{_+_, _≤_};
 ghost use lib.ListN.{length};
 ghost use Rattle.sharding.specs.Specification.{allowed};
 ghost use Rattle.index.specs.Index.{mostShardBytes};
 ghost use Rattle.shard.specs.File.{indexLength, indexPart, dataPart};
 ghost use Rattle.index.specs.Reading.{Readable};
-ghost use Rattle.lookup.specs.Find.{foundIn, lookupIn};
+ghost use Rattle.lookup.specs.Find.{foundIn, lookupIn, partStart, partEnd, partBytes};
 use crate::LookupAnswer;
 use endian::inner::read_u64;
 use index::entry_end;
@@ -75,4 +75,23 @@ pub fn lookup_file(spec: Sharding, shard: u64, file: &[u8], id: u64) -> LookupAn
 {
     let n = index_length(spec);
     lookup_in(spec, shard, &file[..n], &file[n..], id)
+}
+
+// The part of the file that an answer gives, uncopied; refused, the empty part at its start.
+pub fn part_of(file: &[u8], found: LookupAnswer) -> &[u8]
+    requires { ⌜ (partEnd found ≤ length (now file)) × (partEnd found ≤ mostShardBytes) ⌝ }
+    ensures { λ r. ⌜ now r ≡ partBytes found (now (file .entry)) ⌝ }
+    ensures { λ r. ⌜ (r .ptr .0 ≡ file .entry .ptr .0) × (r .ptr .1 ≡ file .entry .ptr .1 + partStart found) ⌝ }
+{
+    match found {
+        LookupAnswer::Found { start, length } => {
+            let end = start + length;
+            &file[start..end]
+        }
+        LookupAnswer::Refused(_) => &file[0..0],
+        LookupAnswer::Faulty {
+            number: _,
+            position: _,
+        } => &file[0..0],
+    }
 }

@@ -11,8 +11,8 @@ use sharding::inner::is_allowed;
 use sharding::inner::shard_count;
 use sharding::inner::shard_of;
 
-// Where the chunk of an id lies in the file, and how long it is. 7 to 11 come with the byte position of what is wrong, counted
-// from the beginning of the shard.
+// Where the bytes asked for lie in the file, and how many they are. 7 to 11, for a mesh also 15 to 17 and 21, come with the byte
+// position of what is wrong, counted from the beginning of the shard.
 pub enum LookupAnswer {
     Found { start: usize, length: usize },
     Refused(u8),
@@ -46,16 +46,5 @@ pub fn part(spec: Sharding, shard: u64, file: &[u8], id: u64) -> &[u8]
     ensures answer { λ r. ⌜ now r ≡ partBytes (lookupAnswer spec shard (now (file .entry)) id) (now (file .entry)) ⌝ }
     ensures place { λ r. ⌜ (r .ptr .0 ≡ file .entry .ptr .0) × (r .ptr .1 ≡ file .entry .ptr .1 + partStart (lookupAnswer spec shard (now (file .entry)) id)) ⌝ }
 {
-    let found = lookup(spec, shard, file, id);
-    match found {
-        LookupAnswer::Found { start, length } => {
-            let end = start + length;
-            &file[start..end]
-        }
-        LookupAnswer::Refused(_) => &file[0..0],
-        LookupAnswer::Faulty {
-            number: _,
-            position: _,
-        } => &file[0..0],
-    }
+    inner::part_of(file, lookup(spec, shard, file, id))
 }

@@ -60,16 +60,16 @@ module _ (spec : Sharding) (d : List ℕ) (e : Entry) (es : List Entry) {k : ℕ
   chunks-cons : chunksOf (named spec d (e ∷ es)) ≡ take (k + e .size) (drop (e .start - k) d) ++ chunksOf (named spec d es)
   unfolding chunksOf named
   chunks-cons =
-      let run : itemFrom spec d e .lead ++ itemFrom spec d e .body ≡ take (k + e .size) (drop (e .start - k) d) = rw ek (item-bytes spec d (e .id) (e .start) (e .size) inside led) in
+      let run : itemFrom spec d e .lead ++ itemFrom spec d e .body ≡ take (k + e .size) (drop (e .start - k) d) = rw ek (item-bytes spec d (e .id) (e .start) (e .size) inside (led .before)) in
       sym (append-assoc (itemFrom spec d e .lead) (itemFrom spec d e .body) (chunksOf (named spec d es))) ∙ ap (λ (z : List ℕ). z ++ chunksOf (named spec d es)) run
 
   length-cons : chunksLength (named spec d (e ∷ es)) ≡ k + e .size + chunksLength (named spec d es)
   unfolding chunksLength named
-  length-cons = omega (arith, item-lead spec d (e .id) (e .start) (e .size) inside led, item-size spec d (e .id) (e .start) (e .size) inside)
+  length-cons = omega (arith, item-lead spec d (e .id) (e .start) (e .size) inside (led .before), item-size spec d (e .id) (e .start) (e .size) inside)
 
   starts-cons : (p : ℕ) → row (startRow p (named spec d (e ∷ es))) ≡ le 8 (p + k) ++ row (startRow 0 (named spec d es))
   unfolding row startRow named
-  starts-cons p = rw (item-lead spec d (e .id) (e .start) (e .size) inside led, ek)
+  starts-cons p = rw (item-lead spec d (e .id) (e .start) (e .size) inside (led .before), ek)
 
 none-left : (spec : Sharding) (d : List ℕ) (p : ℕ) → (chunksOf (named spec d []) ≡ []) × (row (startRow p (named spec d [])) ≡ [])
 unfolding chunksOf row startRow named

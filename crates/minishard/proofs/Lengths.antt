@@ -13,7 +13,7 @@ use Rattle.endian.specs.Little.{leAt}
 use Rattle.endian.specs.Range.{sumTo}
 use Rattle.endian.proofs.Ranges.{sum-none, sum-step}
 use Rattle.sharding.specs.declared.Sharding.{Sharding}
-use Rattle.index.specs.Index.{sizes, idSteps, idAt, mostShardBytes}
+use Rattle.index.specs.Index.{sizes, startSteps, idSteps, idAt, startAt, chunkAt, mostShardBytes}
 use Rattle.shard.specs.Items.{itemAt, leadLength, leads, NoLeads, MayLead, Led}
 use Rattle.shard.proofs.Items.{item-size, item-lead}
 use Rattle.form.specs.Form.{chunksLength}
@@ -27,14 +27,14 @@ sum-next : (f : ℕ → ℕ) (i : ℕ) → sumTo f (suc i) ≡ sumTo f i + f i
 unfolding sumTo
 sum-next f i = refl
 
-module _ {spec : Sharding} {d : List ℕ} {s n : ℕ} (r : Readable d s n) (g : LeadsIn spec d s n) where
+module _ (spec : Sharding) {d : List ℕ} {s n : ℕ} (r : Readable d s n) (before : (i : ℕ) → i < n → leads spec d s n i ≤ startAt (startSteps d s n) (sizes d s n) i) where
   lengths-from : (i k : ℕ) → i + k ≤ n → chunksLength (itemsFrom spec d s n i k) + (sumTo (leads spec d s n) i + sumTo (sizes d s n) i) ≡ sumTo (leads spec d s n) (i + k) + sumTo (sizes d s n) (i + k)
   unfolding chunksLength itemsFrom itemAt
   lengths-from i zero l = rw (add-zero i) (omega arith)
   lengths-from i (suc k) l =
       let h = lengths-from (suc i) k (omega arith) in
       let f : i < n = omega arith in
-      let a = item-lead spec d (idAt (idSteps d s) i) _ _ (r .inside i f) (g .led i f) in
+      let a = item-lead spec d (idAt (idSteps d s) i) _ _ (r .inside i f) (before i f) in
       let b = item-size spec d (idAt (idSteps d s) i) _ _ (r .inside i f) in
       let x = sum-next (leads spec d s n) i in
       let y = sum-next (sizes d s n) i in
@@ -110,16 +110,13 @@ no-sum f zero z = refl
 no-sum f (suc n) z = omega (arith, no-sum f n z, z n)
 
 -- without leads
-pub alone-in : {spec : Sharding} {d : List ℕ} {s n : ℕ} → NoLeads spec → LeadsIn spec d s n
-alone-in none = record { led = λ i l. record { before = rw (none _) (omega arith) } }
-
 pub lengths-alone : (spec : Sharding) {d : List ℕ} {s n : ℕ} → Readable d s n → NoLeads spec → chunksLength (itemsAt spec d s n) ≡ sumTo (sizes d s n) n
-lengths-alone spec {d} {s} {n} r none = let w = no-sum (leads spec d s n) n (λ i. none _) in omega (arith, lengths r (alone-in none))
+lengths-alone spec {d} {s} {n} r none = let w = no-sum (leads spec d s n) n (λ i. none (chunkAt d s n i)) in omega (arith, lengths spec r (λ i l. rw (none (chunkAt d s n i)) (omega arith)))
 
 module _ (spec : Sharding) {d : List ℕ} {s n : ℕ} (r : Readable d s n) {sizes′ listed : ℕ} (e : sizes′ ≡ capped (sumTo (sizes d s n) n)) (f : listed ≡ capped (sizes′ + 24 * n)) where
   -- with leads
   pub length-led : LeadsIn spec d s n → {lead total : ℕ} → lead ≡ capped (sumTo (leads spec d s n) n) → total ≡ capped (listed + lead) → total ≡ capped (minishardLength spec d s n)
-  length-led g {lead} {total} u v = step _ _ (24 * n) _ _ _ _ e f u v ∙ ap (λ (z : ℕ). capped (z + 24 * n)) (omega (arith, lengths r g))
+  length-led g {lead} {total} u v = step _ _ (24 * n) _ _ _ _ e f u v ∙ ap (λ (z : ℕ). capped (z + 24 * n)) (omega (arith, lengths spec r (λ i l. g .led i l .before)))
     where
       step : (x y k a b c t : ℕ) → a ≡ capped x → b ≡ capped (a + k) → c ≡ capped y → t ≡ capped (b + c) → t ≡ capped (y + x + k)
       step x y k a b c t p q u v = omega arith

@@ -18,7 +18,7 @@ pub data Case : Type 0 where
   chunk : ℕ → List ℕ → Case
 
 unfoldable pub withBits : ℕ → Sharding
-withBits n = record { preshift = 0; hash = 0; «minishard_bits» = 0; «shard_bits» = n }
+withBits n = record { preshift = 0; hash = 0; «minishard_bits» = 0; «shard_bits» = n; kind = 0 }
 
 -- size 100,1,1, chunk 64,1,1, offset -64,0,0
 unfoldable pub volume : Volume

@@ -1,14 +1,20 @@
 -- The fragments of a manifest follow one another without gap, from 0 on, in the order of the nodes.
-use Prim.Native.Nat.{ℕ, zero, suc, _+_}
-use mathlib.Core.Path.{_≡_, sym, ap, _∙_}
+use Prim.Native.Nat.{ℕ, zero, suc, _+_, _<_, _≤_}
+use mathlib.Core.Path.{_≡_, refl, sym, ap, _∙_}
+use mathlib.Core.Bool.{true}
 use mathlib.Core.List.{List}
 use native.Mathlib.Omega.{arith}
+use lib.ListN.{length, take, drop}
+use lib.Seq.{take-all, take-add, drop-drop}
 use Rattle.refusal.specs.Checks.{firstNumber, unless}
-use Rattle.endian.proofs.Ranges.{sum-none, sum-step}
-use Rattle.layout.specs.Layout.{countOf, levelItem, sizeAt}
-use Rattle.nodes.specs.Nodes.{levelBytes, fragmentSize, fragmentStart, nodeIn, nodeAt, nodeChecks, nodeAnswer}
+use Rattle.endian.specs.Range.{sumTo}
+use Rattle.endian.proofs.Ranges.{sum-none, sum-step, sum-grows}
+use Rattle.layout.specs.Layout.{levelsOf, countOf, levelItem, sizeAt}
+use Rattle.nodes.specs.Nodes.{hasNode, levelBytes, fragmentSize, fragmentStart, fragmentsLength, nodeIn, nodeAt, nodeChecks, nodeAnswer}
+use Rattle.nodes.specs.Run.{fragmentOf, ofLevel, ofLevels, joined}
 use Rattle.nodes.specs.declared.Node.{Node}
 use Rattle.nodes.specs.declared.NodeAnswer.the-variants as N
+use Rattle.nodes.proofs.Levels.{has-level, has-index}
 
 module _ (s : List ℕ) where
   pub fragments-begin : fragmentStart s 0 0 ≡ 0
@@ -22,6 +28,61 @@ module _ (s : List ℕ) where
   pub fragments-level : (l : ℕ) → fragmentStart s (l + 1) 0 ≡ fragmentStart s l (countOf s l)
   unfolding fragmentStart levelBytes
   fragments-level l = omega (arith, sum-step (levelBytes s) l, sum-none (sizeAt s (levelItem s (l + 1)) (countOf s (l + 1))))
+
+  pub fragments-end : fragmentStart s (levelsOf s) 0 ≡ fragmentsLength s
+  unfolding fragmentStart fragmentsLength
+  fragments-end = omega (arith, sum-none (sizeAt s (levelItem s (levelsOf s)) (countOf s (levelsOf s))))
+
+  -- a node's fragment ends where its level's fragments end, or before
+  in-its-level : (l i : ℕ) → i < countOf s l → fragmentStart s l i + fragmentSize s l i ≤ sumTo (levelBytes s) (l + 1)
+  unfolding fragmentStart levelBytes
+  in-its-level l i h =
+      let f = sizeAt s (levelItem s l) (countOf s l) in
+      omega (arith, sum-step (levelBytes s) l, sum-step f i, sum-grows f (i + 1) (countOf s l) (omega arith))
+
+  -- each fragment lies within the run of all,
+  pub fragment-within : (l i : ℕ) → hasNode s l i ≡ true → fragmentStart s l i + fragmentSize s l i ≤ fragmentsLength s
+  unfolding fragmentsLength
+  fragment-within l i e =
+      let h : l < levelsOf s = has-level s l i e refl in
+      let a = in-its-level l i (has-index s l i e refl) in
+      omega (arith, sum-grows (levelBytes s) (l + 1) (levelsOf s) (omega arith))
+
+  -- and before those of later nodes: of its level, and of later levels
+  pub fragments-apart : (l i j : ℕ) → i < j → fragmentStart s l i + fragmentSize s l i ≤ fragmentStart s l j
+  unfolding fragmentStart
+  fragments-apart l i j h =
+      let f = sizeAt s (levelItem s l) (countOf s l) in
+      omega (arith, sum-step f i, sum-grows f (i + 1) j (omega arith))
+
+  pub levels-apart : (l i m j : ℕ) → i < countOf s l → l < m → fragmentStart s l i + fragmentSize s l i ≤ fragmentStart s m j
+  unfolding fragmentStart
+  levels-apart l i m j h g =
+      let a = in-its-level l i h in
+      omega (arith, sum-grows (levelBytes s) (l + 1) m (omega arith))
+
+-- ---- as bytes
+
+module _ (s run : List ℕ) where
+  of-level : (l i : ℕ) → ofLevel s run l i ≡ take (sumTo (sizeAt s (levelItem s l) (countOf s l)) i) (drop (fragmentStart s l 0) run)
+  unfolding ofLevel sumTo fragmentOf fragmentStart
+  of-level l zero = refl
+  of-level l (suc i) =
+      let f = sizeAt s (levelItem s l) (countOf s l) in
+      let z : sumTo (levelBytes s) l + 0 ≡ sumTo (levelBytes s) l = omega arith in
+      rw (of-level l i, z, take-add (sumTo f i) (f i) (drop (sumTo (levelBytes s) l) run), drop-drop (sumTo f i) (sumTo (levelBytes s) l) run)
+
+  of-levels : (l : ℕ) → ofLevels s run l ≡ take (sumTo (levelBytes s) l) run
+  unfolding ofLevels sumTo levelBytes fragmentStart
+  of-levels zero = refl
+  of-levels (suc l) =
+      let z : sumTo (levelBytes s) l + 0 ≡ sumTo (levelBytes s) l = omega arith in
+      rw (of-levels l, of-level l (countOf s l), z, take-add (sumTo (levelBytes s) l) (levelBytes s l) run)
+
+  -- one after the other they are the run: no byte of it is left out or stands in two of them
+  pub tiles : length run ≡ fragmentsLength s → joined s run ≡ run
+  unfolding fragmentsLength
+  tiles e = of-levels (levelsOf s) ∙ take-all (sumTo (levelBytes s) (levelsOf s)) run (omega arith)
 
 -- ---- of the answers
 

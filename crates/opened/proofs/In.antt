@@ -63,7 +63,7 @@ making f ty = record {
       (seq (call f (copy (place 5 []) ∷ copy (place 4 []) ∷ []) (place 0 [])) return);
 }
 
-abbrev stayed : (res : Slot 1) → Stays (byParts res .signature .params) (byParts res .kept)
+abbrev stayed : (res : Slot 1) → Stays (byParts u64 res .signature .params) (byParts u64 res .kept)
 stayed res = (stay-none (λ _. P.the-row) yes, (stay-none (λ _. u64) yes, (stay-none-slice (0 ∷ []) tt (plain (λ _. u8)) yes, (stay-none (λ _. u64) yes, tt))))
 
 -- the contract of `open_shard`
@@ -72,23 +72,23 @@ Open 𝓤 H A mem run = tripleOf 𝓤 H A opening.signature (opening.spec 𝓤 H
 
 module _ {M : Type 1} (𝓤 : URA M) (H : Heap 𝓤) (A : Atoms 𝓤) (W : Given 𝓤 H A) (mem : Memory → SProp 𝓤) (run : Routine → Fun 𝓤) (f : Name) (ty : Ty) (res : Slot 1)
     (typed : (κs : Lfts 1) (x : typeAt res κs .Denot) (u : Val) → Is (typeAt res κs) x (u ∷ []) → Holds (hasTy ty u) × WT u)
-    (said told : Ensured 𝓤 res) (carries : (κs : Lfts 1) (d : Opened) (id : ℕ) (r : typeAt res κs .Denot) → ent 𝓤 (told κs d id r) (said κs d id r)) where
-  abbrev cH : Clauses 𝓤 (byParts res)
-  cH = ofParts 𝓤 res said
+    (said told : Ensured 𝓤 u64 res) (carries : (κs : Lfts 1) (d : Opened) (id : ℕ) (r : typeAt res κs .Denot) → ent 𝓤 (told κs d id r) (said κs d id r)) where
+  abbrev cH : Clauses 𝓤 (byParts u64 res)
+  cH = ofParts 𝓤 u64 res said
 
   -- f's contract
   abbrev Asked : Contract 𝓤
-  Asked = Struct 𝓤 H A res told
+  Asked = Struct 𝓤 H A u64 res told
 
   module _ (κ : Lft) (q : Share) (c : Sharding) (n : ℕ) (s : RefT (List ℕ)) (id : ℕ) where
     -- the machine value that s has
     abbrev v : Val
     v = sliceVal (s .ptr) (length (s .now))
 
-    abbrev a : Args (byParts res .signature) (κ, tt)
+    abbrev a : Args (byParts u64 res .signature) (κ, tt)
     a = (c, (n, (s, (id, tt))))
 
-    abbrev at : Vals (byParts res .signature) (κ, tt)
+    abbrev at : Vals (byParts u64 res .signature) (κ, tt)
     at = (P′.lowered c ∷ [], (vint w64 n ∷ [], (v ∷ [], (vint w64 id ∷ [], tt))))
 
     abbrev R : RattleType
@@ -99,7 +99,7 @@ module _ {M : Type 1} (𝓤 : URA M) (H : Heap 𝓤) (A : Atoms 𝓤) (W : Given
     αᵉ = record { mir = erased; lft = κ }
 
     abbrev Post : Val → SProp 𝓤
-    Post = walkOf 𝓤 H A (byParts res) (stayed res) cH .post (((κ, tt), (q, tt), tt, a, at), tt)
+    Post = walkOf 𝓤 H A (byParts u64 res) (stayed res) cH .post (((κ, tt), (q, tt), tt, a, at), tt)
 
     abbrev Said : R .Denot → SProp 𝓤
     Said t = said (κ, tt) (made c n s) id t
@@ -121,7 +121,7 @@ module _ {M : Type 1} (𝓤 : URA M) (H : Heap 𝓤) (A : Atoms 𝓤) (W : Given
     open-asked : ent 𝓤 (onEntry 𝓤 H A opening.signature (κ, tt) (q, tt) args (to-open .0 .4)) (Open 𝓤 H A mem run .pre to-open)
     open-asked = qed W ((‵ (flft κ q) ⊛ ‵ ftrue) ∷ ‵ (owns (P.the-row ∷ u64 ∷ ShrSlice (named 0) κ u8 ∷ []) args (to-open .0 .4)) ∷ []) ∵ join ! $ frame ! $ done !
 
-    goes-open : ent 𝓤 (onEntry 𝓤 H A (byParts res .signature) (κ, tt) (q, tt) a at) (sep 𝓤 (Open 𝓤 H A mem run .pre to-open) (sem 𝓤 H A Own))
+    goes-open : ent 𝓤 (onEntry 𝓤 H A (byParts u64 res .signature) (κ, tt) (q, tt) a at) (sep 𝓤 (Open 𝓤 H A mem run .pre to-open) (sem 𝓤 H A Own))
     goes-open =
         qed W ((‵ (flft κ q) ⊛ ‵ ftrue) ∷ ‵ Own ∷ []) ∵
         move ! (1 ∷ []) $ use1 W (‵ Own ⊛ ‵ Own) (twices 𝓤 H A W (Ps κ) copied a at) $ split ! $
@@ -147,22 +147,22 @@ module _ {M : Type 1} (𝓤 : URA M) (H : Heap 𝓤) (A : Atoms 𝓤) (W : Given
 
     -- what f ensures, at the struct made
     abbrev Answers : Opened → R .Denot → SProp 𝓤
-    Answers r t = ensured 𝓤 H A (byStruct res) (ofStruct 𝓤 res told) (κ, tt) (r, (id, tt)) tt t
+    Answers r t = ensured 𝓤 H A (byStruct u64 res) (ofStruct 𝓤 u64 res told) (κ, tt) (r, (id, tt)) tt t
 
     carried : (r : Opened) → Made r → (t : R .Denot) → ent 𝓤 (Answers r t) (Said t)
-    carried r e t = subst (λ (d : Opened). ent 𝓤 (Answers d t) (Said t)) (λ i. made (sym (e .1) i) (sym (e .2) i) (sym (e .0) i)) (exE 𝓤 _ (λ ws. via 𝓤 _ (snd∗ 𝓤 (sem 𝓤 H A (lasts (byStruct res) (κ, tt) (made c n s, (id, tt)) ws)) (told (κ, tt) (made c n s) id t)) (carries (κ, tt) (made c n s) id t)))
+    carried r e t = subst (λ (d : Opened). ent 𝓤 (Answers d t) (Said t)) (λ i. made (sym (e .1) i) (sym (e .2) i) (sym (e .0) i)) (exE 𝓤 _ (λ ws. via 𝓤 _ (snd∗ 𝓤 (sem 𝓤 H A (lasts (byStruct u64 res) (κ, tt) (made c n s, (id, tt)) ws)) (told (κ, tt) (made c n s) id t)) (carries (κ, tt) (made c n s) id t)))
 
     exits : (t : R .Denot) (u : Val) → ent 𝓤 (⋆ 𝓤 H A (‵ (R .own t (u ∷ [])) ∷ (‵ (flft κ q) ⊛ ‵ ftrue) ∷ raw (Said t) ∷ ‵ Own ∷ [])) (Post u)
     exits t u =
         qed W (‵ (R .own t (u ∷ [])) ∷ (‵ (flft κ q) ⊛ ‵ ftrue) ∷ raw (Said t) ∷ ‵ Own ∷ []) ∵
-        suffices ! _ (ends-at 𝓤 H A (byParts res) (stayed res) cH W (((κ, tt), (q, tt), tt, a, at), tt) u t (tt, (tt, (tt, (tt, tt)))) (tt, (tt, (tt, (tt, tt))))) $
+        suffices ! _ (ends-at 𝓤 H A (byParts u64 res) (stayed res) cH W (((κ, tt), (q, tt), tt, a, at), tt) u t (tt, (tt, (tt, (tt, tt)))) (tt, (tt, (tt, (tt, tt))))) $
         move ! (3 ∷ 0 ∷ []) $ join ! $ move ! (1 ∷ 0 ∷ []) $ join ! $ frame ! $ done !
 
     module _ (C : Calls 𝓤 H) (Λ : Loops 𝓤 H) (fm : FmC 𝓤 H (W .laws) C) (known-open : Triple 𝓤 (C #opened·open-shard) (Open 𝓤 H A mem run)) (known-f : Triple 𝓤 (C f) Asked) where
       walk : Is P.the-row c (P′.lowered c ∷ []) → Is u64 n (vint w64 n ∷ []) → Is (ShrSlice (named 0) κ u8) s (v ∷ []) → Is u64 id (vint w64 id ∷ [])
-          → ent 𝓤 (onEntry 𝓤 H A (byParts res .signature) (κ, tt) (q, tt) a at) (WpFn 𝓤 H C Λ (making f ty) (P′.lowered c ∷ vint w64 n ∷ v ∷ vint w64 id ∷ []) Post)
+          → ent 𝓤 (onEntry 𝓤 H A (byParts u64 res .signature) (κ, tt) (q, tt) a at) (WpFn 𝓤 H C Λ (making f ty) (P′.lowered c ∷ vint w64 n ∷ v ∷ vint w64 id ∷ []) Post)
       walk p₁ p₂ p₃ p₄ =
-          qed W (raw (onEntry 𝓤 H A (byParts res .signature) (κ, tt) (q, tt) a at) ∷ []) ∵ enter ! C Λ (making f ty) (P′.lowered c ∷ vint w64 n ∷ v ∷ vint w64 id ∷ []) _ $
+          qed W (raw (onEntry 𝓤 H A (byParts u64 res .signature) (κ, tt) (q, tt) a at) ∷ []) ∵ enter ! C Λ (making f ty) (P′.lowered c ∷ vint w64 n ∷ v ∷ vint w64 id ∷ []) _ $
           alloc1 ! (λ l₀. alloc1 ! (λ l₁. alloc1 ! (λ l₂. alloc1 ! (λ l₃. alloc1 ! (λ l₄. alloc1 ! (λ l₅. alloc0 ! $ params1 ! $
           pass1 ! (init ! 8 refl (LL.lawful P.the-type P′.the-laws 𝓤 H A W .typed c _ p₁ .0)) $ pass1 ! (init ! 6 refl (uint-lawful 𝓤 H A W w64 .typed n _ p₂ .0)) $
           pass1 ! (init ! 4 refl (shr-slice-lawful 𝓤 H A W (named 0) κ u8 .typed s (v ∷ []) p₃ .0)) $ pass1 ! (init ! 2 refl (uint-lawful 𝓤 H A W w64 .typed id _ p₄ .0)) $ pass0 ! $
@@ -185,10 +185,10 @@ module _ {M : Type 1} (𝓤 : URA M) (H : Heap 𝓤) (A : Atoms 𝓤) (W : Given
           move ! (14 ∷ 15 ∷ []) $ free1 ! $ move ! (12 ∷ 13 ∷ []) $ free1 ! $ move ! (10 ∷ 11 ∷ []) $ free1 ! $ move ! (8 ∷ 9 ∷ []) $ free1 ! $ move ! (6 ∷ 7 ∷ []) $ free1 ! $ move ! (4 ∷ 5 ∷ []) $ free1 ! $ free0 ! $
           by ! (exits t u′))))))))))))))
 
-  pub in-meets : (𝓣 : Tables 𝓤 H) → Triple 𝓤 (𝓣 .C #opened·open-shard) (Open 𝓤 H A mem run) → Triple 𝓤 (𝓣 .C f) Asked → Meets 𝓤 H A (byParts res .signature) (WpFn 𝓤 H (𝓣 .C) (𝓣 .Λ) (making f ty)) (closing 𝓤 H A (byParts res) cH)
-  in-meets 𝓣 known-open known-f = walk-meets 𝓤 H A (byParts res) (stayed res) W
+  pub in-meets : (𝓣 : Tables 𝓤 H) → Triple 𝓤 (𝓣 .C #opened·open-shard) (Open 𝓤 H A mem run) → Triple 𝓤 (𝓣 .C f) Asked → Meets 𝓤 H A (byParts u64 res .signature) (WpFn 𝓤 H (𝓣 .C) (𝓣 .Λ) (making f ty)) (closing 𝓤 H A (byParts u64 res) cH)
+  in-meets 𝓣 known-open known-f = walk-meets 𝓤 H A (byParts u64 res) (stayed res) W
       (goes-none 𝓤 H A W 1 (λ _. P.the-row) yes (λ κs x g. refl), (goes-none 𝓤 H A W 1 (λ _. u64) yes (λ κs x g. refl), (goes-none-slice 𝓤 H A W 1 (0 ∷ []) tt (plain (λ _. u8)) yes, (goes-none 𝓤 H A W 1 (λ _. u64) yes (λ κs x g. refl), tt))))
       cH (WpFn 𝓤 H (𝓣 .C) (𝓣 .Λ) (making f ty)) (WpFn-mono 𝓤 H (W .laws) 𝓣 (making f ty))
-      (walked 𝓤 H A (byParts res) (stayed res) cH (WpFn 𝓤 H (𝓣 .C) (𝓣 .Λ) (making f ty))
+      (walked 𝓤 H A (byParts u64 res) (stayed res) cH (WpFn 𝓤 H (𝓣 .C) (𝓣 .Λ) (making f ty))
       (λ κs. (LL.vals P.the-type P′.the-laws, (uint-vals w64, (slice-vals, (uint-vals w64, tt))))) (λ κs. (LL.tells P.the-type P′.the-laws, (uint-tells w64, (shr-slice-tells (named 0) (κs .0) u8, (uint-tells w64, tt)))))
       (λ κs qs bounds a y are. via 𝓤 _ (fst∗ 𝓤 _ (emp 𝓤)) (walk (κs .0) (qs .0) (a .0) (a .1 .0) (a .1 .1 .0) (a .1 .1 .1 .0) (𝓣 .C) (𝓣 .Λ) (fmOf 𝓤 H (W .laws) 𝓣) known-open known-f (are .0) (are .1 .0) (are .1 .1 .0) (are .1 .1 .1 .0))))

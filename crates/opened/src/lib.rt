@@ -2,6 +2,7 @@
 ghost use mathlib.Core.Path.{_≡_};
 ghost use Prim.Native.Nat.{_+_};
 ghost use Rattle.lookup.specs.Find.{lookupAnswer, partStart, partBytes};
+ghost use Rattle.fragment.specs.Fragment.{fragmentAnswer};
 use lookup::LookupAnswer;
 use sharding::Sharding;
 
@@ -45,4 +46,42 @@ pub fn part_in(spec: Sharding, number: u64, file: &[u8], id: u64) -> &[u8]
     ensures place { λ r. ⌜ (r .ptr .0 ≡ file .entry .ptr .0) × (r .ptr .1 ≡ file .entry .ptr .1 + partStart (lookupAnswer spec number (now (file .entry)) id)) ⌝ }
 {
     part(open_shard(spec, number, file), id)
+}
+
+// ---- of a mesh
+
+// A node of the manifest of an id, level and node counted from 0.
+pub struct MeshNode {
+    pub id: u64,
+    pub level: u32,
+    pub node: u32,
+}
+
+// The plain calls for such a node.
+fn fragment_at(spec: Sharding, number: u64, file: &[u8], at: MeshNode) -> LookupAnswer
+    ensures { λ r. ⌜ r ≡ fragmentAnswer spec number (now (file .entry)) (at .id) (at .level) (at .node) ⌝ }
+{
+    fragment::fragment(spec, number, file, at.id, at.level, at.node)
+}
+
+fn fragment_part_at(spec: Sharding, number: u64, file: &[u8], at: MeshNode) -> &[u8]
+    ensures answer { λ r. ⌜ now r ≡ partBytes (fragmentAnswer spec number (now (file .entry)) (at .id) (at .level) (at .node)) (now (file .entry)) ⌝ }
+    ensures place { λ r. ⌜ (r .ptr .0 ≡ file .entry .ptr .0) × (r .ptr .1 ≡ file .entry .ptr .1 + partStart (fragmentAnswer spec number (now (file .entry)) (at .id) (at .level) (at .node))) ⌝ }
+{
+    fragment::fragment_part(spec, number, file, at.id, at.level, at.node)
+}
+
+// The answer of the plain call.
+pub fn fragment<'a>(o: Opened<'a>, at: MeshNode) -> LookupAnswer
+    ensures answer { λ r. ⌜ r ≡ fragmentAnswer (o .entry .spec) (o .entry .number) (now (o .entry .file)) (at .id) (at .level) (at .node) ⌝ }
+{
+    fragment_at(o.spec, o.number, o.file, at)
+}
+
+// The part that the plain call hands out, of the bytes that were lent to `open_shard`.
+pub fn fragment_part<'a>(o: Opened<'a>, at: MeshNode) -> &'a [u8]
+    ensures answer { λ r. ⌜ now r ≡ partBytes (fragmentAnswer (o .entry .spec) (o .entry .number) (now (o .entry .file)) (at .id) (at .level) (at .node)) (now (o .entry .file)) ⌝ }
+    ensures place { λ r. ⌜ (r .ptr .0 ≡ o .entry .file .ptr .0) × (r .ptr .1 ≡ o .entry .file .ptr .1 + partStart (fragmentAnswer (o .entry .spec) (o .entry .number) (now (o .entry .file)) (at .id) (at .level) (at .node))) ⌝ }
+{
+    fragment_part_at(o.spec, o.number, o.file, at)
 }

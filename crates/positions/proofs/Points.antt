@@ -21,14 +21,15 @@ use Rattle.endian.specs.Range.{anyBelow, first}
 use Rattle.endian.proofs.Little.{leAt-drop, leAt-take}
 use Rattle.endian.proofs.Ranges.{first-lt, first-holds, first-before}
 use Rattle.sharding.specs.declared.Sharding.{Sharding}
-use Rattle.sharding.specs.Specification.{minishardCount, noSuchShard}
+use Rattle.sharding.specs.Specification.{isMesh, minishardCount, noSuchShard}
 use Rattle.sharding.specs.Place.{shardOf, minishardOf}
 use Rattle.sharding.proofs.Placed.{minishard-below}
 use Rattle.shard.specs.declared.CheckAnswer.{CheckAnswer}
 use Rattle.shard.specs.declared.CheckAnswer.the-variants.{Sound, Faulty, Refused as CheckRefused}
 use Rattle.index.specs.Index.{entryStart, entryEnd, entryCount, idSteps, startSteps, sizes, mostShardBytes}
-use Rattle.index.specs.Tests.{rowPlace}
-use Rattle.shard.specs.Faults.{badEntry, badLength, badId, foreignAt, outside, entryTests}
+use Rattle.index.specs.Tests.{EntryTest, entryTest, testPlace}
+use Rattle.manifests.specs.Mesh.{wrongLength, badReal, unorderedNodes, fragmentsOutside, manifestTests}
+use Rattle.shard.specs.Faults.{badEntry, badLength, badId, foreignAt, outside, meshTests, entryTests}
 use Rattle.shard.specs.Checks.{entryChecks, minishardChecks}
 use Rattle.shard.specs.File.{indexLength, indexPart, dataPart, fileChecks, checkAnswer}
 use Rattle.shard.proofs.Judged.{entry-within}
@@ -37,13 +38,15 @@ use Rattle.shard.proofs.Whole.{check-names}
 use Rattle.lookup.specs.declared.LookupAnswer.the-variants as L
 use Rattle.lookup.specs.Find.{unlisted, chosenChecks, lookupChecks, lookupAnswer}
 use Rattle.lookup.proofs.Refused.{lookup-refuses}
+use Rattle.fragment.specs.Fragment.{fragmentAnswer}
+use Rattle.fragment.proofs.Handed.{fragment-faulty}
 use Rattle.listing.specs.declared.CountAnswer.the-variants as N
 use Rattle.listing.specs.Listing.{listingOf, countChecks, countAnswer, listingChecks, listingAnswer}
 use Rattle.listing.proofs.Refused.{count-refuses, listing-refuses}
 use Rattle.settle.specs.declared.SettleAnswer.the-variants as S
 use Rattle.settle.specs.Answers.{answerOf, lengthIn, settleIn, lengthAnswer, settleAnswer}
 use Rattle.settle.proofs.Answered.{afterCheck, length-by-check, settle-by-check}
-use Rattle.positions.specs.Points.{AtEntry, AtFirst, PointsAt, Named}
+use Rattle.positions.specs.Points.{AtEntry, AtFirst, AtIdStep, AtStartStep, Offending, seven, eight, nine, ten, eleven, fifteen, sixteen, seventeen, twentyone, PointsAt, Named}
 
 -- ---- which check a position is of
 
@@ -134,113 +137,90 @@ module _ (spec : Sharding) (shard : ℕ) (file : List ℕ) (m : ℕ) (held : ind
   index-long : length x ≡ indexLength spec
   index-long = length-take-le (indexLength spec) file held
 
-  pub points : (k p : ℕ) → firstNumber (minishardChecks spec shard x d m) ≡ k → firstPosition (minishardChecks spec shard x d m) ≡ some p → PointsAt spec shard file m k p
-  unfolding minishardChecks entryChecks entryTests firstNumber firstPosition
-  points k p u v = by-7 (badEntry d s e) refl u v
-    where
-      f9 : ℕ → Bool
-      f9 = badId (idSteps d s)
+  -- the first of several tests that an entry fails is one of them
+  module _ (k p : ℕ) where
+    abbrev Case : EntryTest → Type 0
+    Case t = t .number ≡ k → anyBelow n (t .fails) ≡ true → testPlace (length x + s) n t ≡ p → PointsAt spec shard file m k p
 
-      f10 : ℕ → Bool
-      f10 = foreignAt spec shard m (idSteps d s)
+    abbrev Cases : List EntryTest → Type 0
+    Cases [] = Unit {0}
+    Cases (t ∷ ts) = Case t × Cases ts
 
-      f11 : ℕ → Bool
-      f11 = outside (length d) (startSteps d s n) (sizes d s n)
+    one-of : (ts : List EntryTest) → Cases ts → firstNumber (entryChecks (length x + s) n ts) ≡ k → firstPosition (entryChecks (length x + s) n ts) ≡ some p → PointsAt spec shard file m k p
+    unfolding entryChecks firstNumber firstPosition
+    one-of [] c u v = let z : _≡_ {A = ℕ} 0 1 = cc in absurd (omega arith)
+    one-of (t ∷ ts) c u v = go (anyBelow n (t .fails)) refl (one-of ts (c .1))
+      where
+        go : (b : Bool) → anyBelow n (t .fails) ≡ b
+            → (firstNumber (entryChecks (length x + s) n ts) ≡ k → firstPosition (entryChecks (length x + s) n ts) ≡ some p → PointsAt spec shard file m k p)
+            → PointsAt spec shard file m k p
+        go true h later = c .0 (rw h at u) h (some-same (rw h at v))
+        go false h later = later (rw h at u) (rw h at v)
 
-      by-11 : (b : Bool) → anyBelow n f11 ≡ b → badEntry d s e ≡ false → pick b 11 0 ≡ k → pick b (some (rowPlace (length x + s) n 1 (first f11 n))) none ≡ some p → PointsAt spec shard file m k p
-      by-11 true t good a b =
-          let q : rowPlace (length x + s) n 1 (first f11 n) ≡ p = some-same b in
-          let h = at-first (s + 8 * n) f11 p t (omega (arith, rows-within f11 good t)) (omega (arith, q, index-long)) in
-          record {
-            from = omega arith;
-            to = omega arith;
-            within = h .within;
-            short = short;
-            seven = λ z. absurd (omega arith);
-            eight = λ z. absurd (omega arith);
-            nine = λ z. absurd (omega arith);
-            ten = λ z. absurd (omega arith);
-            eleven = λ z. h;
-          }
-      by-11 false t good a b = let z : _≡_ {A = ℕ} 0 1 = cc in absurd (omega arith)
+    -- those of a mesh are asked of a mesh alone
+    in-mesh : (isMesh spec ≡ true → Cases (manifestTests d s n)) → Cases (meshTests spec d s n)
+    in-mesh c = go (isMesh spec) refl
+      where
+        go : (b : Bool) → isMesh spec ≡ b → Cases (pick b (manifestTests d s n) [])
+        go true h = c h
+        go false h = tt
 
-      by-10 : (b : Bool) → anyBelow n f10 ≡ b → badEntry d s e ≡ false → pick b 10 (pick (anyBelow n f11) 11 0) ≡ k
-          → pick b (some (rowPlace (length x + s) n 0 (first f10 n))) (pick (anyBelow n f11) (some (rowPlace (length x + s) n 1 (first f11 n))) none) ≡ some p → PointsAt spec shard file m k p
-      by-10 true t good a b =
-          let q : rowPlace (length x + s) n 0 (first f10 n) ≡ p = some-same b in
-          let h = at-first s f10 p t (omega (arith, rows-within f10 good t)) (omega (arith, q, index-long)) in
-          record {
-            from = omega arith;
-            to = omega arith;
-            within = h .within;
-            short = short;
-            seven = λ z. absurd (omega arith);
-            eight = λ z. absurd (omega arith);
-            nine = λ z. absurd (omega arith);
-            ten = λ z. h;
-            eleven = λ z. absurd (omega arith);
-          }
-      by-10 false t good a b = by-11 (anyBelow n f11) refl good a b
+    pointed : (r : ℕ) (fails : ℕ → Bool) → AtFirst file n (indexLength spec + r) (rowAt d r) fails p → Offending spec shard file d m s e n k p → PointsAt spec shard file m k p
+    pointed r fails h o = record { within = h .within; short = short; offending = o }
 
-      by-9 : (b : Bool) → anyBelow n f9 ≡ b → badEntry d s e ≡ false → pick b 9 (pick (anyBelow n f10) 10 (pick (anyBelow n f11) 11 0)) ≡ k
-          → pick b (some (rowPlace (length x + s) n 0 (first f9 n)))
-          (pick (anyBelow n f10) (some (rowPlace (length x + s) n 0 (first f10 n))) (pick (anyBelow n f11) (some (rowPlace (length x + s) n 1 (first f11 n))) none)) ≡ some p
-          → PointsAt spec shard file m k p
-      by-9 true t good a b =
-          let q : rowPlace (length x + s) n 0 (first f9 n) ≡ p = some-same b in
-          let h = at-first s f9 p t (omega (arith, rows-within f9 good t)) (omega (arith, q, index-long)) in
-          record {
-            from = omega arith;
-            to = omega arith;
-            within = h .within;
-            short = short;
-            seven = λ z. absurd (omega arith);
-            eight = λ z. absurd (omega arith);
-            nine = λ z. h;
-            ten = λ z. absurd (omega arith);
-            eleven = λ z. absurd (omega arith);
-          }
-      by-9 false t good a b = by-10 (anyBelow n f10) refl good a b
+    -- the row of id steps begins at s, that of start steps behind it
+    module _ (good : badEntry d s e ≡ false) where
+      in-ids : (number : ℕ) (fails : ℕ → Bool) → (k ≡ number → AtIdStep spec file d s n fails p → Offending spec shard file d m s e n k p) → Case (entryTest number 0 fails)
+      in-ids number fails o u t q =
+          let h = at-first s fails p t (omega (arith, rows-within fails good t)) (omega (arith, q, index-long)) in
+          pointed s fails h (o (sym u) h)
 
-      by-8 : (b : Bool) → badLength s e ≡ b → badEntry d s e ≡ false
-          → pick b 8 (pick (anyBelow n f9) 9 (pick (anyBelow n f10) 10 (pick (anyBelow n f11) 11 0))) ≡ k
-          → pick b (some (16 * m)) (pick (anyBelow n f9) (some (rowPlace (length x + s) n 0 (first f9 n)))
-          (pick (anyBelow n f10) (some (rowPlace (length x + s) n 0 (first f10 n))) (pick (anyBelow n f11) (some (rowPlace (length x + s) n 1 (first f11 n))) none))) ≡ some p
-          → PointsAt spec shard file m k p
-      by-8 true t good a b =
-          let h = at-entry p (some-same b) in
-          record {
-            from = omega arith;
-            to = omega arith;
-            within = omega (arith, h .within);
-            short = short;
-            seven = λ z. absurd (omega arith);
-            eight = λ z. (h, t);
-            nine = λ z. absurd (omega arith);
-            ten = λ z. absurd (omega arith);
-            eleven = λ z. absurd (omega arith);
-          }
-      by-8 false t good a b = by-9 (anyBelow n f9) refl good a b
+      in-starts : (number : ℕ) (fails : ℕ → Bool) → (k ≡ number → AtStartStep spec file d s n fails p → Offending spec shard file d m s e n k p) → Case (entryTest number 1 fails)
+      in-starts number fails o u t q =
+          let h = at-first (s + 8 * n) fails p t (omega (arith, rows-within fails good t)) (omega (arith, q, index-long)) in
+          pointed (s + 8 * n) fails h (o (sym u) h)
 
-      by-7 : (b : Bool) → badEntry d s e ≡ b
-          → pick b 7 (pick (badLength s e) 8 (pick (anyBelow n f9) 9 (pick (anyBelow n f10) 10 (pick (anyBelow n f11) 11 0)))) ≡ k
-          → pick b (some (16 * m)) (pick (badLength s e) (some (16 * m)) (pick (anyBelow n f9) (some (rowPlace (length x + s) n 0 (first f9 n)))
-          (pick (anyBelow n f10) (some (rowPlace (length x + s) n 0 (first f10 n))) (pick (anyBelow n f11) (some (rowPlace (length x + s) n 1 (first f11 n))) none)))) ≡ some p
-          → PointsAt spec shard file m k p
-      by-7 true t a b =
-          let h = at-entry p (some-same b) in
-          record {
-            from = omega arith;
-            to = omega arith;
-            within = omega (arith, h .within);
-            short = short;
-            seven = λ z. (h, t);
-            eight = λ z. absurd (omega arith);
-            nine = λ z. absurd (omega arith);
-            ten = λ z. absurd (omega arith);
-            eleven = λ z. absurd (omega arith);
-          }
-      by-7 false t a b = by-8 (badLength s e) refl t a b
+      mesh-cases : isMesh spec ≡ true → Cases (manifestTests d s n)
+      unfolding manifestTests
+      mesh-cases mesh = (
+        in-starts 15 (wrongLength d s n) (fifteen mesh),
+        (
+          in-starts 16 (badReal d s n) (sixteen mesh),
+          (
+            in-starts 17 (unorderedNodes d s n) (seventeen mesh),
+            (in-starts 21 (fragmentsOutside d s n) (twentyone mesh), tt),
+          ),
+        ),
+      )
+
+      cases : Cases (entryTests spec shard m d s n)
+      unfolding entryTests
+      cases = (
+        in-ids 9 (badId (idSteps d s)) nine,
+        (
+          in-ids 10 (foreignAt spec shard m (idSteps d s)) ten,
+          (in-starts 11 (outside (length d) (startSteps d s n) (sizes d s n)) eleven, in-mesh mesh-cases),
+        ),
+      )
+
+    at-index : AtEntry file m s e p → Offending spec shard file d m s e n k p → PointsAt spec shard file m k p
+    at-index h o = record { within = omega (arith, h .within); short = short; offending = o }
+
+    pub points : firstNumber (minishardChecks spec shard x d m) ≡ k → firstPosition (minishardChecks spec shard x d m) ≡ some p → PointsAt spec shard file m k p
+    unfolding minishardChecks firstNumber firstPosition
+    points u v = by-7 (badEntry d s e) refl
+      where
+        by-8 : (b : Bool) → badLength s e ≡ b → badEntry d s e ≡ false → PointsAt spec shard file m k p
+        by-8 true t good =
+            let h = at-entry p (some-same (rw (good, t) at v)) in
+            at-index h (eight (sym (rw (good, t) at u)) h t)
+        by-8 false t good = one-of (entryTests spec shard m d s n) (cases good) (rw (good, t) at u) (rw (good, t) at v)
+
+        by-7 : (b : Bool) → badEntry d s e ≡ b → PointsAt spec shard file m k p
+        by-7 true t =
+            let h = at-entry p (some-same (rw t at v)) in
+            at-index h (seven (sym (rw t at u)) h t)
+        by-7 false t = by-8 (badLength s e) refl t
 
 -- ---- of each call
 
@@ -266,6 +246,9 @@ lookup-points spec shard file id k p e =
     let b = before-last (minishardChecks spec shard (indexPart spec file) (dataPart spec file) m) last refl (a .2) in
     let c = file-called spec five file (a .0) in
     points spec shard file m (c .held) (c .short) (minishard-below spec id) k p (sym (a .1 ∙ b .0) ∙ g .0) (b .1)
+
+pub fragment-points : (spec : Sharding) (shard : ℕ) (file : List ℕ) (id level node k p : ℕ) → fragmentAnswer spec shard file id level node ≡ L.Faulty k p → PointsAt spec shard file (minishardOf spec id) k p
+fragment-points spec shard file id level node k p e = lookup-points spec shard file id k p (fragment-faulty spec shard file id level node k p e)
 
 module _ (spec : Sharding) (shard : ℕ) (file : List ℕ) (m k p : ℕ) where
   counted : firstNumber (countChecks spec shard file m) ≡ k → firstPosition (countChecks spec shard file m) ≡ some p → PointsAt spec shard file m k p

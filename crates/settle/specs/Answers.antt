@@ -1,4 +1,5 @@
--- What settling answers and leaves: the refusals of the check, 7 to 11 with their position, then 13 (01, 'Refusal numbers'; 02, order 6).
+-- What settling answers and leaves: the refusals of the check, 7 to 11, for a mesh also 15 to 17 and 21, with their position, then 13 (01,
+-- 'Refusal numbers'; 02, orders 6 and 7).
 use Prim.Native.Nat.{ℕ}
 use mathlib.Core.Bool.{Bool, _||_}
 use mathlib.Core.List.{List, [], _∷_, _++_}

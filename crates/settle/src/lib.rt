@@ -9,8 +9,8 @@ use shard::check::check;
 use shard::inner::index_length;
 use sharding::Sharding;
 
-// What settling answers: the length of the settled form, or the refusal. 7 to 11 come with the byte position of what is wrong,
-// counted from the beginning of the shard.
+// What settling answers: the length of the settled form, or the refusal. 7 to 11, for a mesh also 15 to 17 and 21, come
+// with the byte position of what is wrong, counted from the beginning of the shard.
 pub enum SettleAnswer {
     Length(usize),
     Refused(u8),

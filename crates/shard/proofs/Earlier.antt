@@ -1,7 +1,7 @@
--- A shard that passed before order 2 passes now: its ids and starts do not wrap, and its ids rise.
+-- A volume shard that passed before order 2 passes now: its ids and starts do not wrap, and its ids rise.
 use Prim.Native.Nat.{ℕ, zero, suc, _+_, _^_, _≤_, _<_}
 use mathlib.Core.Path.{_≡_, sym, subst, _∙_}
-use mathlib.Core.Bool.{false}
+use mathlib.Core.Bool.{true, false}
 use mathlib.Core.Logic.{inl, inr, ⊎-elim}
 use mathlib.Core.List.{List}
 use native.Mathlib.Omega.{arith}
@@ -14,7 +14,7 @@ use Rattle.refusal.proofs.Tests.{neither}
 use Rattle.refusal.proofs.Picks.{AllIn}
 use Rattle.refusal.proofs.Refusing.{first-both}
 use Rattle.sharding.specs.declared.Sharding.{Sharding}
-use Rattle.sharding.specs.Specification.{minishardCount, noSuchShard}
+use Rattle.sharding.specs.Specification.{volume, mesh, isMesh, minishardCount, noSuchShard}
 use Rattle.shard.specs.declared.CheckAnswer.the-variants.{Sound}
 use Rattle.index.specs.Index.{entryStart, entryEnd, entryCount, idSteps, startSteps, sizes, idAt, startAt, mostShardBytes}
 use Rattle.shard.specs.Faults.{badEntry, badLength, foreign}
@@ -60,7 +60,7 @@ id-below f n up i (suc j) l h =
     let t = id-below f n up i j in
     ⊎-elim (λ q. rw q u) (λ k. omega (arith, t k (omega arith))) (eq-or-lt-of-le (le-of-suc-le-suc l))
 
-module _ (spec : Sharding) (shard : ℕ) (index d : List ℕ) (m : ℕ) (short : length d ≤ mostShardBytes) (z : firstNumber (minishardChecksBefore spec shard index d m) ≡ 0) where
+module _ (spec : Sharding) (old : spec .kind ≡ volume) (shard : ℕ) (index d : List ℕ) (m : ℕ) (short : length d ≤ mostShardBytes) (z : firstNumber (minishardChecksBefore spec shard index d m) ≡ 0) where
   abbrev s : ℕ
   s = entryStart index m
 
@@ -104,6 +104,9 @@ module _ (spec : Sharding) (shard : ℕ) (index d : List ℕ) (m : ℕ) (short :
     starts = λ i l. let h = ends-pass i l in same-start (startSteps d s n) (sizes d s n) i (omega arith);
   }
 
+  no-mesh : isMesh spec ≡ true → ⊥
+  no-mesh k = let q = eqb-true (spec .kind) mesh k in omega (arith, old)
+
   earlier-minishard : SoundMinishard spec shard index d m
   unfolding badLength
   earlier-minishard =
@@ -116,6 +119,8 @@ module _ (spec : Sharding) (shard : ℕ) (index d : List ℕ) (m : ℕ) (short :
         ours = λ i l. rw (g .ids i l) (foreign-not spec shard m (exactId (idSteps d s) i) (places-pass i l) .0);
         here = λ i l. rw (g .ids i l) (foreign-not spec shard m (exactId (idSteps d s) i) (places-pass i l) .1);
         inside = λ i l. rw (g .starts i l) (ends-pass i l);
+        manifests = λ k. absurd (no-mesh k);
+        fragments = λ k. absurd (no-mesh k);
       }
 
 -- ---- a shard
@@ -139,14 +144,14 @@ module _ (spec : Sharding) (shard : ℕ) (index d : List ℕ) where
 module _ (spec : Sharding) (shard : ℕ) (file : List ℕ) (z : PassedBefore spec shard file) where
   parts : (firstNumber (fileChecks spec (noSuchShard spec shard) file) ≡ 0) × (firstNumber (minishardsChecksBefore spec shard (indexPart spec file) (dataPart spec file) 0 (minishardCount spec)) ≡ 0)
   unfolding shardChecksBefore
-  parts = or-none _ _ (sym (first-both (fileChecks spec (noSuchShard spec shard) file) _ (file-in spec (noSuchShard spec shard) file)) ∙ z)
+  parts = or-none _ _ (sym (first-both (fileChecks spec (noSuchShard spec shard) file) _ (file-in spec (noSuchShard spec shard) file)) ∙ z .none)
 
   short-data : length (dataPart spec file) ≤ mostShardBytes
   short-data = omega (arith, length-drop (indexLength spec) file, file-called spec (noSuchShard spec shard) file (parts .0) .short)
 
   pub earlier-each : (m : ℕ) → m < minishardCount spec → EarlierFrom (dataPart spec file) (entryStart (indexPart spec file) m) (entryEnd (indexPart spec file) m)
   earlier-each m l =
-      earlier-from spec shard (indexPart spec file) (dataPart spec file) m short-data
+      earlier-from spec (z .volumes) shard (indexPart spec file) (dataPart spec file) m short-data
       (each-before spec shard (indexPart spec file) (dataPart spec file) 0 (minishardCount spec) (parts .1) m (omega arith) (omega arith))
 
   -- it is sound
@@ -159,7 +164,7 @@ module _ (spec : Sharding) (shard : ℕ) (file : List ℕ) (z : PassedBefore spe
         held = c .held;
         short = c .short;
         each = λ m l.
-            earlier-minishard spec shard (indexPart spec file) (dataPart spec file) m short-data
+            earlier-minishard spec (z .volumes) shard (indexPart spec file) (dataPart spec file) m short-data
             (each-before spec shard (indexPart spec file) (dataPart spec file) 0 (minishardCount spec) (parts .1) m (omega arith) (omega arith));
       }
 

@@ -1,5 +1,6 @@
 -- Laws of the definitions.
 pub mod Walks
+pub mod Meshes
 pub mod Faulted
 pub mod Loops
 pub mod Judged

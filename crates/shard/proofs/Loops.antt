@@ -2,7 +2,7 @@
 use Prim.Native.Nat.{ℕ, suc, _+_, _*_, _-_, _%_, _^_, _≤_, _<_}
 use mathlib.Core.Path.{_≡_, refl, ap, _∙_}
 use mathlib.Core.Bool.{Bool, true}
-use mathlib.Core.List.{List, [], _∷_}
+use mathlib.Core.List.{List, _∷_}
 use native.Mathlib.Numerals.{add-one}
 use native.Mathlib.Omega.{arith}
 use lib.ListN.{length}
@@ -15,7 +15,7 @@ use Rattle.index.specs.declared.Fault.{Fault}
 use Rattle.shard.specs.declared.judge.ShardFault.{ShardFault}
 use Rattle.index.specs.Index.{entryStart, entryEnd, entryCount, idSteps}
 use Rattle.index.specs.Tests.{EntryTest, entryTest, entryPlace, rowPlace, firstOf, fault}
-use Rattle.shard.specs.Faults.{foreign, foreignAt, outside, idTest, placeTest, endTest, entryTests, faultOf, faultAt, noFault, orLater, firstFault}
+use Rattle.shard.specs.Faults.{foreign, foreignAt, outside, idTest, placeTest, endTest, meshTests, entryTests, faultOf, faultAt, noFault, orLater, firstFault}
 use Rattle.index.proofs.Tests.{test-passed, test-failed}
 use Rattle.shard.proofs.Walks.{twice-first, twice-none, Walk, ours-hit, Span, span-end, span-start-past, span-past}
 use Rattle.shard.proofs.Faulted.{fault-before, fault-empty, fault-past, fault-ragged, fault-entries, fault-entry}
@@ -50,13 +50,16 @@ module _ {f : ℕ → Fault} {from to : ℕ} where
     unfolding firstFault
     reach s l e = let z : to - m ≡ suc (to - suc m) = omega arith in record { left = rw (e, add-one m) (rw z at (s .left)) }
 
-    hit : (k i : ℕ) {r : ShardFault} → Reached f from to m (fault (suc k) i) → r ≡ faultIn (suc k) m i → r ≡ firstFault f from (to - from)
+    next : {x : Fault} → Reached f from to m x → x .number ≡ 0 → Searching f from to (m + 1)
     unfolding orLater
-    hit k i s e = e ∙ (rw (ne-eqb (suc k) 0 (λ z. omega arith)) at (s .left))
+    next s z = record { left = rw z at (s .left) }
 
-    next : Reached f from to m (fault 0 0) → Searching f from to (m + 1)
+    given : {x : Fault} {r : ShardFault} → Reached f from to m x → (x .number ≡ 0 → ⊥) → r ≡ faultIn (x .number) m (x .position) → r ≡ firstFault f from (to - from)
     unfolding orLater
-    next s = record { left = s .left }
+    given {x} s n e = e ∙ (rw (ne-eqb (x .number) 0 n) at (s .left))
+
+    hit : (k i : ℕ) {r : ShardFault} → Reached f from to m (fault (suc k) i) → r ≡ faultIn (suc k) m i → r ≡ firstFault f from (to - from)
+    hit k i s e = given s (λ z. omega arith) e
 
 -- ---- the tests over the entries of m
 
@@ -71,10 +74,17 @@ module _ {f : ℕ → Fault} {from to m p n : ℕ} where
   end-entry k {row} {i} {q} {test} {ts} u o r e l =
       hit k (rowPlace p n row i) (record { left = rw (test-failed p n (entryTest (suc k) row test) ts e l) at (r .reached .left) }) (u ∙ ap (faultIn (suc k) m) o)
 
-  -- all pass the last
-  pub search-next : {k row : ℕ} {g h : ℕ → ℕ} {len i sum : ℕ} → Testing f from to m p n (entryTest k row (outside len g h) ∷ []) → Span g h len n i sum → n ≤ i → Searching f from to (m + 1)
-  unfolding firstOf
-  search-next r w l = next (test-next r (span-end w l) .reached)
+  -- all pass 11, and x is what the tests behind it find
+  module _ {k row : ℕ} {g h : ℕ → ℕ} {len i sum : ℕ} {ts : List EntryTest} (r : Testing f from to m p n (entryTest k row (outside len g h) ∷ ts)) (w : Span g h len n i sum) (l : n ≤ i)
+      {x : Fault} (q : x ≡ firstOf p n ts) where
+    found : Reached f from to m x
+    found = rw q (test-next r (span-end w l) .reached)
+
+    pub search-next : x .number ≡ 0 → Searching f from to (m + 1)
+    search-next = next found
+
+    pub end-given : {y : ShardFault} → (x .number ≡ 0 → ⊥) → y ≡ faultIn (x .number) m (x .position) → y ≡ firstFault f from (to - from)
+    end-given = given found
 
 -- what entry i fails points at its number in the row that begins at s or q in the data, behind `base` bytes
 module _ {f : ℕ → Fault} {from to m n : ℕ} (base : ℕ) where
@@ -105,7 +115,7 @@ module _ (spec : Sharding) (shard : ℕ) (x d : List ℕ) (from to m : ℕ) (r :
   end-before u h = hit 6 (entryPlace m) (at (fault-before spec shard m (length x) d s e h)) u
 
   pub search-empty : s ≤ e → e ≤ s → Searching (faultOf spec shard x d) from to (m + 1)
-  search-empty h o = next (at (fault-empty spec shard m (length x) d s e (omega arith)))
+  search-empty h o = next (at (fault-empty spec shard m (length x) d s e (omega arith))) refl
 
   module _ (h : s < e) where
     pub end-past : {y : ShardFault} → y ≡ faultIn 7 m (entryPlace m) → length d < e → y ≡ firstFault (faultOf spec shard x d) from (to - from)
@@ -114,7 +124,7 @@ module _ (spec : Sharding) (shard : ℕ) (x d : List ℕ) (from to m : ℕ) (r :
     pub end-ragged : {y : ShardFault} → y ≡ faultIn 8 m (entryPlace m) → e ≤ length d → ((e - s) % 24 ≡ 0 → ⊥) → y ≡ firstFault (faultOf spec shard x d) from (to - from)
     end-ragged u o z = hit 7 (entryPlace m) (at (fault-ragged spec shard m (length x) d s e (omega arith) o z)) u
 
-    test-ids : e ≤ length d → (e - s) % 24 ≡ 0 → Testing (faultOf spec shard x d) from to m (length x + s) (entryCount s e) (idTest d s ∷ placeTest spec shard m d s ∷ endTest d s (entryCount s e) ∷ [])
+    test-ids : e ≤ length d → (e - s) % 24 ≡ 0 → Testing (faultOf spec shard x d) from to m (length x + s) (entryCount s e) (idTest d s ∷ placeTest spec shard m d s ∷ endTest d s (entryCount s e) ∷ meshTests spec d s (entryCount s e))
     unfolding entryTests
     test-ids o z = record { reached = at (fault-entries spec shard m (length x) d s e (omega arith) o z) }
 
@@ -124,5 +134,5 @@ module _ (spec : Sharding) (shard : ℕ) (x d : List ℕ) (from to m : ℕ) (r :
       end-twice u h = end-entry 8 u (omega arith) (test-ids o z) (twice-first (idSteps d s) (entryCount s e) t) h
 
       -- none has
-      pub test-places : entryCount s e ≤ i → Testing (faultOf spec shard x d) from to m (length x + s) (entryCount s e) (placeTest spec shard m d s ∷ endTest d s (entryCount s e) ∷ [])
+      pub test-places : entryCount s e ≤ i → Testing (faultOf spec shard x d) from to m (length x + s) (entryCount s e) (placeTest spec shard m d s ∷ endTest d s (entryCount s e) ∷ meshTests spec d s (entryCount s e))
       test-places h = test-next (test-ids o z) (twice-none (idSteps d s) (entryCount s e) t h)

@@ -26,7 +26,7 @@ use Rattle.shard.specs.Faults.{badEntry, badLength, entryTests, faultAt,
 use Rattle.shard.specs.Checks.{entryChecks, minishardChecks, minishardsChecks}
 use Rattle.shard.specs.File.{indexLength, indexPart, dataPart, badFileLength, fileChecks, shardChecks}
 use Rattle.index.proofs.Tests.{Numbered}
-use Rattle.shard.proofs.Judged.{tests-numbered}
+use Rattle.shard.proofs.Meshes.{tests-numbered}
 
 -- ---- 'number or 0' made into an answer
 
@@ -105,7 +105,7 @@ module _ (spec : Sharding) (shard : ℕ) (index d : List ℕ) where
       let e = entryEnd index m in
       let n = entryCount s e in (
         (omega arith, omega arith),
-        ((omega arith, omega arith), entries-in (length index + s) n 11 (entryTests spec shard m d s n) (omega arith) (tests-numbered spec shard m d s e)),
+        ((omega arith, omega arith), entries-in (length index + s) n 21 (entryTests spec shard m d s n) (omega arith) (tests-numbered spec d s n shard m)),
       )
 
   pub minishard-number : (m : ℕ) → firstNumber (minishardChecks spec shard index d m) ≡ faultOf spec shard index d m .number

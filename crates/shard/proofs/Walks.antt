@@ -1,17 +1,20 @@
 -- What holds at the head of each loop over the entries of a minishard, and what each way out of a turn shows.
-use Prim.Native.Nat.{ℕ, _+_, _-_, _%_, _<_, _≤_, _^_}
+use Prim.Native.Nat.{ℕ, _+_, _*_, _-_, _%_, _<_, _≤_, _^_}
 use mathlib.Core.Path.{_≡_, sym, _∙_}
 use mathlib.Core.Bool.{Bool, true, false, not, _||_}
+use mathlib.Core.List.{List}
 use native.Mathlib.Omega.{arith}
 use lib.Dec.{eqb}
-use borrow.Author.Tests.{lt-ltb, le-ltb}
+use borrow.Author.Tests.{ltb-false, lt-ltb, le-ltb}
+use lib.ListN.{length}
 use Rattle.endian.specs.Range.{sumTo, anyBelow, first}
-use Rattle.endian.proofs.Ranges.{sum-none, sum-step, any-none, any-more, first-none, first-hit, told-none}
+use Rattle.endian.proofs.Ranges.{sum-none, sum-step, any-none, any-more, any-miss, first-none, first-hit, told-none}
 use Rattle.sharding.specs.declared.Sharding.{Sharding}
 use Rattle.sharding.specs.declared.Place.{Place}
 use Rattle.sharding.specs.Place.{placeOf}
 use Rattle.twice.specs.Twice.{firstTwice}
-use Rattle.index.specs.Index.{idAt, startAt, mostShardBytes}
+use Rattle.index.specs.Index.{startSteps, sizes, idAt, startAt, endAt, mostShardBytes}
+use Rattle.index.specs.Reading.{Readable}
 use Rattle.shard.specs.Faults.{badId, foreign, foreignAt, outside}
 
 -- ---- test 9: the first entry that has the id of an earlier one
@@ -75,6 +78,10 @@ module _ {g h : ℕ → ℕ} {len n i end : ℕ} (r : Span g h len n i end) wher
   pub span-end : n ≤ i → n ≡ first (outside len g h) n
   span-end l = let e : i ≡ n = omega arith in sym (first-none (outside len g h) n (rw e at (r .none)))
 
+  pub span-inside : n ≤ i → (j : ℕ) → j < n → endAt g h j ≤ len
+  unfolding outside
+  span-inside l j k = let e : i ≡ n = omega arith in ltb-false _ _ (any-miss (outside len g h) n j (rw e at (r .none)) k)
+
   -- the start of the next chunk is u
   module _ (l : i < n) {x u y : ℕ} (e : x ≡ g i) (w : u ≡ (end + x) % 2 ^ 64) (d : y ≡ h i) where
     start-is : u ≡ startAt g h i
@@ -99,3 +106,8 @@ module _ {g h : ℕ → ℕ} {len n i end : ℕ} (r : Span g h len n i end) wher
         let a = sum-step g i in
         let b = sum-step h i in
         record { within = omega arith; total = omega arith; none = any-more (outside len g h) i (r .none) (not-outside (omega arith)) }
+
+-- chunks that passed can be read
+pub span-readable : {base : ℕ} {d : List ℕ} (s n : ℕ) {i end : ℕ} → base ≤ mostShardBytes → length d ≤ mostShardBytes → s + 24 * n ≤ length d
+    → Span (startSteps d s n) (sizes d s n) (length d) n i end → n ≤ i → Readable base d s n
+span-readable s n b l w r h = record { near = b; short = l; whole = w; inside = span-inside r h }

@@ -1,4 +1,4 @@
--- The tests 7 to 11 of a minishard (01, 'Refusal numbers'): each runs over all entries before the next.
+-- The tests 7 to 11 of a minishard, for a mesh also 15 to 17 and 21 (01, 'Refusal numbers'; 02, order 7): each runs over all entries before the next.
 use Prim.Native.Nat.{ℕ, zero, suc, _+_, _-_, _%_}
 use mathlib.Core.Bool.{Bool, not, _||_, _&&_}
 use mathlib.Core.List.{List, [], _∷_}
@@ -7,12 +7,13 @@ use lib.ListN.{length}
 use Rattle.refusal.specs.Choice.{pick}
 use Rattle.twice.specs.Twice.{repeats}
 use Rattle.sharding.specs.declared.Sharding.{Sharding}
-use Rattle.sharding.specs.Specification.{minishardCount}
+use Rattle.sharding.specs.Specification.{isMesh, minishardCount}
 use Rattle.sharding.specs.Place.{shardOf, minishardOf}
 use Rattle.index.specs.declared.Fault.{Fault}
 use Rattle.shard.specs.declared.judge.ShardFault.{ShardFault}
 use Rattle.index.specs.Tests.{fault, entryPlace, EntryTest, entryTest, firstOf}
 use Rattle.index.specs.Index.{entryStart, entryEnd, entryCount, idSteps, startSteps, sizes, idAt, endAt}
+use Rattle.manifests.specs.Mesh.{manifestTests}
 
 -- ---- the tests
 
@@ -51,9 +52,13 @@ placeTest spec shard m d s = entryTest 10 0 (foreignAt spec shard m (idSteps d s
 abbrev pub endTest : List ℕ → ℕ → ℕ → EntryTest
 endTest d s n = entryTest 11 1 (outside (length d) (startSteps d s n) (sizes d s n))
 
+-- in a mesh the chunks are manifests: "15 to 17 of a listed manifest follow 11 within a minishard, then 21" (02, order 7)
+abbrev pub meshTests : Sharding → List ℕ → ℕ → ℕ → List EntryTest
+meshTests spec d s n = pick (isMesh spec) (manifestTests d s n) []
+
 -- in the order in which they run
 unfoldable pub entryTests : Sharding → ℕ → ℕ → List ℕ → ℕ → ℕ → List EntryTest
-entryTests spec shard m d s n = idTest d s ∷ placeTest spec shard m d s ∷ endTest d s n ∷ []
+entryTests spec shard m d s n = idTest d s ∷ placeTest spec shard m d s ∷ endTest d s n ∷ meshTests spec d s n
 
 -- ---- a minishard
 

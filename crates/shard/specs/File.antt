@@ -1,4 +1,5 @@
--- A shard as one file, and the verdict of the whole-shard check (01, 'Refusal numbers', 1, 5, 6, then 7 to 11 by minishards).
+-- A shard as one file, and the verdict of the whole-shard check (01, 'Refusal numbers', 1, 5, 6, then by minishards 7 to 11, for a
+-- mesh also 15 to 17 and 21).
 use Prim.Native.Nat.{ℕ, _*_}
 use mathlib.Core.Bool.{Bool, not, _||_}
 use mathlib.Core.List.{List, [], _∷_, _++_}
@@ -43,7 +44,7 @@ shardChecks spec shard file =
 
 -- ---- the whole-shard check
 
--- what it says of the first fault: 7 to 11 come with the minishard and the position (02, order 6)
+-- what it says of the first fault: 7 to 11, for a mesh also 15 to 17 and 21, come with the minishard and the position (02, orders 6 and 7)
 abbrev pub verdict : ShardFault → CheckAnswer
 verdict f = unless (λ k. Faulty k (f .minishard) (f .position)) (f .number) Sound
 

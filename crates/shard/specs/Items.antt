@@ -1,10 +1,14 @@
 -- What an entry of a minishard index lists: an item (01, 'From id to shard').
 use Prim.Native.Nat.{ℕ, _-_, _≤_}
 use mathlib.Core.Path.{_≡_}
-use mathlib.Core.Bool.{Bool, false}
+use mathlib.Core.Bool.{Bool, true, false}
 use mathlib.Core.List.{List}
 use lib.ListN.{take, drop}
+use Rattle.refusal.specs.Choice.{pick}
 use Rattle.sharding.specs.declared.Sharding.{Sharding}
+use Rattle.sharding.specs.Specification.{isMesh}
+use Rattle.manifest.specs.Soundness.{Sound}
+use Rattle.nodes.specs.Nodes.{fragmentsLength}
 use Rattle.index.specs.Index.{idSteps, startSteps, sizes, idAt, startAt, chunkAt}
 
 -- its id, the bytes that are kept unlisted right before its chunk, and its chunk's bytes
@@ -13,9 +17,10 @@ pub record Item : Type 0 where
   pub lead : List ℕ
   pub body : List ℕ
 
--- how many bytes right before a chunk go with it: none in a volume
+-- how many bytes right before a chunk go with it: none in a volume; in a mesh a manifest's fragments, "the bytes before it, as many as the sum of
+-- its sizes" (02, order 7)
 unfoldable pub leadLength : Sharding → List ℕ → ℕ
-leadLength spec body = 0
+leadLength spec body = pick (isMesh spec) (fragmentsLength body) 0
 
 -- the item of this id whose chunk stands in d, `size` bytes from `start` on
 unfoldable pub itemOf : Sharding → List ℕ → ℕ → ℕ → ℕ → Item
@@ -34,8 +39,9 @@ itemAt spec d s n i = itemOf spec d (idAt (idSteps d s) i) (startAt (startSteps 
 abbrev pub leads : Sharding → List ℕ → ℕ → ℕ → ℕ → ℕ
 leads spec d s n i = leadLength spec (chunkAt d s n i)
 
--- the lead of the chunk of `size` bytes at `start` lies within d
+-- the lead of the chunk of `size` bytes at `start` can be told, in a mesh by a sound manifest, and lies within d
 pub record Led (spec : Sharding) (d : List ℕ) (start size : ℕ) : Type 0 where
+  pub told : isMesh spec ≡ true → Sound (take size (drop start d))
   pub before : leadLength spec (take size (drop start d)) ≤ start
 
 -- no chunk has a lead

@@ -1,4 +1,4 @@
--- Which shards are sound (01, 'From id to shard'), said of all entries: the check passes exactly these.
+-- Which shards are sound (01, 'From id to shard'; of meshes 02, order 7), said of all entries: the check passes exactly these.
 use Prim.Native.Nat.{ℕ, _-_, _%_, _≤_, _<_}
 use mathlib.Core.Path.{_≡_}
 use mathlib.Core.Bool.{true}
@@ -8,13 +8,15 @@ use mathlib.Core.Option.{some}
 use lib.ListN.{length}
 use Rattle.refusal.specs.Checks.{firstNumber, firstPosition}
 use Rattle.sharding.specs.declared.Sharding.{Sharding}
-use Rattle.sharding.specs.Specification.{allowed, minishardCount, shardCount, noSuchShard}
+use Rattle.sharding.specs.Specification.{isMesh, allowed, minishardCount, shardCount, noSuchShard}
 use Rattle.sharding.specs.Place.{shardOf, minishardOf}
-use Rattle.index.specs.Index.{entryStart, entryEnd, entryCount, idSteps, startSteps, sizes, idAt, endAt, mostShardBytes}
+use Rattle.index.specs.Index.{entryStart, entryEnd, entryCount, idSteps, startSteps, sizes, idAt, startAt, endAt, chunkAt, mostShardBytes}
+use Rattle.manifest.specs.Soundness.{Sound}
+use Rattle.nodes.specs.Nodes.{fragmentsLength}
 use Rattle.shard.specs.Checks.{minishardChecks}
 use Rattle.shard.specs.File.{indexLength, indexPart, dataPart, fileChecks}
 
--- none of 7 to 11 holds of minishard m, whose minishard index stands in d from s to e
+-- none of 7 to 11, for a mesh also none of 15 to 17 and 21, holds of minishard m, whose minishard index stands in d from s to e
 pub record SoundFrom (spec : Sharding) (shard m : ℕ) (d : List ℕ) (s e : ℕ) : Type 0 where
   -- 7: the start is not after the end; where it is before it, the end is within the file
   pub ordered : s ≤ e
@@ -28,6 +30,11 @@ pub record SoundFrom (spec : Sharding) (shard m : ℕ) (d : List ℕ) (s e : ℕ
   pub here : (i : ℕ) → i < entryCount s e → minishardOf spec (idAt (idSteps d s) i) ≡ m
   -- 11
   pub inside : (i : ℕ) → i < entryCount s e → endAt (startSteps d s (entryCount s e)) (sizes d s (entryCount s e)) i ≤ length d
+  -- 15 to 17, of a mesh: each chunk is a sound manifest
+  pub manifests : isMesh spec ≡ true → (i : ℕ) → i < entryCount s e → Sound (chunkAt d s (entryCount s e) i)
+  -- 21, of a mesh: its fragments, the bytes right before it, start at the index end or behind it
+  pub fragments : isMesh spec ≡ true → (i : ℕ) → i < entryCount s e
+      → fragmentsLength (chunkAt d s (entryCount s e) i) ≤ startAt (startSteps d s (entryCount s e)) (sizes d s (entryCount s e)) i
 
 abbrev pub SoundMinishard : Sharding → ℕ → List ℕ → List ℕ → ℕ → Type 0
 SoundMinishard spec shard index d m = SoundFrom spec shard m d (entryStart index m) (entryEnd index m)

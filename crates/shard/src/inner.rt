@@ -6,7 +6,9 @@ ghost use lib.ListN.{length, take, drop};
 ghost use Rattle.sharding.specs.Specification.{allowed};
 ghost use Rattle.shard.specs.File.{indexLength};
 ghost use Rattle.shard.specs.Items.{leadLength, Led, MayLead};
+use nodes::inner::fragments_length;
 use sharding::Sharding;
+use sharding::inner::is_mesh;
 use sharding::inner::minishard_count;
 
 // The longest shard.
@@ -21,11 +23,11 @@ pub fn index_length(spec: Sharding) -> usize
 
 // ---- leads
 
-// Whether any chunk may have one.
+// Whether any chunk may have one: those of a mesh.
 pub fn has_leads(spec: Sharding) -> bool
     ensures { λ r. ⌜ MayLead spec r ⌝ }
 {
-    false
+    is_mesh(spec)
 }
 
 // How long the lead of the chunk of `size` bytes at `start` is.
@@ -33,5 +35,8 @@ pub fn lead_length(spec: Sharding, data: &[u8], start: usize, size: usize) -> us
     requires { ⌜ (start + size ≤ length (now «data»)) × Led spec (now «data») start size ⌝ }
     ensures { λ r. ⌜ r ≡ leadLength spec (take size (drop start (now («data» .entry)))) ⌝ }
 {
-    0
+    if !is_mesh(spec) {
+        return 0;
+    }
+    fragments_length(&data[start..start + size]) as usize
 }

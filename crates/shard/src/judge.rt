@@ -1,18 +1,21 @@
-// The judge: tests 7 to 11 of minishards in number order, up to the first fault.
+// The judge: tests 7 to 11, for a mesh also 15 to 17 and 21, of minishards in number order, up to the first fault.
 ghost use mathlib.Core.Path.{_≡_};
 ghost use mathlib.Core.Bool.{true};
 ghost use Prim.Native.Nat.{_+_, _*_, _-_, _<_, _≤_};
 ghost use lib.ListN.{length};
 ghost use Rattle.sharding.specs.Specification.{allowed, minishardCount};
 ghost use Rattle.index.specs.Index.{entryStart, entryEnd, mostShardBytes};
-ghost use Rattle.index.specs.Tests.{entryPlace};
-ghost use Rattle.shard.specs.Faults.{foreign, faultOf, firstFault};
+ghost use Rattle.index.specs.Tests.{entryPlace, firstOf};
+ghost use Rattle.index.specs.Reading.{Readable};
+ghost use Rattle.shard.specs.Faults.{foreign, meshTests, faultOf, firstFault};
 ghost use Rattle.shard.specs.File.{indexLength};
 use endian::inner::read_u64;
 use index::Fault;
 use index::entry_end;
 use index::entry_start;
+use manifests::manifest_fault;
 use sharding::Sharding;
+use sharding::inner::is_mesh;
 use sharding::inner::place;
 use twice::inner::first_twice;
 
@@ -58,8 +61,23 @@ fn row_fault(number: u8, minishard: u64, base: usize, row: usize, i: usize) -> S
     fault_at(number, minishard, base + row + 8 * i)
 }
 
+// The first fault of the manifests that a mesh minishard lists in its n entries at p; a volume has none.
+fn mesh_fault(spec: Sharding, base: usize, data: &[u8], p: usize, n: usize) -> Fault
+    requires { ⌜ Readable base (now «data») p n ⌝ }
+    ensures { λ r. ⌜ r ≡ firstOf (base + p) n (meshTests spec (now («data» .entry)) p n) ⌝ }
+{
+    if is_mesh(spec) {
+        return manifest_fault(base, data, p, n);
+    }
+    Fault {
+        number: 0,
+        position: 0,
+    }
+}
+
 // Of the minishards from `from` up to `to`, end excluded, the first with a fault. A minishard's tests 9, 10 and 11 run over
-// all its entries one after the other: `first_twice`, then 'places and 'ends, whose sums wrap. The first fault leaves all loops.
+// all its entries one after the other: `first_twice`, then 'places and 'ends, whose sums wrap; those of a mesh follow. The first fault
+// leaves all loops.
 pub fn first_fault(
     spec: Sharding,
     shard: u64,
@@ -126,6 +144,15 @@ pub fn first_fault(
                 }
                 end = start + size;
                 k += 1;
+            }
+            let bad = mesh_fault(spec, base, data, p, n);
+            if bad.number != 0 {
+                found = ShardFault {
+                    number: bad.number,
+                    minishard: m,
+                    position: bad.position,
+                };
+                break 'minishards;
             }
         }
         m += 1;

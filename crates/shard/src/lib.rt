@@ -3,8 +3,8 @@ pub mod check;
 pub mod inner;
 pub mod judge;
 
-// What the whole-shard check answers: 7 to 11 come with the first faulty minishard and the byte position of what is wrong there,
-// counted from the beginning of the shard.
+// What the whole-shard check answers: 7 to 11, for a mesh also 15 to 17 and 21, come with the first faulty minishard and the byte
+// position of what is wrong there, counted from the beginning of the shard.
 pub enum CheckAnswer {
     Sound,
     Refused(u8),

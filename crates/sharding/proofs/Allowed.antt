@@ -9,14 +9,15 @@ use native.Mathlib.Omega.{arith}
 use lib.Dec.{eqb}
 use borrow.Author.Tests.{ltb-false, le-ltb, eqb-true}
 use Rattle.sharding.specs.declared.Sharding.{Sharding}
-use Rattle.sharding.specs.Specification.{mostPreshift, mostMinishardBits, mostShardBits, identity, murmur, minishardBits, shardBits, allowed, Within, minishardCount, shardCount}
+use Rattle.sharding.specs.Specification.{mostPreshift, mostMinishardBits, mostShardBits, identity, murmur, volume, mesh, minishardBits, shardBits, allowed, Within, minishardCount, shardCount}
 
-none : (a b c d : Bool) → not (a || (not b || (c || d))) ≡ true → (a ≡ false) × ((b ≡ true) × ((c ≡ false) × (d ≡ false)))
-none false true false false e = (refl, (refl, (refl, refl)))
-none false true false true e = absurd (false≢true e)
-none false true true d e = absurd (false≢true e)
-none false false c d e = absurd (false≢true e)
-none true b c d e = absurd (false≢true e)
+none : (a b c d k : Bool) → not (a || (not b || (c || (d || not k)))) ≡ true → (a ≡ false) × ((b ≡ true) × ((c ≡ false) × ((d ≡ false) × (k ≡ true))))
+none false true false false true e = (refl, (refl, (refl, (refl, refl))))
+none false true false false false e = absurd (false≢true e)
+none false true false true k e = absurd (false≢true e)
+none false true true d k e = absurd (false≢true e)
+none false false c d k e = absurd (false≢true e)
+none true b c d k e = absurd (false≢true e)
 
 either : (a b : Bool) → a || b ≡ true → (a ≡ true) ⊎ (b ≡ true)
 either true b e = inl refl
@@ -25,14 +26,17 @@ either false b e = inr e
 pub allowed-within : {spec : Sharding} → allowed spec ≡ true → Within spec
 unfolding allowed
 allowed-within {spec} e =
-    let f = none _ _ _ _ e in
+    let f = none _ _ _ _ _ e in
     record {
       preshift = ltb-false mostPreshift (spec .preshift) (f .0);
       hash =
           ⊎-elim (λ p. inl (eqb-true (spec .hash) identity p)) (λ p. inr (eqb-true (spec .hash) murmur p))
           (either _ _ (f .1 .0));
       minishard = ltb-false mostMinishardBits (minishardBits spec) (f .1 .1 .0);
-      shard = ltb-false mostShardBits (shardBits spec) (f .1 .1 .1);
+      shard = ltb-false mostShardBits (shardBits spec) (f .1 .1 .1 .0);
+      kind =
+          ⊎-elim (λ p. inl (eqb-true (spec .kind) volume p)) (λ p. inr (eqb-true (spec .kind) mesh p))
+          (either _ _ (f .1 .1 .1 .1));
     }
 
 pub within-allowed : {spec : Sharding} → Within spec → allowed spec ≡ true
@@ -43,11 +47,13 @@ within-allowed {spec} w =
       le-ltb mostMinishardBits (minishardBits spec) (w .minishard),
       le-ltb mostShardBits (shardBits spec) (w .shard),
     )
-    (known (w .hash))
+    (known (w .hash) (w .kind))
   where
-    known : (spec .hash ≡ identity) ⊎ (spec .hash ≡ murmur) → not (not (eqb (spec .hash) identity || eqb (spec .hash) murmur) || false) ≡ true
-    known (inl e) = rw e
-    known (inr e) = rw e
+    known : (spec .hash ≡ identity) ⊎ (spec .hash ≡ murmur) → (spec .kind ≡ volume) ⊎ (spec .kind ≡ mesh) → not (not (eqb (spec .hash) identity || eqb (spec .hash) murmur) || not (eqb (spec .kind) volume || eqb (spec .kind) mesh)) ≡ true
+    known (inl e) (inl k) = rw (e, k)
+    known (inl e) (inr k) = rw (e, k)
+    known (inr e) (inl k) = rw (e, k)
+    known (inr e) (inr k) = rw (e, k)
 
 -- what a test of it tells
 pub told-allowed : (spec : Sharding) {r : Bool} → r ≡ allowed spec → r ≡ true → allowed spec ≡ true

@@ -1,4 +1,4 @@
--- The sharding specification as it stands in a card, and which ones are allowed (01, 'Refusal numbers', 1).
+-- The sharding specification, by the numbers of a card, in which the kind of a volume has no field, and which ones are allowed (01, 'Refusal numbers', 1).
 use Prim.Native.Nat.{ℕ, _^_, _≤_}
 use mathlib.Core.Path.{_≡_}
 use mathlib.Core.Bool.{Bool, not, _||_}
@@ -24,19 +24,32 @@ identity = 0
 abbrev pub murmur : ℕ
 murmur = 1
 
+-- the two kinds, by their numbers at the border (02, order 7)
+abbrev pub volume : ℕ
+volume = 0
+
+abbrev pub mesh : ℕ
+mesh = 1
+
+-- whether the chunks are manifests, with their fragments before them
+abbrev pub isMesh : Sharding → Bool
+isMesh spec = eqb (spec .kind) mesh
+
 abbrev pub minishardBits : Sharding → ℕ
 minishardBits spec = spec .«minishard_bits»
 
 abbrev pub shardBits : Sharding → ℕ
 shardBits spec = spec .«shard_bits»
 
--- refusal 1 does not hold: neither is the preshift too high, nor the hash another than the two, nor are there too many bits
+-- refusal 1 does not hold: neither is the preshift too high, nor the hash another than the two, nor are there too many bits, nor is the kind
+-- another than the two
 unfoldable pub allowed : Sharding → Bool
 allowed spec =
     not
     (ltb mostPreshift (spec .preshift)
     || (not (eqb (spec .hash) identity || eqb (spec .hash) murmur)
-    || (ltb mostMinishardBits (minishardBits spec) || ltb mostShardBits (shardBits spec))))
+    || (ltb mostMinishardBits (minishardBits spec)
+    || (ltb mostShardBits (shardBits spec) || not (eqb (spec .kind) volume || eqb (spec .kind) mesh)))))
 
 -- the same with its parts as facts
 pub record Within (spec : Sharding) : Type 0 where
@@ -44,6 +57,7 @@ pub record Within (spec : Sharding) : Type 0 where
   pub hash : (spec .hash ≡ identity) ⊎ (spec .hash ≡ murmur)
   pub minishard : minishardBits spec ≤ mostMinishardBits
   pub shard : shardBits spec ≤ mostShardBits
+  pub kind : (spec .kind ≡ volume) ⊎ (spec .kind ≡ mesh)
 
 -- how many minishards a shard has, and how many shards there are (source 002, 'Sharding specification')
 abbrev pub minishardCount : Sharding → ℕ

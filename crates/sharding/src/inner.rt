@@ -2,7 +2,7 @@
 ghost use mathlib.Core.Path.{_≡_};
 ghost use mathlib.Core.Bool.{true};
 ghost use Prim.Native.Nat.{_/_, _%_, _^_, _<_, _≤_};
-ghost use Rattle.sharding.specs.Specification.{mostMinishardBits, mostShardBits, allowed, minishardCount, shardCount};
+ghost use Rattle.sharding.specs.Specification.{mostMinishardBits, mostShardBits, isMesh, allowed, minishardCount, shardCount};
 ghost use Rattle.sharding.specs.Place.{hashedId, shardOf, minishardOf, placeOf};
 use crate::Place;
 use crate::Sharding;
@@ -17,13 +17,26 @@ const IDENTITY: u8 = 0;
 
 const MURMUR: u8 = 1;
 
+const VOLUME: u8 = 0;
+
+const MESH: u8 = 1;
+
 // Whether refusal 1 does not hold.
 pub fn is_allowed(spec: Sharding) -> bool
     ensures { λ r. ⌜ r ≡ allowed spec ⌝ }
 {
     let known = (spec.hash == IDENTITY) | (spec.hash == MURMUR);
-    let wide = (spec.minishard_bits > MOST_MINISHARD_BITS) | (spec.shard_bits > MOST_SHARD_BITS);
-    !((spec.preshift > MOST_PRESHIFT) | (!known | wide))
+    let of_kind = (spec.kind == VOLUME) | (spec.kind == MESH);
+    let wide = spec.shard_bits > MOST_SHARD_BITS;
+    !((spec.preshift > MOST_PRESHIFT)
+        | (!known | ((spec.minishard_bits > MOST_MINISHARD_BITS) | (wide | !of_kind))))
+}
+
+// Whether the chunks are manifests.
+pub fn is_mesh(spec: Sharding) -> bool
+    ensures { λ r. ⌜ r ≡ isMesh spec ⌝ }
+{
+    spec.kind == MESH
 }
 
 fn two_to(bits: u8) -> u64

@@ -9,6 +9,10 @@ use Rattle.shard.proofs.Whole.{check-number, check-refuses, check-passes-sound,
 use Rattle.lookup.proofs.Refused.{lookup-refuses}
 use Rattle.lookup.proofs.Retrieval.{listed-chunk-is-handed-out, twelve-means-not-listed}
 use Rattle.lookup.proofs.Depends.{lookup-depends-only-on-these}
+use Rattle.fragment.proofs.Refused.{fragment-refuses}
+use Rattle.fragment.proofs.Retrieval.{listed-fragment-is-handed-out, lead-length, fragments-are-the-lead}
+use Rattle.fragment.proofs.Lacking.{eighteen-means-no-fragment, others-are-the-lookups}
+use Rattle.fragment.proofs.Depends.{fragment-depends-only-on-these}
 use Rattle.listing.proofs.Refused.{count-refuses, listing-refuses, listing-kept}
 use Rattle.listing.proofs.Listed.{listing-says-what-is-listed}
 use Rattle.form.proofs.Demand3.{file-form-length, demand-3-one-form, demand-3-same, demand-3-form-passes, demand-3-form-lists}
@@ -35,6 +39,7 @@ demand-1 =
       chunkName = chunk-name-refuses;
       shardName = shard-name-refuses;
       lookup = lookup-refuses;
+      fragment = fragment-refuses;
       count = count-refuses;
       listing = listing-refuses;
       check = check-refuses;
@@ -71,6 +76,11 @@ demand-2 =
       found = λ spec shard file id i bytes a. listed-chunk-is-handed-out spec shard file id a;
       absent = twelve-means-not-listed;
       depends = λ spec shard id a b. lookup-depends-only-on-these spec shard id a b;
+      fragment = λ spec shard file item level node mesh asked sound lists has. listed-fragment-is-handed-out spec shard file item level node asked mesh sound lists has;
+      fragments = λ spec shard file item mesh sound lists. (fragments-are-the-lead mesh sound lists, lead-length mesh sound lists);
+      noFragment = eighteen-means-no-fragment;
+      refusedAlike = others-are-the-lookups;
+      dependsFragment = fragment-depends-only-on-these;
       listed = listing-says-what-is-listed;
       levelled = node-numbers;
       card = one-meaning-one-card;
@@ -82,7 +92,7 @@ demand-3 =
     record {
       sound = λ spec shard a. (check-passes-sound spec shard a, sound-passes-check spec shard a);
       same = λ spec shard a b p q. demand-3-same (check-passes-sound spec shard a p) (check-passes-sound spec shard b q);
-      pairs = λ spec. same-listing-is-same-chunks spec (volume-leads spec);
+      pairs = λ spec a b v. same-listing-is-same-chunks spec (volume-leads spec v) a b;
       one = λ spec shard a b. demand-3-one-form;
       passes = λ spec shard a. demand-3-form-passes;
       lists = λ spec shard a. demand-3-form-lists;

@@ -1,4 +1,5 @@
 pub mod Table
+pub mod MeshTable
 pub mod Calls
 pub mod Demands
 pub mod Orders

@@ -1,32 +1,39 @@
 -- The orders' promises, from the crates' laws.
-use Prim.Native.Nat.{ℕ}
+use Prim.Native.Nat.{ℕ, _<_}
 use mathlib.Core.Path.{_≡_, refl, sym, _∙_}
-use mathlib.Core.Bool.{Bool, true, not}
-use mathlib.Core.List.{List, [], _∷_}
+use mathlib.Core.Bool.{Bool, true, false, not}
+use mathlib.Core.Logic.{⊎-elim}
+use mathlib.Core.List.{List, [], _∷_, _++_, append-assoc}
 use native.Mathlib.Omega.{arith}
 use lib.ListN.{length, take, getD}
 use Rattle.refusal.specs.Checks.{check}
 use Rattle.refusal.specs.Buffer.{room}
 use Rattle.endian.specs.Little.{le}
 use Rattle.sharding.specs.declared.Sharding.{Sharding}
-use Rattle.sharding.specs.Specification.{minishardBits, noSuchShard}
+use Rattle.sharding.specs.Specification.{mesh, minishardBits, allowed, noSuchShard}
 use Rattle.sharding.specs.Place.{placeChecks}
 use Rattle.sharding.specs.Batch.{shardsOf, minishardsOf, placesChecks}
 use Rattle.sharding.specs.Before.{allowedBefore}
+use Rattle.sharding.proofs.Allowed.{allowed-within}
 use Rattle.sharding.proofs.Before.{same-before}
 use Rattle.names.specs.Shards.{shardName, shardNameChecks}
 use Rattle.shard.specs.File.{badFileLength, fileChecks}
 use Rattle.card.specs.declared.Card.{Card}
 use Rattle.card.specs.declared.CardAnswer.the-variants.{Says, Refused}
-use Rattle.card.specs.Layout.{head, field, oneByte, shardingBytes, cardBytes}
+use Rattle.card.specs.Layout.{head, field, oneByte, shardingBytes, volumeBytes, kindBytes, cardBytes}
 use Rattle.card.specs.Answers.{writeLeft}
-use Rattle.card.proofs.Before.{same-record, new-card-is-1, other-bytes-same, written-is-new}
+use Rattle.card.specs.Before.{cardBytesBeforeMesh}
+use Rattle.card.proofs.Before.{same-bytes, same-record, mesh-card-is-14, other-before-mesh, new-card-is-1, other-bytes-same, written-mesh-is-14, written-is-new}
+use Rattle.document.proofs.Meaning.{meaning}
+use Rattle.manifests.specs.Mesh.{manifestTests}
+use Rattle.shard.specs.Faults.{entryTests}
+use Rattle.shard.proofs.Leads.{volume-leads, mesh-leads}
 use Rattle.shard.proofs.Earlier.{earlier-sound, earlier-passes}
-use Rattle.form.proofs.Earlier.{earlier-form}
+use Rattle.form.proofs.Earlier.{earlier-form, volume-form}
 use Rattle.settle.proofs.Demand3.{demand-3-written}
 use Rattle.cover.proofs.Laws.{listed-is, cell-listed, keys-rise, reversed-lists-none, outside-lists-none, keys-written}
-use Rattle.positions.proofs.Points.{check-points, lookup-points, count-points, listing-points, length-named, settle-named}
-use Rattle.theorems.specs.Orders.{Order2, Order4, Order5, Order6}
+use Rattle.positions.proofs.Points.{check-points, lookup-points, fragment-points, count-points, listing-points, length-named, settle-named}
+use Rattle.theorems.specs.Orders.{Order2, Order4, Order5, Order6, Order7}
 
 pub order-2 : Order2
 order-2 = record {
@@ -74,10 +81,11 @@ order-4 = record {
   files = λ spec five file e. same-file spec e five file;
   records = λ c e. sym (same-record c (same-before (c .sharding) e));
   field = third-field;
-  written = λ c out n r w h. new-card-is-1 (take n (writeLeft c out)) (written-is-new c out n r w h);
+  written = λ c out n r w v h. new-card-is-1 (take n (writeLeft c out)) (written-is-new c out n r w v h);
   new = new-card-is-1;
   other = other-bytes-same;
-  read = λ s c e. sym (other-bytes-same s (λ h. says-none 1 c (sym (new-card-is-1 s h) ∙ e))) ∙ e;
+  read = λ s c e.
+      sym (other-bytes-same s (λ h. says-none 14 c (sym (mesh-card-is-14 s h .1) ∙ e)) (λ h. says-none 1 c (sym (new-card-is-1 s h) ∙ e))) ∙ e;
 }
 
 pub order-5 : Order5
@@ -91,4 +99,35 @@ order-5 = record {
 }
 
 pub order-6 : Order6
-order-6 = record { check = check-points; lookup = lookup-points; count = count-points; listing = listing-points; formLength = length-named; settle = settle-named }
+order-6 = record { check = check-points; lookup = lookup-points; fragment = fragment-points; count = count-points; listing = listing-points; formLength = length-named; settle = settle-named }
+
+tag-8 : (spec : Sharding) → spec .kind ≡ mesh → kindBytes spec ≡ 8 ∷ 1 ∷ 0 ∷ 1 ∷ []
+unfolding kindBytes oneByte field head le
+tag-8 spec e = rw e
+
+mesh-bytes : (c : Card) → c .sharding .kind ≡ mesh → cardBytes c ≡ cardBytesBeforeMesh c ++ (8 ∷ 1 ∷ 0 ∷ 1 ∷ [])
+unfolding cardBytes cardBytesBeforeMesh
+mesh-bytes c e = rw (tag-8 (c .sharding) e) (sym (append-assoc (shardingBytes (c .sharding)) (volumeBytes (c .volume)) (8 ∷ 1 ∷ 0 ∷ 1 ∷ [])))
+
+no-third : (spec : Sharding) → mesh < spec .kind → allowed spec ≡ false
+no-third spec h = go (allowed spec) refl
+  where
+    go : (b : Bool) → allowed spec ≡ b → allowed spec ≡ false
+    go true e = absurd (⊎-elim (λ k. omega (arith, k)) (λ k. omega (arith, k)) (allowed-within e .kind))
+    go false e = e
+
+pub order-7 : Order7
+order-7 = record {
+  volumes = λ spec shard m d s n v. unfold entryTests in rw v refl;
+  alone = λ spec body v. volume-leads spec v body;
+  form = volume-form;
+  tests = λ spec shard m d s n k. unfold entryTests manifestTests in rw k refl;
+  led = λ spec body k. mesh-leads spec k body;
+  written = written-mesh-is-14;
+  cards = mesh-card-is-14;
+  other = other-before-mesh;
+  bytes = same-bytes;
+  meshBytes = mesh-bytes;
+  kinds = no-third;
+  info = meaning .kind;
+}

@@ -27,7 +27,7 @@ use Rattle.bounds.specs.Answers.{boundsAnswer}
 use Rattle.sharding.specs.declared.Sharding.{Sharding}
 use Rattle.sharding.specs.declared.PlaceAnswer.{PlaceAnswer}
 use Rattle.sharding.specs.declared.PlaceAnswer.the-variants.{At as Placed}
-use Rattle.sharding.specs.Specification.{identity}
+use Rattle.sharding.specs.Specification.{identity, volume}
 use Rattle.sharding.specs.Place.{placeAnswer}
 use Rattle.names.specs.Shards.{shardNameAnswer, shardNameLeft}
 use Rattle.lookup.specs.declared.LookupAnswer.{LookupAnswer}
@@ -101,9 +101,9 @@ voxels x y z = record { size = extents x y z; chunk = extents 1 1 1; offset = re
 unfoldable pub shifted : Volume
 shifted = record { size = extents 100 100 100; chunk = extents 64 64 64; offset = record { x = negsuc 63; y = negsuc 63; z = negsuc 63 } }
 
--- identity, with this preshift, these minishard bits and shard bits
+-- a volume under identity, with this preshift, these minishard bits and shard bits
 abbrev pub plain : ℕ → ℕ → ℕ → Sharding
-plain preshift minishard shard = record { preshift = preshift; hash = identity; «minishard_bits» = minishard; «shard_bits» = shard }
+plain preshift minishard shard = record { preshift = preshift; hash = identity; «minishard_bits» = minishard; «shard_bits» = shard; kind = volume }
 
 -- ten bytes `?`
 unfoldable pub buffer : List ℕ

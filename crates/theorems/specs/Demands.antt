@@ -1,7 +1,7 @@
 -- The three demands, sentence by sentence, of the definitions that the entry points' contracts cite. Proved in proofs/Demands.antt.
 use Prim.Native.Nat.{ℕ, _*_, _≤_, _<_}
 use mathlib.Core.Path.{_≡_}
-use mathlib.Core.Bool.{false}
+use mathlib.Core.Bool.{true, false}
 use mathlib.Core.Logic.{_↔_, _⊎_}
 use mathlib.Core.List.{List, _++_}
 use mathlib.Core.Option.{Option, none}
@@ -25,7 +25,7 @@ use Rattle.batch.specs.Batch.{keysChecks, keysAnswer, keysLeft}
 use Rattle.cover.specs.Cover.{coverChecks, coverAnswer, coverLeft}
 use Rattle.sharding.specs.declared.Sharding.{Sharding}
 use Rattle.sharding.specs.declared.PlaceAnswer.the-variants as P
-use Rattle.sharding.specs.Specification.{noSuchShard}
+use Rattle.sharding.specs.Specification.{isMesh, noSuchShard}
 use Rattle.sharding.specs.Place.{minishardOf, placeChecks, placeAnswer}
 use Rattle.sharding.specs.Batch.{placesChecks, placesAnswer, shardsLeft, minishardsLeft}
 use Rattle.names.specs.Chunks.{chunkNameChecks, chunkNameAnswer, chunkNameLeft}
@@ -34,10 +34,13 @@ use Rattle.shard.specs.declared.CheckAnswer.the-variants.{Sound, Faulty, Refuse
 use Rattle.index.specs.Index.{mostShardBytes}
 use Rattle.shard.specs.File.{indexLength, indexPart, dataPart, fileChecks, shardChecks, checkAnswer, checkNumber}
 use Rattle.shard.specs.Sound.{SoundMinishard, SoundShard, FirstFaultIs}
-use Rattle.shard.specs.Lists.{ListsAt, ListsIn, SameListing, SameChunks}
+use Rattle.shard.specs.Items.{Item}
+use Rattle.shard.specs.Lists.{ListsAt, ListsIn, ListsItem, SameListing, SameChunks}
 use Rattle.lookup.specs.declared.LookupAnswer.the-variants as L
 use Rattle.lookup.specs.Find.{lookupChecks, lookupAnswer}
 use Rattle.lookup.specs.Lookups.{Asked, HandsOut, AgreeFor, SameAnswer}
+use Rattle.fragment.specs.Fragment.{fragmentChecks, fragmentAnswer}
+use Rattle.fragment.specs.Fragments.{HandsOutFragment, LacksFragment, SameFragment}
 use Rattle.listing.specs.declared.CountAnswer.the-variants as N
 use Rattle.listing.specs.Listing.{listingOf, countChecks, countAnswer, listingChecks, listingAnswer, listingLeft}
 use Rattle.listing.specs.Triples.{Says}
@@ -57,7 +60,8 @@ use Rattle.layout.specs.Layout.{countOf}
 use Rattle.manifest.specs.Verdict.{manifestChecks, manifestAnswer}
 use Rattle.manifest.specs.Fields.{headerAnswer, fieldChecks, fieldAnswer}
 use Rattle.nodes.specs.declared.NodeAnswer.the-variants as O
-use Rattle.nodes.specs.Nodes.{nodeAt, nodeChecks, nodeAnswer, numbersOf, nodesOf, nodesChecks, nodesAnswer, nodesLeft}
+use Rattle.nodes.specs.Run.{fragmentOf, joined}
+use Rattle.nodes.specs.Nodes.{hasNode, fragmentsLength, nodeAt, nodeChecks, nodeAnswer, numbersOf, nodesOf, nodesChecks, nodesAnswer, nodesLeft}
 use Rattle.corners.specs.declared.CornersAnswer.the-variants as Cs
 use Rattle.corners.specs.Boxes.{cornersChecks, cornersAnswer}
 
@@ -65,8 +69,8 @@ use Rattle.corners.specs.Boxes.{cornersChecks, cornersAnswer}
 
 -- That every entry point takes any numbers and bytes and ends is the checker's own: no entry point's contract has a `requires`, and each function is proved to end.
 pub record Demand1 : Type 0 where
-  -- A refusal gives one number of the table: that of the first check, in the call's fixed order, that holds. 7 to 11 carry a position, that of
-  -- the same check; the others carry none (order 6). Of each call:
+  -- A refusal gives one number of the table: that of the first check, in the call's fixed order, that holds. 7 to 11, and 15 to 17 and 21 of a
+  -- listed manifest, carry a position, that of the same check; the others carry none (orders 6 and 7). Of each call:
   pub grid : (v : Volume) → Refuses (gridAnswer v) G.Refused (gridChecks v)
   pub key : (v : Volume) (c : Cell) → Refuses (keyAnswer v c) K.Refused (keyChecks v c)
   pub keys : (v : Volume) (cells : List Cell) (out : List ℕ) → Refuses (keysAnswer v cells out) Refused (keysChecks v cells out)
@@ -78,9 +82,10 @@ pub record Demand1 : Type 0 where
   pub chunkName : (v : Volume) (c : Cell) (out : List ℕ) → Refuses (chunkNameAnswer v c out) Refused (chunkNameChecks v c out)
   pub shardName : (spec : Sharding) (shard : ℕ) (out : List ℕ) → Refuses (shardNameAnswer spec shard out) Refused (shardNameChecks spec shard out)
   pub lookup : (spec : Sharding) (shard : ℕ) (file : List ℕ) (id : ℕ) → RefusesAt (lookupAnswer spec shard file id) L.Refused L.Faulty (lookupChecks spec shard file id)
+  pub fragment : (spec : Sharding) (shard : ℕ) (file : List ℕ) (id level node : ℕ) → RefusesAt (fragmentAnswer spec shard file id level node) L.Refused L.Faulty (fragmentChecks spec shard file id level node)
   pub count : (spec : Sharding) (shard : ℕ) (file : List ℕ) (m : ℕ) → RefusesAt (countAnswer spec shard file m) N.Refused N.Faulty (countChecks spec shard file m)
   pub listing : (spec : Sharding) (shard : ℕ) (file : List ℕ) (m : ℕ) (out : List ℕ) → RefusesAt (listingAnswer spec shard file m out) N.Refused N.Faulty (listingChecks spec shard file m out)
-  -- (of the whole-shard check: 1, 5 and 6 come alone, 7 to 11 with the first minishard, in number order, that has a fault, and their position)
+  -- (of the whole-shard check: 1, 5 and 6 come alone, the others with the first minishard, in number order, that has a fault, and their position)
   pub check : (spec : Sharding) (shard : ℕ) (file : List ℕ) → Refuses (checkAnswer spec shard file) CheckRefused (fileChecks spec (noSuchShard spec shard) file)
   pub checked : (spec : Sharding) (shard : ℕ) (file : List ℕ) → checkNumber (checkAnswer spec shard file) ≡ firstNumber (shardChecks spec shard file)
   pub passed : (spec : Sharding) (shard : ℕ) (file : List ℕ) → (checkAnswer spec shard file ≡ Sound) ↔ (firstNumber (shardChecks spec shard file) ≡ 0)
@@ -120,6 +125,10 @@ ChosenListsAt spec file i id bytes = ListsAt (indexPart spec file) (dataPart spe
 abbrev pub ChosenLists : Sharding → List ℕ → ℕ → List ℕ → Type 0
 ChosenLists spec file id bytes = ListsIn (indexPart spec file) (dataPart spec file) (minishardOf spec id) id bytes
 
+-- it lists the item, with what goes with the chunk
+abbrev pub ChosenListsItem : Sharding → List ℕ → Item → Type 0
+ChosenListsItem spec file item = ListsItem spec (indexPart spec file) (dataPart spec file) (minishardOf spec (item .id)) item
+
 -- The first sentence, that keys, places, names, byte ranges and fields are the published ones, is what the contracts' equations say with these definitions.
 pub record Demand2 : Type 0 where
   -- Where a grid has at most 64 key bits, a cell of it is answered with its key, and that key is answered with the cell.
@@ -135,8 +144,26 @@ pub record Demand2 : Type 0 where
   pub absent : (spec : Sharding) (shard : ℕ) (file : List ℕ) (id : ℕ) → Asked spec shard file id
       → (lookupAnswer spec shard file id ≡ L.Refused 12)
       ↔ (ChosenSound spec shard file id × ((bytes : List ℕ) → ChosenLists spec file id bytes → ⊥))
-  -- Its answer depends on nothing else than the file's length, one index entry, that minishard's index and the chunk handed out.
+  -- Its answer depends on nothing else than the file's length, one index entry, that minishard's index, of a mesh every manifest of that
+  -- minishard, and the chunk handed out.
   pub depends : (spec : Sharding) (shard id : ℕ) (a b : List ℕ) → AgreeFor spec id a b → SameAnswer spec shard id a b
+  -- (order 7) Where the chosen minishard of a mesh is sound and lists the item, and its manifest has the node, the node's fragment is found
+  -- among the item's fragments and handed out.
+  pub fragment : (spec : Sharding) (shard : ℕ) (file : List ℕ) (item : Item) (level node : ℕ) → isMesh spec ≡ true → Asked spec shard file (item .id)
+      → ChosenSound spec shard file (item .id) → ChosenListsItem spec file item → hasNode (item .body) level node ≡ true
+      → HandsOutFragment spec shard file (item .id) level node (fragmentOf (item .body) (item .lead) level node)
+  -- Laid one after the other, the fragments of a manifest are all that goes with it, as many bytes as its sizes sum up to.
+  pub fragments : (spec : Sharding) (shard : ℕ) (file : List ℕ) (item : Item) → isMesh spec ≡ true
+      → ChosenSound spec shard file (item .id) → ChosenListsItem spec file item
+      → (joined (item .body) (item .lead) ≡ item .lead) × (length (item .lead) ≡ fragmentsLength (item .body))
+  -- This call says 18 exactly when the chosen minishard is sound and lists the id, of a volume or with a manifest that has no such node;
+  pub noFragment : (spec : Sharding) (shard : ℕ) (file : List ℕ) (id level node : ℕ) → Asked spec shard file id
+      → (fragmentAnswer spec shard file id level node ≡ L.Refused 18) ↔ LacksFragment spec shard file id level node
+  -- any other number, 12 among them, it gives exactly as the lookup does.
+  pub refusedAlike : (spec : Sharding) (shard : ℕ) (file : List ℕ) (id level node number : ℕ) (p : Option ℕ) → (number ≡ 18 → ⊥)
+      → (fragmentAnswer spec shard file id level node ≡ refusal L.Refused L.Faulty number p) ↔ (lookupAnswer spec shard file id ≡ refusal L.Refused L.Faulty number p)
+  -- This answer depends on what a lookup's depends on, and on the fragment handed out.
+  pub dependsFragment : (spec : Sharding) (shard id level node : ℕ) (a b : List ℕ) → AgreeFor spec id a b → SameFragment spec shard id level node a b
   -- The numbers of a listing say exactly what the entries of the minishard list.
   pub listed : (spec : Sharding) (file : List ℕ) (m : ℕ) → indexLength spec ≤ length file → (i id : ℕ) (bytes : List ℕ)
       → ListsAt (indexPart spec file) (dataPart spec file) m i id bytes ↔ Says (listingOf spec file m) file i id bytes
@@ -167,11 +194,11 @@ pub record Demand3 : Type 0 where
   -- To pass the check is to be sound.
   pub sound : (spec : Sharding) (shard : ℕ) (a : List ℕ) → Passes spec shard a ↔ SoundShard spec shard a
   -- Two shards of one specification and one number that pass the check, neither form longer than 1 GiB:
-  -- the forms are the same bytes exactly when both list the same ids with the same chunk bytes.
+  -- the forms are the same bytes exactly when both list the same ids with the same chunk bytes, of a mesh with the same fragments too.
   pub same : (spec : Sharding) (shard : ℕ) (a b : List ℕ) → Passes spec shard a → Passes spec shard b → Short spec a → Short spec b
       → (fileForm spec a ≡ fileForm spec b) ↔ SameListing spec a b
-  -- To list the same items is to list the same pairs of id and bytes: nothing goes with a chunk.
-  pub pairs : (spec : Sharding) (a b : List ℕ) → SameListing spec a b ↔ SameChunks spec a b
+  -- In a volume, to list the same items is to list the same pairs of id and bytes: nothing goes with a chunk.
+  pub pairs : (spec : Sharding) (a b : List ℕ) → isMesh spec ≡ false → SameListing spec a b ↔ SameChunks spec a b
   -- Shards that list the same have one form, of whatever length.
   pub one : (spec : Sharding) (shard : ℕ) (a b : List ℕ) → SoundShard spec shard a → SoundShard spec shard b → SameListing spec a b → fileForm spec a ≡ fileForm spec b
   -- The settled form of a sound shard, where it is at most 1 GiB, passes the check under the same specification and number,

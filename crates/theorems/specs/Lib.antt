@@ -1,3 +1,4 @@
 pub mod Cases
+pub mod MeshCases
 pub mod Demands
 pub mod Orders

@@ -1,9 +1,9 @@
--- What the orders promise (02), beyond the demands, which hold as they did.
+-- What the orders promise (02), beyond the demands, which hold of volumes as they did, and since order 7 of meshes too.
 use Prim.Native.Nat.{ℕ, _<_, _≤_}
 use mathlib.Core.Path.{_≡_}
 use mathlib.Core.Bool.{Bool, true, false, not}
 use mathlib.Core.Logic.{_↔_}
-use mathlib.Core.List.{List, [], _∷_, List·Memᴰ}
+use mathlib.Core.List.{List, [], _∷_, _++_, List·Memᴰ}
 use lib.ListN.{length, take, getD}
 use Rattle.refusal.specs.Checks.{check}
 use Rattle.refusal.specs.Buffer.{over, room}
@@ -18,21 +18,27 @@ use Rattle.grid.specs.Answers.{keyAnswer}
 use Rattle.cover.specs.Cover.{coverKeys, coverAnswer, coverLeft}
 use Rattle.cover.specs.Meaning.{SharesVoxel, RisingFrom, reversed, outside}
 use Rattle.sharding.specs.declared.Sharding.{Sharding}
-use Rattle.sharding.specs.Specification.{minishardBits, allowed, noSuchShard}
+use Rattle.sharding.specs.Specification.{volume, mesh, isMesh, minishardBits, allowed, noSuchShard}
 use Rattle.sharding.specs.Place.{minishardOf, placeChecks}
 use Rattle.sharding.specs.Batch.{shardsOf, minishardsOf, placesChecks}
 use Rattle.sharding.specs.Before.{mostMinishardBitsBefore, allowedBefore}
 use Rattle.names.specs.Shards.{shardName, shardNameChecks}
 use Rattle.shard.specs.declared.CheckAnswer.the-variants.{Sound, Faulty}
 use Rattle.index.specs.Index.{mostShardBytes}
+use Rattle.nodes.specs.Nodes.{fragmentsLength}
+use Rattle.index.specs.Tests.{entryTest}
+use Rattle.manifests.specs.Mesh.{wrongLength, badReal, unorderedNodes, fragmentsOutside}
+use Rattle.shard.specs.Faults.{idTest, placeTest, endTest, entryTests}
+use Rattle.shard.specs.Items.{leadLength}
 use Rattle.shard.specs.File.{badFileLength, fileChecks, checkAnswer}
 use Rattle.shard.specs.Before.{PassedBefore}
 use Rattle.lookup.specs.declared.LookupAnswer.the-variants as L
 use Rattle.lookup.specs.Find.{lookupAnswer}
+use Rattle.fragment.specs.Fragment.{fragmentAnswer}
 use Rattle.listing.specs.declared.CountAnswer.the-variants as N
 use Rattle.listing.specs.Listing.{countAnswer, listingAnswer}
 use Rattle.form.specs.Content.{fileForm}
-use Rattle.form.specs.Before.{fileFormBefore}
+use Rattle.form.specs.Before.{fileFormBefore, fileFormBeforeMesh}
 use Rattle.settle.specs.declared.SettleAnswer.the-variants as S
 use Rattle.settle.specs.Answers.{lengthAnswer, settleAnswer, settleLeft}
 use Rattle.positions.specs.Points.{PointsAt, Named}
@@ -40,7 +46,8 @@ use Rattle.card.specs.declared.Card.{Card}
 use Rattle.card.specs.declared.CardAnswer.the-variants.{Says, Refused}
 use Rattle.card.specs.Layout.{cardBytes, Ranged}
 use Rattle.card.specs.Answers.{recordChecks, readAnswer, writeAnswer, writeLeft}
-use Rattle.card.specs.Before.{recordChecksBefore, readAnswerBefore, NewCard}
+use Rattle.card.specs.Before.{cardBytesBeforeMesh, readAnswerBeforeMesh, MeshCard, recordChecksBefore, readAnswerBefore, NewCard}
+use Rattle.info.specs.Answers.{infoAnswer}
 
 -- Order 2: "a shard that passed before settles to the bytes it did before".
 pub record Order2 : Type 0 where
@@ -52,7 +59,7 @@ pub record Order2 : Type 0 where
   pub settles : (spec : Sharding) (shard : ℕ) (a out : List ℕ) → PassedBefore spec shard a → length (fileFormBefore spec a) ≤ length out → length (fileFormBefore spec a) ≤ mostShardBytes
       → (settleAnswer spec shard a out ≡ S.Length (length (fileFormBefore spec a))) × (settleLeft spec shard a out ≡ over (fileFormBefore spec a) out)
 
--- Order 4: "Existing shards and cards keep their bytes and meaning."
+-- Order 4: "Existing shards and cards keep their bytes and meaning." Since order 7 it "speaks of volume cards".
 pub record Order4 : Type 0 where
   -- What was allowed before is allowed now. Of all that answers are said with, `allowed` alone knows the limit, and it stands in these
   -- lists of checks: of a place, of places, of a shard's name, of every call on a shard and of a card's record. They are what they
@@ -69,11 +76,11 @@ pub record Order4 : Type 0 where
   -- "A card with 13 to 16 is written in the same field,
   pub field : (c : Card) → getD (cardBytes c) 11 0 ≡ minishardBits (c .sharding)
   -- and the old reading room answers it with 1; show that it never answers otherwise."
-  pub written : (c : Card) (out : List ℕ) (n : ℕ) → Ranged c → writeAnswer c out ≡ Length n → mostMinishardBitsBefore < minishardBits (c .sharding)
-      → readAnswerBefore (take n (writeLeft c out)) ≡ Refused 1
+  pub written : (c : Card) (out : List ℕ) (n : ℕ) → Ranged c → writeAnswer c out ≡ Length n → c .sharding .kind ≡ volume
+      → mostMinishardBitsBefore < minishardBits (c .sharding) → readAnswerBefore (take n (writeLeft c out)) ≡ Refused 1
   pub new : (s : List ℕ) → NewCard s → readAnswerBefore s ≡ Refused 1
-  -- It answers all other bytes as they are answered now,
-  pub other : (s : List ℕ) → (NewCard s → ⊥) → readAnswerBefore s ≡ readAnswer s
+  -- It answers all other bytes but mesh cards as they are answered now,
+  pub other : (s : List ℕ) → (MeshCard s → ⊥) → (NewCard s → ⊥) → readAnswerBefore s ≡ readAnswer s
   -- and what it read is read so now.
   pub read : (s : List ℕ) (c : Card) → readAnswerBefore s ≡ Says c → readAnswer s ≡ Says c
 
@@ -97,15 +104,47 @@ pub record Order5 : Type 0 where
       → (coverAnswer v lower upper out ≡ Length (length (coverKeys v lower upper))) × (coverLeft v lower upper out ≡ over (coverKeys v lower upper) out)
 
 -- Order 6: "Refusals 7 to 11 now carry a byte position in the shard: for 7 and 8 the index entry, for 9 and 10 the id step of the first
--- offending entry, for 11 its start step. For 9 the offending entry is the later of the pair."
+-- offending entry, for 11 its start step. For 9 the offending entry is the later of the pair." Since order 7 also those of a mesh's manifests, 15 to 17
+-- and 21: "all four carry what 11 carries".
 pub record Order6 : Type 0 where
   -- the position that comes with a refusal is the place of the very bytes: of the minishard that the check names,
   pub check : (spec : Sharding) (shard : ℕ) (file : List ℕ) (k m p : ℕ) → checkAnswer spec shard file ≡ Faulty k m p → PointsAt spec shard file m k p
   -- of the minishard of the id that is looked up,
   pub lookup : (spec : Sharding) (shard : ℕ) (file : List ℕ) (id k p : ℕ) → lookupAnswer spec shard file id ≡ L.Faulty k p → PointsAt spec shard file (minishardOf spec id) k p
+  pub fragment : (spec : Sharding) (shard : ℕ) (file : List ℕ) (id level node k p : ℕ) → fragmentAnswer spec shard file id level node ≡ L.Faulty k p → PointsAt spec shard file (minishardOf spec id) k p
   -- of the minishard that is listed.
   pub count : (spec : Sharding) (shard : ℕ) (file : List ℕ) (m k p : ℕ) → countAnswer spec shard file m ≡ N.Faulty k p → PointsAt spec shard file m k p
   pub listing : (spec : Sharding) (shard : ℕ) (file : List ℕ) (m : ℕ) (out : List ℕ) (k p : ℕ) → listingAnswer spec shard file m out ≡ N.Faulty k p → PointsAt spec shard file m k p
   -- Settling gives what the check gives, without the minishard.
   pub formLength : (spec : Sharding) (shard : ℕ) (file : List ℕ) (k p : ℕ) → lengthAnswer spec shard file ≡ S.Faulty k p → Named spec shard file k p
   pub settle : (spec : Sharding) (shard : ℕ) (file out : List ℕ) (k p : ℕ) → settleAnswer spec shard file out ≡ S.Faulty k p → Named spec shard file k p
+
+-- Order 7: "In a mesh shard each chunk must be a sound manifest, and its fragments are the bytes before it, as many as the sum of its sizes." The
+-- demands say it of both kinds. "card tag 8, one byte of 1, means mesh and is absent for volume, so a mesh card has 50 or 65 bytes. Readers from before answer it
+-- with 14, so order 4 now speaks of volume cards; the info reader yields volume."
+pub record Order7 : Type 0 where
+  -- A minishard of a volume is tested as it was, and nothing goes with its chunks;
+  pub volumes : (spec : Sharding) (shard m : ℕ) (d : List ℕ) (s n : ℕ) → isMesh spec ≡ false → entryTests spec shard m d s n ≡ idTest d s ∷ placeTest spec shard m d s ∷ endTest d s n ∷ []
+  pub alone : (spec : Sharding) (body : List ℕ) → isMesh spec ≡ false → leadLength spec body ≡ 0
+  -- its settled form is what it was, whatever the file;
+  pub form : (spec : Sharding) (a : List ℕ) → isMesh spec ≡ false → fileForm spec a ≡ fileFormBeforeMesh spec a
+  -- in a mesh four tests follow, and the fragments go with the manifest.
+  pub tests : (spec : Sharding) (shard m : ℕ) (d : List ℕ) (s n : ℕ) → isMesh spec ≡ true
+      → entryTests spec shard m d s n
+      ≡ idTest d s ∷ placeTest spec shard m d s ∷ endTest d s n
+      ∷ entryTest 15 1 (wrongLength d s n) ∷ entryTest 16 1 (badReal d s n) ∷ entryTest 17 1 (unorderedNodes d s n) ∷ entryTest 21 1 (fragmentsOutside d s n) ∷ []
+  pub led : (spec : Sharding) (body : List ℕ) → isMesh spec ≡ true → leadLength spec body ≡ fragmentsLength body
+  -- The reader from before this order, and the one from before order 4, answer 14 to what is written now of a mesh, and to every mesh
+  -- card, whoever made it.
+  pub written : (c : Card) (out : List ℕ) (n : ℕ) → writeAnswer c out ≡ Length n → c .sharding .kind ≡ mesh
+      → (readAnswerBeforeMesh (take n (writeLeft c out)) ≡ Refused 14) × (readAnswerBefore (take n (writeLeft c out)) ≡ Refused 14)
+  pub cards : (s : List ℕ) → MeshCard s → (readAnswerBeforeMesh s ≡ Refused 14) × (readAnswerBefore s ≡ Refused 14)
+  -- All other bytes the reader from before this order answers as they are answered now,
+  pub other : (s : List ℕ) → (MeshCard s → ⊥) → readAnswerBeforeMesh s ≡ readAnswer s
+  -- and the card of a volume has the bytes that it had, to which that of a mesh adds tag 8, a length of 1 and the one byte of 1.
+  pub bytes : (c : Card) → c .sharding .kind ≡ volume → cardBytes c ≡ cardBytesBeforeMesh c
+  pub meshBytes : (c : Card) → c .sharding .kind ≡ mesh → cardBytes c ≡ cardBytesBeforeMesh c ++ (8 ∷ 1 ∷ 0 ∷ 1 ∷ [])
+  -- There is no third kind: 1.
+  pub kinds : (spec : Sharding) → mesh < spec .kind → allowed spec ≡ false
+  -- "the info reader yields volume".
+  pub info : (s : List ℕ) (k : ℕ) (c : Card) → infoAnswer s k ≡ Says c → c .sharding .kind ≡ volume

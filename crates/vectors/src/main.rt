@@ -20,6 +20,7 @@ fn hashed(preshift: u8, id: u64) -> u64
             hash: 1,
             minishard_bits: 0,
             shard_bits: 0,
+            kind: 0,
         },
         id,
     )

@@ -15,6 +15,7 @@ fn card() -> Card {
             hash: Sharding::MURMUR,
             minishard_bits: 6,
             shard_bits: 11,
+            kind: 0,
         },
         volume: Volume::new([6446, 6643, 8090], [64; 3], [-64, 0, 1000]),
     }

@@ -22,6 +22,7 @@ const SHARDING: Sharding = Sharding {
     hash: 0,
     minishard_bits: 6,
     shard_bits: 4,
+    kind: 0,
 };
 
 /// The desk tool, which lies beside this program.

@@ -5,7 +5,8 @@
 //! runs, its median and its middle half, and, where the memory sets one, the
 //! limit. Both sides do the same work with the same tests, and must give the
 //! same answers. Words on the command line choose the measures whose group has
-//! one of them: key, cover, place, shard, card, info, manifest, locate, desk.
+//! one of them: key, cover, place, shard, mesh, card, info, manifest, locate,
+//! desk.
 
 mod cards;
 mod clock;
@@ -13,16 +14,18 @@ mod desk;
 mod infos;
 mod locating;
 mod manifests;
+mod meshes;
 mod places;
 mod runner;
 mod shards;
 
 /// The groups of measures, by the word that chooses them.
-const GROUPS: [(&str, fn()); 9] = [
+const GROUPS: [(&str, fn()); 10] = [
     ("key", places::run_keys),
     ("cover", places::run_covers),
     ("place", places::run_places),
     ("shard", shards::run),
+    ("mesh", meshes::run),
     ("card", cards::run),
     ("info", infos::run),
     ("manifest", manifests::run),

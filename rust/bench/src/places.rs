@@ -128,6 +128,7 @@ fn sharding(hash: u8) -> Sharding {
         hash,
         minishard_bits: 9,
         shard_bits: 14,
+        kind: 0,
     })
 }
 

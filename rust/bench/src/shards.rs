@@ -22,6 +22,7 @@ fn sample(hash: u8, minishard_bits: u8, chunks: usize, length: usize) -> Sample 
         hash,
         minishard_bits,
         shard_bits: 0,
+        kind: 0,
     };
     let ids = numbers(chunks);
     let body = bytes(length);

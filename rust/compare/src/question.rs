@@ -4,11 +4,11 @@
 //! What a question is made of is mostly preceded by a byte that says how it is
 //! meant: as it stands, or as a choice among what the other numbers or the file
 //! allow, so that any bytes ask deep questions as well. With that byte, a
-//! specification takes 5 bytes, a volume 37, a cell 13, a corner of a box 25, a
-//! number 9 and the length of an output 3.
+//! specification takes 5 bytes, one of any kind 6, a volume 37, a cell 13, a
+//! corner of a box 25, a number 9 and the length of an output 3.
 
 use reference::grid::{grid_size, key_bits, key_of, Cell, Volume};
-use reference::sharding::{Sharding, MOST_MINISHARD_BITS};
+use reference::sharding::{Sharding, MESH, MOST_MINISHARD_BITS, VOLUME};
 use testkit::{manifests, shards, Rng};
 
 /// The longest answer for which a whole output is lent: twice the longest
@@ -45,18 +45,29 @@ impl<'a> Reader<'a> {
         std::array::from_fn(|_| u32::from_le_bytes(self.take()))
     }
 
-    /// A specification as it stands, or brought into its limits.
+    /// A specification of a volume, as it stands or brought into its limits.
     pub fn sharding(&mut self) -> Sharding {
-        let [kind, preshift, hash, minishard_bits, shard_bits] = self.take();
-        let within = |field: u8, limit: u8| match kind % 2 {
-            0 => field,
-            _ => field % (limit + 1),
-        };
+        let brought = self.byte() % 2 == 1;
+        self.fields(brought)
+    }
+
+    /// A specification of any kind, likewise.
+    pub fn sharding_of_kinds(&mut self) -> Sharding {
+        let brought = self.byte() % 2 == 1;
+        let sharding = self.fields(brought);
+        let kind = within(brought, self.byte(), MESH);
+        Sharding { kind, ..sharding }
+    }
+
+    /// The fields of a volume's specification.
+    fn fields(&mut self, brought: bool) -> Sharding {
+        let [preshift, hash, minishard_bits, shard_bits] = self.take();
         Sharding {
-            preshift: within(preshift, 63),
-            hash: within(hash, 1),
-            minishard_bits: within(minishard_bits, MOST_MINISHARD_BITS),
-            shard_bits: within(shard_bits, 32),
+            preshift: within(brought, preshift, 63),
+            hash: within(brought, hash, 1),
+            minishard_bits: within(brought, minishard_bits, MOST_MINISHARD_BITS),
+            shard_bits: within(brought, shard_bits, 32),
+            kind: VOLUME,
         }
     }
 
@@ -109,6 +120,15 @@ impl<'a> Reader<'a> {
     }
 }
 
+/// A field as it stands, or brought into its limits.
+fn within(brought: bool, field: u8, limit: u8) -> u8 {
+    if brought {
+        field % (limit + 1)
+    } else {
+        field
+    }
+}
+
 /// A sample while it is written.
 #[derive(Default)]
 pub struct Writer {
@@ -139,6 +159,10 @@ impl Writer {
             .byte(sharding.hash)
             .byte(sharding.minishard_bits)
             .byte(sharding.shard_bits)
+    }
+
+    pub fn sharding_of_kinds(self, sharding: &Sharding) -> Self {
+        self.sharding(sharding).byte(sharding.kind)
     }
 
     pub fn volume(self, volume: &Volume) -> Self {
@@ -437,10 +461,15 @@ mod tests {
         let mut rng = Rng::new(1);
         for _ in 0..10_000 {
             let (sharding, volume) = (places::wild_sharding(&mut rng), places::volume(&mut rng));
+            let mesh = Sharding {
+                kind: places::kind(&mut rng),
+                ..sharding
+            };
             let (cell, number) = (places::cell(&mut rng, &volume), rng.edge_u64());
             let voxel = [number as i64, rng.edge_u64() as i64, i64::MIN];
             let bytes = Writer::new()
                 .sharding(&sharding)
+                .sharding_of_kinds(&mesh)
                 .volume(&volume)
                 .spot(Spot { kind: 0, cell })
                 .corner(Corner::plain(voxel))
@@ -451,9 +480,10 @@ mod tests {
                 })
                 .rest(b"file")
                 .finish();
-            assert_eq!(bytes.len(), 5 + 37 + 13 + 25 + 9 + 3 + 4);
+            assert_eq!(bytes.len(), 5 + 6 + 37 + 13 + 25 + 9 + 3 + 4);
             let mut reader = Reader::new(&bytes);
             assert_eq!(reader.sharding(), sharding);
+            assert_eq!(reader.sharding_of_kinds(), mesh);
             assert_eq!(reader.volume(), volume);
             assert_eq!(reader.spot().cell(&volume), cell);
             assert_eq!(reader.corner().voxel(&volume), voxel);
@@ -467,9 +497,12 @@ mod tests {
     fn specifications_and_volumes_brought_into_limits() {
         let mut rng = Rng::new(2);
         for _ in 0..10_000 {
-            let mut bytes = rng.bytes(5);
+            let mut bytes = rng.bytes(6);
             bytes[0] = 1;
             assert_eq!(Reader::new(&bytes).sharding().allowed(), Ok(()));
+            let of_kinds = Reader::new(&bytes).sharding_of_kinds();
+            assert_eq!(of_kinds.allowed(), Ok(()));
+            assert_eq!(of_kinds.kind, bytes[5] % 2);
         }
         assert!(grid_size(&Reader::new(&[1]).volume()).is_ok());
     }
@@ -505,6 +538,7 @@ mod tests {
             hash: 0,
             minishard_bits: 1,
             shard_bits: 2,
+            kind: 0,
         };
         // Minishard 1 lists ids 13 and 21, which belong to shard 2.
         let rows = [0, 0, 0, 48, 13, 8, 0, 0, 0, 0u64];

@@ -31,6 +31,7 @@ pub fn sharding(sharding: &reference::sharding::Sharding) -> Sharding {
         hash: sharding.hash,
         minishard_bits: sharding.minishard_bits,
         shard_bits: sharding.shard_bits,
+        kind: sharding.kind,
     }
 }
 

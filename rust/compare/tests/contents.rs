@@ -29,6 +29,7 @@ fn empty_minishards_are_passed_over() {
         hash: 0,
         minishard_bits: 12,
         shard_bits: 0,
+        kind: 0,
     };
     let mut file = vec![0; 16 * 4_096];
     file.extend(b"abc");

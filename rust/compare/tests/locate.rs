@@ -42,10 +42,9 @@ fn input(rng: &mut Rng) -> Vec<u8> {
         if rng.once_in(2) {
             volume.offset = [0; 3];
         }
-        let card = Card {
-            sharding: places::wild_sharding(rng),
-            volume,
-        };
+        let mut sharding = places::wild_sharding(rng);
+        sharding.kind = rng.below(2) as u8;
+        let card = Card { sharding, volume };
         if let Ok(bytes) = card::to_bytes(&card) {
             break (card, bytes);
         }
@@ -101,14 +100,16 @@ fn a_long_input() {
     assert!(run(&long) == reference::locate::locate(&long));
 }
 
-/// An input with an offset and three cells, one of them outside the grid.
-fn small_input(offset: [i32; 3]) -> Vec<u8> {
+/// An input of a kind with an offset and three cells, one of them outside the
+/// grid.
+fn small_input(kind: u8, offset: [i32; 3]) -> Vec<u8> {
     let card = Card {
         sharding: reference::sharding::Sharding {
             preshift: 1,
             hash: 1,
             minishard_bits: 3,
             shard_bits: 9,
+            kind,
         },
         volume: reference::grid::Volume {
             size: [1000, 70, 65],
@@ -125,11 +126,12 @@ fn small_input(offset: [i32; 3]) -> Vec<u8> {
     input
 }
 
-/// Every beginning of two inputs, the empty one among them.
+/// Every beginning of four inputs, the empty one among them.
 #[test]
 fn cut_inputs_at_every_length() {
-    for offset in [[0; 3], [-64, 7, i32::MIN]] {
-        let whole = small_input(offset);
+    let (none, some) = ([0; 3], [-64, 7, i32::MIN]);
+    for (kind, offset) in [(0, none), (0, some), (1, none), (1, some)] {
+        let whole = small_input(kind, offset);
         for length in 0..=whole.len() {
             let input = &whole[..length];
             assert_eq!(run(input), reference::locate::locate(input), "{length}");
@@ -137,12 +139,13 @@ fn cut_inputs_at_every_length() {
     }
 }
 
-/// Every card length with enough bytes behind it: only 46 and 61 are a card's.
+/// Every card length with enough bytes behind it: only 46, 50, 61 and 65 are a
+/// card's, and these bytes are one of the first.
 #[test]
 fn other_card_lengths() {
     for length in (0..200).chain([255, 256, 257, 1000, u16::MAX]) {
         let mut input = length.to_le_bytes().to_vec();
-        input.extend(&small_input([0; 3])[2..]);
+        input.extend(&small_input(0, [0; 3])[2..]);
         input.resize(2 + usize::from(length) + 24, 0);
         let expected = reference::locate::locate(&input);
         assert_eq!(run(&input), expected, "{length}");
@@ -150,6 +153,14 @@ fn other_card_lengths() {
             assert_eq!(expected, b"refused 14\n");
         }
     }
+}
+
+/// A mesh's cells are where a volume's are.
+#[test]
+fn the_kind_is_not_printed() {
+    let (volume, mesh) = (small_input(0, [0; 3]), small_input(1, [0; 3]));
+    assert_eq!((volume[0], mesh[0]), (46, 50));
+    assert_eq!(run(&mesh), run(&volume));
 }
 
 #[test]
@@ -160,6 +171,7 @@ fn the_case_of_the_paper() {
             hash: 0,
             minishard_bits: 1,
             shard_bits: 2,
+            kind: 0,
         },
         volume: reference::grid::Volume {
             size: [100; 3],

@@ -19,6 +19,7 @@ fn specification(hash: u8, minishard_bits: u8) -> Sharding {
         hash,
         minishard_bits,
         shard_bits: 0,
+        kind: 0,
     }
 }
 

@@ -17,6 +17,7 @@ fn the_cases_of_the_paper() {
             hash: 0,
             minishard_bits: 0,
             shard_bits,
+            kind: 0,
         };
         assert_eq!(specification.shard_name(shard).unwrap(), name);
     }

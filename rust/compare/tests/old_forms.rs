@@ -32,6 +32,7 @@ fn old_shards_settle_as_they_did() {
             hash: field(1),
             minishard_bits: field(2),
             shard_bits: field(3),
+            kind: 0,
         };
         let number = words[4].parse().expect("a shard number");
         let (file, form) = (bytes(words[5]), bytes(words[6]));

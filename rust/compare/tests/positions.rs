@@ -16,6 +16,7 @@ const TWO: Sharding = Sharding {
     hash: 0,
     minishard_bits: 1,
     shard_bits: 0,
+    kind: 0,
 };
 
 /// Numbers as they stand in a shard.

@@ -142,6 +142,7 @@ fn forms_around_a_gibibyte() {
         hash: 0,
         minishard_bits: 7,
         shard_bits: 0,
+        kind: 0,
     };
     let index_end = 16 * CHUNKS;
     let whole = (gibibyte - index_end - 24 * CHUNKS) / CHUNKS;
@@ -186,6 +187,7 @@ fn the_case_of_the_paper() {
         hash: 0,
         minishard_bits: 1,
         shard_bits: 0,
+        kind: 0,
     };
     let content = [(4, b"ab".to_vec()), (10, b"cde".to_vec())].into();
     let file = shards::lay_out(&mut rng, &specification, &content);

@@ -84,6 +84,7 @@ fn lengths_around_a_gibibyte() {
         hash: 0,
         minishard_bits: 0,
         shard_bits: 0,
+        kind: 0,
     };
     let mut file = vec![0; (1 << 30) + 1];
     let shard = Shard::open(specification, 0, &file);

@@ -11,6 +11,7 @@ fn every_value_of_each_field() {
         hash: MURMUR,
         minishard_bits: 2,
         shard_bits: 9,
+        kind: 0,
     };
     for value in 0..=u8::MAX {
         let samples = [
@@ -28,6 +29,10 @@ fn every_value_of_each_field() {
             },
             Sharding {
                 shard_bits: value,
+                ..allowed
+            },
+            Sharding {
+                kind: value,
                 ..allowed
             },
         ];
@@ -49,6 +54,7 @@ fn the_cases_of_the_paper() {
         hash: 0,
         minishard_bits: 1,
         shard_bits: 0,
+        kind: 0,
     };
     for (id, minishard) in [(2, 1), (3, 1), (4, 0)] {
         assert_eq!(specification.place(id).unwrap().minishard, minishard);

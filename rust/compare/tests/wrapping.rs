@@ -14,6 +14,7 @@ const ALL: Sharding = Sharding {
     hash: 0,
     minishard_bits: 0,
     shard_bits: 0,
+    kind: 0,
 };
 
 /// The chunk bytes in front of the minishard index.

@@ -11,12 +11,17 @@ use crate::sharding::Sharding;
 /// use coronagamba::{Card, Sharding, Volume};
 ///
 /// let card = Card {
-///     sharding: Sharding { preshift: 0, hash: 0, minishard_bits: 1, shard_bits: 2 },
+///     sharding: Sharding { preshift: 0, hash: 0, minishard_bits: 1, shard_bits: 2, kind: 0 },
 ///     volume: Volume::new([100; 3], [64; 3], [0; 3]),
 /// };
 /// let bytes = card.to_bytes()?;
 /// assert_eq!(bytes.len(), 46);
 /// assert_eq!(Card::read(&bytes)?, card);
+///
+/// // That of a mesh has one field more.
+/// let mesh = Card { sharding: Sharding { kind: Sharding::MESH, ..card.sharding }, ..card };
+/// assert_eq!(mesh.to_bytes()?, [&bytes[..], &[8, 1, 0, 1]].concat());
+/// assert_eq!(Card::read(&mesh.to_bytes()?)?, mesh);
 /// # Ok::<(), coronagamba::Refusal>(())
 /// ```
 #[derive(Clone, Copy, Debug, PartialEq, Eq, Hash)]
@@ -28,21 +33,22 @@ pub struct Card {
 }
 
 /// The most bytes that a card has.
-const MOST_CARD_BYTES: usize = 61;
+const MOST_CARD_BYTES: usize = 65;
 
-/// A card's numbers as the library gives them: the four of the specification,
+/// A card's numbers as the library gives them: the five of the specification,
 /// then volume size, chunk size and offset along x, y, z.
-type Numbers = ([u8; 4], [u32; 3], [u32; 3], [i32; 3]);
+type Numbers = ([u8; 5], [u32; 3], [u32; 3], [i32; 3]);
 
 /// The card of these numbers.
 fn of_numbers((sharding, size, chunk, offset): Numbers) -> Card {
-    let [preshift, hash, minishard_bits, shard_bits] = sharding;
+    let [preshift, hash, minishard_bits, shard_bits, kind] = sharding;
     Card {
         sharding: Sharding {
             preshift,
             hash,
             minishard_bits,
             shard_bits,
+            kind,
         },
         volume: Volume::new(size, chunk, offset),
     }
@@ -78,7 +84,7 @@ impl Card {
     }
 
     /// Reads what the text of an info file says of its scale number `scale`,
-    /// from 0, as a card; or refusal 19, 20, 1, 2 or 3.
+    /// from 0, as a card of a volume; or refusal 19, 20, 1, 2 or 3.
     ///
     /// ```
     /// use coronagamba::Card;
@@ -106,8 +112,8 @@ impl Card {
         numbers.map(of_numbers)
     }
 
-    /// Writes the card to the front of `out` and gives its length, 46 or 61;
-    /// or refusal 1, 2, 3 or 13.
+    /// Writes the card to the front of `out` and gives its length, 46 or 61, of a
+    /// mesh 50 or 65; or refusal 1, 2, 3 or 13.
     pub fn write(&self, out: &mut [u8]) -> Result<usize, Refusal> {
         let Card { sharding, volume } = *self;
         // SAFETY: pointer and count are those of one live slice, which is lent
@@ -123,7 +129,7 @@ impl Card {
     /// use coronagamba::{Card, Sharding, Volume};
     ///
     /// let card = Card {
-    ///     sharding: Sharding { preshift: 0, hash: 0, minishard_bits: 1, shard_bits: 2 },
+    ///     sharding: Sharding { preshift: 0, hash: 0, minishard_bits: 1, shard_bits: 2, kind: 0 },
     ///     volume: Volume::new([100, 1, 1], [64, 1, 1], [-64, 0, 0]),
     /// };
     /// assert_eq!(card.to_bytes()?.len(), 61);

@@ -29,6 +29,7 @@ mod tests {
         hash: 0,
         minishard_bits: 0,
         shard_bits: 0,
+        kind: 0,
     };
 
     #[test]
@@ -92,6 +93,8 @@ mod tests {
         // values, and no items may come as a null pointer.
         unsafe {
             let told = coronagamba_lookup(NO_BITS, 0, bytes, 16, 0, first, second);
+            assert_eq!(told, word);
+            let told = coronagamba_fragment(NO_BITS, 0, bytes, 16, 0, 0, 0, first, second);
             assert_eq!(told, word);
             let told = coronagamba_listed_count(NO_BITS, 0, bytes, 16, 0, first);
             assert_eq!(told, word);

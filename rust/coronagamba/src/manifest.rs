@@ -447,6 +447,6 @@ impl FusedIterator for Nodes<'_> {}
 /// A number as the library takes it. No manifest of at most 16 MiB has a
 /// level, node or field of the greatest one, so what does not fit is refused
 /// as it should be.
-fn narrowed(number: u64) -> u32 {
+pub(crate) fn narrowed(number: u64) -> u32 {
     u32::try_from(number).unwrap_or(u32::MAX)
 }

@@ -61,7 +61,8 @@ impl Sharding {
     /// ```
     /// use coronagamba::Sharding;
     ///
-    /// let of_bits = |shard_bits| Sharding { preshift: 0, hash: 0, minishard_bits: 0, shard_bits };
+    /// let one = Sharding { preshift: 0, hash: 0, minishard_bits: 0, shard_bits: 0, kind: 0 };
+    /// let of_bits = |shard_bits| Sharding { shard_bits, ..one };
     /// assert_eq!(of_bits(4).shard_name(10)?, "a.shard");
     /// assert_eq!(of_bits(5).shard_name(10)?, "0a.shard");
     /// assert_eq!(of_bits(0).shard_name(0)?, "0.shard");

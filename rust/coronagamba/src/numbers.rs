@@ -5,13 +5,19 @@
 use crate::refusal::Refusal;
 
 /// The version that these declarations belong to: major, minor, patch.
-pub const VERSION: [u64; 3] = [0, 3, 0];
+pub const VERSION: [u64; 3] = [0, 4, 0];
 
 /// A sharding's hash that leaves an id as it is.
 pub const HASH_IDENTITY: u8 = 0;
 
 /// A sharding's hash MurmurHash3_x86_128, its first 8 bytes.
 pub const HASH_MURMUR: u8 = 1;
+
+/// A sharding's kind whose chunks are any bytes.
+pub const KIND_VOLUME: u8 = 0;
+
+/// A sharding's kind whose chunks are manifests, each with its fragments before it.
+pub const KIND_MESH: u8 = 1;
 
 /// The kind of a manifest's field that is a whole number.
 pub const FIELD_WHOLE: u32 = 0;
@@ -20,8 +26,8 @@ pub const FIELD_WHOLE: u32 = 0;
 pub const FIELD_REAL: u32 = 1;
 
 impl Refusal {
-    /// Preshift above 63, hash neither identity nor murmur, minishard bits above 16, or shard bits
-    /// above 32.
+    /// Preshift above 63, hash neither identity nor murmur, minishard bits above 16, shard bits
+    /// above 32, or a kind that is neither volume nor mesh.
     pub const SHARDING_NOT_ALLOWED: u8 = 1;
 
     /// A volume or chunk extent is 0, or a cell coordinate is not below its grid size.
@@ -66,17 +72,20 @@ impl Refusal {
     /// The card is malformed.
     pub const CARD_MALFORMED: u8 = 14;
 
-    /// The manifest's length or level count is wrong.
+    /// The manifest's length or level count is wrong; in a mesh shard, that of a listed manifest.
     pub const MANIFEST_LENGTH: u8 = 15;
 
-    /// A manifest real is not finite, or a chunk shape is not above zero.
+    /// A manifest real is not finite, or a chunk shape is not above zero; in a mesh shard, of a
+    /// listed manifest.
     pub const MANIFEST_REAL: u8 = 16;
 
-    /// A level's nodes are not in strictly rising Z-curve order.
+    /// A level's nodes are not in strictly rising Z-curve order; in a mesh shard, of a listed
+    /// manifest.
     pub const NODE_ORDER: u8 = 17;
 
     /// No such level, node or field; or, where corners are asked for, that node has a position of
-    /// 2^24 or more or either corner is not finite.
+    /// 2^24 or more or either corner is not finite; or, where a fragment is asked for, the shard is
+    /// of a volume.
     pub const NO_SUCH_NODE: u8 = 18;
 
     /// Not JSON, not UTF-8 or too deep, the outermost value being at depth 1 and each value in
@@ -86,6 +95,10 @@ impl Refusal {
     /// No scale k, a needed member missing, a used one doubled or of the wrong kind, another @type
     /// or a refused encoding.
     pub const INFO_SETTINGS: u8 = 20;
+
+    /// In a mesh shard, the fragments of a listed manifest would start before the index end: the
+    /// sum of its sizes, taken exactly, exceeds its start relative to the index end.
+    pub const FRAGMENTS_BEFORE_DATA: u8 = 21;
 }
 
 /// Each number with its sentence, rising.
@@ -142,5 +155,9 @@ pub(crate) const SENTENCES: &[(u8, &str)] = &[
     (
         20,
         "The info file does not give the settings of this scale.",
+    ),
+    (
+        21,
+        "The fragments of a manifest would start before the end of the shard index.",
     ),
 ];

@@ -4,9 +4,9 @@ use crate::numbers::SENTENCES;
 use std::error::Error;
 use std::fmt;
 
-/// Why a call refused: a number from the archive's table, with 7 to 11 the
-/// place of what offends and, from the whole-shard check, the minishard that it
-/// is in.
+/// Why a call refused: a number from the archive's table; of a shard, with 7 to
+/// 11, 15 to 17 and 21, the place of what offends and, from the whole-shard check,
+/// the minishard that it is in.
 ///
 /// ```
 /// use coronagamba::Refusal;
@@ -24,12 +24,14 @@ pub struct Refusal {
     pub number: u8,
     /// The minishard with the fault, from the whole-shard check only.
     pub minishard: Option<u64>,
-    /// With 7 to 11, the byte to look at, counted from the start of the shard.
+    /// Of a shard, with 7 to 11, 15 to 17 and 21, the byte to look at, counted
+    /// from the start of the shard.
     ///
     /// With 7 and 8 the minishard's entry in the shard index begins there, 16
-    /// bytes; with 9 and 10 the id step of the first entry that offends, with 11
-    /// its start step, 8 bytes each. Of an id that stands twice it is the later
-    /// entry.
+    /// bytes; with 9 and 10 the id step of the first entry that offends, with 11,
+    /// 15 to 17 and 21 its start step, 8 bytes each. Of an id that stands twice it
+    /// is the later entry. The calls on a manifest by itself give 15 to 17 without
+    /// a position.
     pub position: Option<u64>,
 }
 

@@ -5,9 +5,9 @@ use crate::refusal::{given, written, Refusal};
 use crate::shard::Shard;
 
 impl Shard<'_> {
-    /// The length of the settled form, or refusal 1, 5 to 11, or 13 where it
-    /// would pass 1 GiB; 7 to 11 are those of [`check`](Shard::check), with the
-    /// position and without the minishard.
+    /// The length of the settled form, or refusal 1, 5 to 11, in a mesh 15 to 17
+    /// or 21, or 13 where it would pass 1 GiB; those of a minishard are the ones
+    /// of [`check`](Shard::check), with the position and without the minishard.
     pub fn settled_length(&self) -> Result<u64, Refusal> {
         // SAFETY: pointer and count are those of one live slice; the result is
         // a live number, lent to this call alone.
@@ -22,11 +22,12 @@ impl Shard<'_> {
         })
     }
 
-    /// The settled form, or refusal 1, 5 to 11, or 13 where it would pass
-    /// 1 GiB; 7 to 11 name a position.
+    /// The settled form, refused as
+    /// [`settled_length`](Shard::settled_length) is.
     ///
     /// Two sound shards of one specification and number have the same settled
-    /// form exactly when they list the same ids with the same bytes:
+    /// form exactly when they list the same ids with the same bytes, in a mesh
+    /// those of the fragments too:
     ///
     /// ```
     /// use coronagamba::{Shard, Sharding};
@@ -34,7 +35,7 @@ impl Shard<'_> {
     /// let rows = |numbers: &[u64]| -> Vec<u8> {
     ///     numbers.iter().flat_map(|number| number.to_le_bytes()).collect()
     /// };
-    /// let sharding = Sharding { preshift: 0, hash: 0, minishard_bits: 1, shard_bits: 0 };
+    /// let sharding = Sharding { preshift: 0, hash: 0, minishard_bits: 1, shard_bits: 0, kind: 0 };
     /// // The same two chunks, first behind their minishard index.
     /// let one = [rows(&[0, 48, 7, 7]), rows(&[4, 6, 48, 1, 2, 3]), b"ab-cde".to_vec()].concat();
     /// let other = [rows(&[5, 53, 0, 0]), b"abcde".to_vec(), rows(&[4, 6, 0, 0, 2, 3])].concat();
@@ -56,16 +57,17 @@ impl Shard<'_> {
         Ok(form)
     }
 
-    /// Writes the settled form to the front of `out` and gives its length, or
-    /// refusal 1, 5 to 11 or 13; 7 to 11 name a position. Nothing past that
-    /// length is touched, and nothing at all where it refuses.
+    /// Writes the settled form to the front of `out` and gives its length,
+    /// refused as [`settled_length`](Shard::settled_length) is, and with 13 where
+    /// `out` is too short. Nothing past that length is touched, and nothing at
+    /// all where it refuses.
     ///
     /// ```
     /// use coronagamba::{Shard, Sharding};
     ///
     /// // A shard of no chunks, with 4 bytes that no entry lists.
     /// let file = [0; 16 + 4];
-    /// let sharding = Sharding { preshift: 0, hash: 0, minishard_bits: 0, shard_bits: 0 };
+    /// let sharding = Sharding { preshift: 0, hash: 0, minishard_bits: 0, shard_bits: 0, kind: 0 };
     /// let shard = Shard::open(sharding, 0, &file);
     /// let mut out = [7; 18];
     /// assert_eq!(shard.settle(&mut out[..15]).unwrap_err().number, 13);

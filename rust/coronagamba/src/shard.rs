@@ -1,12 +1,13 @@
-//! Lookup, the whole-shard check and listings.
+//! Lookup, fragments, the whole-shard check and listings.
 
 use crate::ffi;
+use crate::manifest::narrowed;
 use crate::refusal::{answer, given, written, Refusal};
 use crate::sharding::Sharding;
 use std::iter::FusedIterator;
 use std::vec;
 
-/// The place of a chunk in a shard file.
+/// The place of a chunk or of a fragment in a shard file.
 #[derive(Clone, Copy, Debug, Default, PartialEq, Eq, Hash)]
 pub struct Span {
     /// Where it starts, counted from the start of the file.
@@ -33,7 +34,7 @@ pub struct Chunk<'a> {
     pub id: u64,
     /// Its place in the file.
     pub span: Span,
-    /// Its bytes, as the part of the file.
+    /// Its bytes, as the part of the file; in a mesh a manifest.
     pub bytes: &'a [u8],
 }
 
@@ -51,7 +52,7 @@ pub struct Chunk<'a> {
 ///     numbers.iter().flat_map(|number| number.to_le_bytes()).collect()
 /// };
 /// let file = [rows(&[5, 53, 0, 0]), b"abcde".to_vec(), rows(&[4, 6, 0, 0, 2, 3])].concat();
-/// let sharding = Sharding { preshift: 0, hash: 0, minishard_bits: 1, shard_bits: 0 };
+/// let sharding = Sharding { preshift: 0, hash: 0, minishard_bits: 1, shard_bits: 0, kind: 0 };
 ///
 /// let shard = Shard::open(sharding, 0, &file);
 /// shard.check()?;
@@ -92,8 +93,9 @@ impl<'a> Shard<'a> {
         self.file
     }
 
-    /// The place and length of an id's chunk, or refusal 1 or 5 to 12; 7 to 11
-    /// name a position. Of the minishards it judges the id's own alone.
+    /// The place and length of an id's chunk, or refusal 1 or 5 to 12, in a mesh
+    /// also 15 to 17 or 21; all of 7 to 11, 15 to 17 and 21 name a position. Of
+    /// the minishards it judges the id's own alone.
     ///
     /// ```
     /// # use coronagamba::{Shard, Sharding, Span};
@@ -101,7 +103,7 @@ impl<'a> Shard<'a> {
     /// #     numbers.iter().flat_map(|number| number.to_le_bytes()).collect()
     /// # };
     /// # let file = [rows(&[5, 53, 0, 0]), b"abcde".to_vec(), rows(&[4, 6, 0, 0, 2, 3])].concat();
-    /// # let sharding = Sharding { preshift: 0, hash: 0, minishard_bits: 1, shard_bits: 0 };
+    /// # let sharding = Sharding { preshift: 0, hash: 0, minishard_bits: 1, shard_bits: 0, kind: 0 };
     /// let shard = Shard::open(sharding, 0, &file);
     /// assert_eq!(shard.lookup(10)?, Span { start: 34, length: 3 });
     /// # Ok::<(), coronagamba::Refusal>(())
@@ -122,23 +124,88 @@ impl<'a> Shard<'a> {
         })
     }
 
-    /// An id's chunk, as the part of the file, or refusal 1 or 5 to 12.
+    /// An id's chunk, as the part of the file, refused as
+    /// [`lookup`](Shard::lookup) is.
     pub fn chunk(&self, id: u64) -> Result<&'a [u8], Refusal> {
         Ok(self.part(self.lookup(id)?))
     }
 
-    /// The bytes of a chunk that the library has placed in the file.
+    /// The place and length of the fragment of a node, by the id of its
+    /// manifest, its level and its number, both counted from 0; refused as
+    /// [`lookup`](Shard::lookup) is, then with 18 where there is no such node, or
+    /// where the kind is volume.
+    ///
+    /// A manifest's fragments are the bytes right before it, one after the other
+    /// in the order of its nodes. No entry of an index lists them.
+    ///
+    /// ```
+    /// use coronagamba::{Refusal, Shard, Sharding, Span};
+    ///
+    /// // A manifest of one level with two nodes; their fragments have 4 and 3 bytes.
+    /// let mut items = vec![1f32.to_bits(); 6]; // shape and origin
+    /// items.extend([1, 0, 0, 0, 0, 2]); // level count, scale, vertex offset, node count
+    /// items.extend([0, 1, 0, 0, 0, 0, 4, 3]); // two nodes: all x, y, z, all sizes
+    /// let manifest: Vec<u8> = items.iter().flat_map(|item| item.to_le_bytes()).collect();
+    /// assert_eq!(manifest.len(), 80);
+    ///
+    /// // Behind the shard index the fragments, the manifest, and the index of the one
+    /// // minishard, which lists the manifest under id 9.
+    /// let rows = |numbers: &[u64]| -> Vec<u8> {
+    ///     numbers.iter().flat_map(|number| number.to_le_bytes()).collect()
+    /// };
+    /// let file = [rows(&[87, 111]), b"nearfar".to_vec(), manifest, rows(&[9, 7, 80])].concat();
+    /// let mesh = Sharding { preshift: 0, hash: 0, minishard_bits: 0, shard_bits: 0, kind: 1 };
+    ///
+    /// let shard = Shard::open(mesh, 0, &file);
+    /// shard.check()?;
+    /// assert_eq!(shard.lookup(9)?, Span { start: 23, length: 80 });
+    /// assert_eq!(shard.lookup_fragment(9, 0, 1)?, Span { start: 20, length: 3 });
+    /// assert_eq!(shard.fragment(9, 0, 1)?, b"far");
+    /// assert_eq!(shard.fragment(9, 0, 2).unwrap_err().number, Refusal::NO_SUCH_NODE);
+    /// assert_eq!(shard.fragment(8, 0, 0).unwrap_err().number, Refusal::NOT_LISTED);
+    ///
+    /// let volume = Sharding { kind: Sharding::VOLUME, ..mesh };
+    /// let refusal = Shard::open(volume, 0, &file).fragment(9, 0, 1).unwrap_err();
+    /// assert_eq!(refusal.number, Refusal::NO_SUCH_NODE);
+    /// # Ok::<(), coronagamba::Refusal>(())
+    /// ```
+    pub fn lookup_fragment(&self, id: u64, level: u64, node: u64) -> Result<Span, Refusal> {
+        // SAFETY: pointer and count are those of one live slice; the results
+        // are two live numbers, lent to this call alone.
+        given(|Span { start, length }| unsafe {
+            ffi::coronagamba_fragment(
+                self.sharding,
+                self.number,
+                self.file.as_ptr(),
+                self.file.len(),
+                id,
+                narrowed(level),
+                narrowed(node),
+                start,
+                length,
+            )
+        })
+    }
+
+    /// The fragment of a node, as the part of the file, refused as
+    /// [`lookup_fragment`](Shard::lookup_fragment) is.
+    pub fn fragment(&self, id: u64, level: u64, node: u64) -> Result<&'a [u8], Refusal> {
+        Ok(self.part(self.lookup_fragment(id, level, node)?))
+    }
+
+    /// The bytes at a place that the library gave.
     fn part(&self, span: Span) -> &'a [u8] {
         &self.file[span.start as usize..][..span.length as usize]
     }
 
-    /// Passes exactly the sound shards, else refusal 1 or 5 to 11; 7 to 11
-    /// name the first minishard with a fault, and a position.
+    /// Passes exactly the sound shards, else refusal 1 or 5 to 11, in a mesh also
+    /// 15 to 17 or 21; all of 7 to 11, 15 to 17 and 21 name the first minishard
+    /// with a fault, and a position.
     ///
     /// ```
     /// use coronagamba::{Refusal, Shard, Sharding};
     ///
-    /// let sharding = Sharding { preshift: 0, hash: 0, minishard_bits: 1, shard_bits: 0 };
+    /// let sharding = Sharding { preshift: 0, hash: 0, minishard_bits: 1, shard_bits: 0, kind: 0 };
     /// let mut file = [0; 32];
     /// assert_eq!(Shard::open(sharding, 0, &file).check(), Ok(()));
     ///
@@ -160,7 +227,8 @@ impl<'a> Shard<'a> {
     }
 
     /// How many chunks a minishard lists, or refusal 1, 5 (also for a minishard
-    /// that is not there), 6, or 7 to 11 of that minishard with a position.
+    /// that is not there), 6, or 7 to 11, 15 to 17 or 21 of that minishard with a
+    /// position.
     pub fn listed_count(&self, minishard: u64) -> Result<u64, Refusal> {
         // SAFETY: pointer and count are those of one live slice; the result is
         // a live number, lent to this call alone.
@@ -178,8 +246,7 @@ impl<'a> Shard<'a> {
 
     /// Writes id, start and length of each chunk that a minishard lists, in
     /// stored order, to the front of `out` and gives how many numbers these
-    /// are; or refusal 1, 5 (also for a minishard that is not there), 6, 7 to
-    /// 11 of that minishard with a position, or 13.
+    /// are; refused as [`listed_count`](Shard::listed_count) is, then with 13.
     pub fn write_listing(&self, minishard: u64, out: &mut [u64]) -> Result<usize, Refusal> {
         // SAFETY: each pointer and count are those of one live slice; `out`
         // and the result are lent to this call alone.
@@ -197,9 +264,8 @@ impl<'a> Shard<'a> {
         })
     }
 
-    /// The chunks that a minishard lists, in stored order, or refusal 1, 5
-    /// (also for a minishard that is not there), 6, or 7 to 11 of that
-    /// minishard with a position.
+    /// The chunks that a minishard lists, in stored order, refused as
+    /// [`listed_count`](Shard::listed_count) is.
     ///
     /// ```
     /// # use coronagamba::{Shard, Sharding, Span};
@@ -207,7 +273,7 @@ impl<'a> Shard<'a> {
     /// #     numbers.iter().flat_map(|number| number.to_le_bytes()).collect()
     /// # };
     /// # let file = [rows(&[5, 53, 0, 0]), b"abcde".to_vec(), rows(&[4, 6, 0, 0, 2, 3])].concat();
-    /// # let sharding = Sharding { preshift: 0, hash: 0, minishard_bits: 1, shard_bits: 0 };
+    /// # let sharding = Sharding { preshift: 0, hash: 0, minishard_bits: 1, shard_bits: 0, kind: 0 };
     /// let shard = Shard::open(sharding, 0, &file);
     /// let listed = shard.listing(0)?;
     /// assert_eq!((listed[0].id, listed[1].id), (4, 10));
@@ -227,8 +293,8 @@ impl<'a> Shard<'a> {
     }
 
     /// All chunks of a sound shard: the minishards in number order, the chunks
-    /// of each in stored order. The check comes first, and refuses a shard
-    /// that is not sound with 1 or 5 to 11.
+    /// of each in stored order. The [`check`](Shard::check) comes first, and
+    /// refuses a shard that is not sound.
     ///
     /// ```
     /// # use coronagamba::{Shard, Sharding};
@@ -236,7 +302,7 @@ impl<'a> Shard<'a> {
     /// #     numbers.iter().flat_map(|number| number.to_le_bytes()).collect()
     /// # };
     /// # let file = [rows(&[5, 53, 0, 0]), b"abcde".to_vec(), rows(&[4, 6, 0, 0, 2, 3])].concat();
-    /// # let sharding = Sharding { preshift: 0, hash: 0, minishard_bits: 1, shard_bits: 0 };
+    /// # let sharding = Sharding { preshift: 0, hash: 0, minishard_bits: 1, shard_bits: 0, kind: 0 };
     /// let shard = Shard::open(sharding, 0, &file);
     /// let mut all = Vec::new();
     /// for chunk in shard.chunks()? {

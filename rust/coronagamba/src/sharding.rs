@@ -7,7 +7,7 @@ use crate::refusal::{given, written, Refusal};
 /// A sharding specification, its fields as in a deposit card.
 ///
 /// Any numbers may stand here; each call judges them. There is no default
-/// worth assuming for a deposit: name all four, or read its card.
+/// worth assuming for a deposit: name all five, or read its card.
 ///
 /// ```
 /// use coronagamba::Sharding;
@@ -17,6 +17,7 @@ use crate::refusal::{given, written, Refusal};
 ///     hash: Sharding::IDENTITY,
 ///     minishard_bits: 1,
 ///     shard_bits: 0,
+///     kind: Sharding::VOLUME,
 /// };
 /// assert_eq!(sharding.place(2)?.minishard, 1);
 /// assert_eq!(sharding.place(3)?.minishard, 1);
@@ -34,6 +35,10 @@ pub struct Sharding {
     pub minishard_bits: u8,
     /// The next bits, which give the shard, at most 32.
     pub shard_bits: u8,
+    /// [`VOLUME`](Sharding::VOLUME) or [`MESH`](Sharding::MESH). It decides what
+    /// a shard holds, and nothing about the place of an id. A mesh that is
+    /// settled as a volume loses its fragments.
+    pub kind: u8,
 }
 
 /// Where an id belongs.
@@ -52,15 +57,24 @@ impl Sharding {
     /// MurmurHash3_x86_128, its first 8 bytes.
     pub const MURMUR: u8 = numbers::HASH_MURMUR;
 
+    /// The kind whose chunks are any bytes.
+    pub const VOLUME: u8 = numbers::KIND_VOLUME;
+
+    /// The kind whose chunks are manifests, each with its fragments right before
+    /// it.
+    pub const MESH: u8 = numbers::KIND_MESH;
+
     /// Passes exactly the allowed specifications, else refusal 1.
     ///
     /// ```
     /// use coronagamba::Sharding;
     ///
-    /// let most = Sharding { preshift: 63, hash: 1, minishard_bits: 16, shard_bits: 32 };
+    /// let most = Sharding { preshift: 63, hash: 1, minishard_bits: 16, shard_bits: 32, kind: 1 };
     /// assert_eq!(most.allowed(), Ok(()));
     /// let more = Sharding { minishard_bits: 17, ..most };
     /// assert_eq!(more.allowed().unwrap_err().number, 1);
+    /// let other = Sharding { kind: 2, ..most };
+    /// assert_eq!(other.allowed().unwrap_err().number, 1);
     /// ```
     pub fn allowed(&self) -> Result<(), Refusal> {
         // Asking for the place of an id refuses with 1 and with nothing else.
@@ -72,7 +86,7 @@ impl Sharding {
     /// ```
     /// use coronagamba::{Place, Sharding};
     ///
-    /// let sharding = Sharding { preshift: 0, hash: 0, minishard_bits: 1, shard_bits: 2 };
+    /// let sharding = Sharding { preshift: 0, hash: 0, minishard_bits: 1, shard_bits: 2, kind: 0 };
     /// assert_eq!(sharding.place(5)?, Place { shard: 2, minishard: 1 });
     /// # Ok::<(), coronagamba::Refusal>(())
     /// ```
@@ -88,7 +102,7 @@ impl Sharding {
     /// ```
     /// use coronagamba::{Place, Sharding};
     ///
-    /// let sharding = Sharding { preshift: 0, hash: 0, minishard_bits: 1, shard_bits: 2 };
+    /// let sharding = Sharding { preshift: 0, hash: 0, minishard_bits: 1, shard_bits: 2, kind: 0 };
     /// let places = sharding.places(&[5, 3])?;
     /// assert_eq!(places, [Place { shard: 2, minishard: 1 }, Place { shard: 1, minishard: 1 }]);
     /// # Ok::<(), coronagamba::Refusal>(())
@@ -109,7 +123,7 @@ impl Sharding {
     /// ```
     /// use coronagamba::Sharding;
     ///
-    /// let sharding = Sharding { preshift: 0, hash: 0, minishard_bits: 1, shard_bits: 2 };
+    /// let sharding = Sharding { preshift: 0, hash: 0, minishard_bits: 1, shard_bits: 2, kind: 0 };
     /// let (mut shards, mut minishards) = ([9; 3], [9; 3]);
     /// assert_eq!(sharding.write_places(&[5, 3], &mut shards, &mut minishards)?, 2);
     /// assert_eq!((shards, minishards), ([2, 1, 9], [1, 1, 9]));

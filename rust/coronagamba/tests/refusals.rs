@@ -1,6 +1,6 @@
 //! Each refusal of the table, met by a call, with its sentence.
 
-use coronagamba::{Card, Manifest, Refusal, Shard, Sharding, Volume};
+use coronagamba::{Card, Manifest, Refusal, Shard, Sharding, Span, Volume};
 use std::error::Error;
 
 /// Two minishards, one shard.
@@ -9,7 +9,16 @@ const TWO: Sharding = Sharding {
     hash: Sharding::IDENTITY,
     minishard_bits: 1,
     shard_bits: 0,
+    kind: Sharding::VOLUME,
 };
+/// The same of a mesh.
+const MESH: Sharding = Sharding {
+    kind: Sharding::MESH,
+    ..TWO
+};
+
+/// The numbers of faults in a minishard: all come with a position.
+const FAULTS: [u8; 9] = [7, 8, 9, 10, 11, 15, 16, 17, 21];
 
 /// Numbers as they stand in a shard.
 fn row(numbers: &[u64]) -> Vec<u8> {
@@ -30,6 +39,20 @@ fn second(entry: [u64; 2], rows: &[u64]) -> Vec<u8> {
     [row(&[0, 0, start, end]), b"abcde".to_vec(), row(rows)].concat()
 }
 
+/// A mesh shard of two minishards, of which the second lists two manifests under
+/// ids 5 and 11, each behind so many bytes: a sound one, then this one. And where
+/// the start step of an entry stands.
+fn second_mesh(manifest: Vec<u8>, lead: u64, entry: u64) -> (Vec<u8>, u64) {
+    let sound = self::manifest(1.0, [0, 1]);
+    let (first, second) = (sound.len() as u64, manifest.len() as u64);
+    let before = vec![b'-'; lead as usize];
+    let data = [&before[..], &sound, &before, &manifest].concat();
+    let end = data.len() as u64;
+    let rows = row(&[5, 6, lead, lead, first, second]);
+    let file = [row(&[0, 0, end, end + 48]), data, rows].concat();
+    (file, 32 + end + 16 + 8 * entry)
+}
+
 /// A shard whose second minishard has the fault of this number, and where.
 fn faulty(number: u8) -> (Vec<u8>, u64) {
     let whole = [5, 53];
@@ -39,11 +62,23 @@ fn faulty(number: u8) -> (Vec<u8>, u64) {
         9 => (second(whole, &[5, 0, 0, 0, 2, 3]), 45),
         10 => (second(whole, &[5, 5, 0, 0, 2, 3]), 45),
         11 => (second(whole, &[5, 6, 0, 0, 2, 52]), 61),
+        15 => second_mesh(manifest(1.0, [0, 1])[1..].to_vec(), 10, 1),
+        16 => second_mesh(manifest(0.0, [0, 1]), 10, 1),
+        17 => second_mesh(manifest(1.0, [1, 0]), 10, 1),
+        // Fragments of 10 bytes, and room for 9.
+        21 => second_mesh(manifest(1.0, [0, 1]), 9, 0),
         _ => panic!("{number} is no fault of a minishard"),
     }
 }
 
-/// A manifest of one level with two nodes at these x positions.
+/// The shard of [`faulty`], of the kind that can have the fault.
+fn faulty_shard(number: u8, file: &[u8]) -> Shard<'_> {
+    let sharding = if number > 11 { MESH } else { TWO };
+    Shard::open(sharding, 0, file)
+}
+
+/// A manifest of one level with two nodes at these x positions, each with a
+/// fragment of 5 bytes.
 fn manifest(shape: f32, x: [u32; 2]) -> Vec<u8> {
     let [first, second] = x;
     let shape = shape.to_bits();
@@ -67,7 +102,7 @@ fn refused(number: u8) -> Refusal {
         4 => grid([5, 3, 1]).cell(20).map(|_| ()),
         5 => Shard::open(TWO, 1, &[0; 32]).check(),
         6 => Shard::open(TWO, 0, &[0; 31]).check(),
-        7..=11 => Shard::open(TWO, 0, &faulty(number).0).check(),
+        7..=11 | 21 => faulty_shard(number, &faulty(number).0).check(),
         12 => Shard::open(TWO, 0, &[0; 32]).chunk(6).map(|_| ()),
         13 => Shard::open(TWO, 0, &[0; 32])
             .settle(&mut [0; 31])
@@ -97,30 +132,79 @@ fn each_number_is_given_and_has_its_sentence() {
 }
 
 #[test]
-fn the_check_names_a_minishard_and_a_position_with_7_to_11() {
-    for number in Refusal::numbers() {
+fn the_check_names_a_minishard_and_a_position_with_its_faults() {
+    for number in FAULTS {
+        let (file, position) = faulty(number);
+        let refusal = faulty_shard(number, &file).check().unwrap_err();
+        assert_eq!(refusal.number, number);
+        assert_eq!(refusal.minishard, Some(1));
+        assert_eq!(refusal.position, Some(position));
+        let sentence = refusal.sentence();
+        let place = format!("The fault is in minishard 1, at byte {position}.");
+        assert_eq!(
+            refusal.to_string(),
+            format!("refused {number}: {sentence} {place}")
+        );
+    }
+}
+
+/// 15 to 17 of a manifest by itself among them.
+#[test]
+fn nothing_else_names_a_place() {
+    let others = |number: &u8| !(7..=11).contains(number) && *number != 21;
+    for number in Refusal::numbers().filter(others) {
         let refusal = refused(number);
+        assert_eq!((refusal.minishard, refusal.position), (None, None));
         let shown = format!("refused {number}: {}", refusal.sentence());
-        if (7..=11).contains(&number) {
-            let (_, position) = faulty(number);
-            assert_eq!(refusal.minishard, Some(1));
-            assert_eq!(refusal.position, Some(position));
-            let shown = format!("{shown} The fault is in minishard 1, at byte {position}.");
-            assert_eq!(refusal.to_string(), shown);
-        } else {
-            assert_eq!((refusal.minishard, refusal.position), (None, None));
-            assert_eq!(refusal.to_string(), shown);
+        assert_eq!(refusal.to_string(), shown);
+    }
+}
+
+/// A volume's chunks are any bytes, and a mesh's fragments must have room.
+#[test]
+fn a_volume_is_not_judged_by_manifests() {
+    for number in [15, 16, 17, 21] {
+        let (file, _) = faulty(number);
+        let shard = Shard::open(TWO, 0, &file);
+        assert_eq!(shard.check(), Ok(()));
+        assert_eq!(shard.listed_count(1), Ok(2));
+        assert_eq!(shard.chunk(5), Ok(&manifest(1.0, [0, 1])[..]));
+        assert_eq!(shard.fragment(5, 0, 0).unwrap_err().number, 18);
+    }
+}
+
+#[test]
+fn fragments() {
+    let (file, _) = second_mesh(manifest(1.0, [2, 3]), 10, 0);
+    let shard = Shard::open(MESH, 0, &file);
+    assert_eq!(shard.check(), Ok(()));
+    // Manifests of 80 bytes; the second one's fragments begin behind the first.
+    for (id, first) in [(5, 32), (11, 32 + 90)] {
+        for node in 0..2 {
+            let span = Span {
+                start: first + 5 * node,
+                length: 5,
+            };
+            assert_eq!(shard.lookup_fragment(id, 0, node), Ok(span));
+            assert_eq!(shard.fragment(id, 0, node), Ok(&b"-----"[..]));
+        }
+        for (level, node) in [(0, 2), (1, 0), (0, u64::MAX), (1 << 32, 0)] {
+            let refusal = shard.fragment(id, level, node).unwrap_err();
+            assert_eq!(refusal.number, Refusal::NO_SUCH_NODE);
         }
     }
+    assert_eq!(shard.fragment(7, 0, 0).unwrap_err().number, 12);
+    assert_eq!(shard.fragment(4, 9, 9).unwrap_err().number, 12);
+    assert_eq!(shard.settled().map(|form| form == file), Ok(true));
 }
 
 /// All calls that read a shard pass the position on; the check alone names the
 /// minishard.
 #[test]
 fn each_call_passes_the_position_on() {
-    for number in 7..=11 {
+    for number in FAULTS {
         let (file, position) = faulty(number);
-        let shard = Shard::open(TWO, 0, &file);
+        let shard = faulty_shard(number, &file);
         let told = Refusal {
             number,
             minishard: None,
@@ -134,6 +218,8 @@ fn each_call_passes_the_position_on() {
         assert_eq!(shard.chunks().map(|_| ()), Err(checked));
         assert_eq!(shard.lookup(5), Err(told));
         assert_eq!(shard.chunk(5), Err(told));
+        assert_eq!(shard.lookup_fragment(5, 0, 0), Err(told));
+        assert_eq!(shard.fragment(5, 9, 9), Err(told));
         assert_eq!(shard.listed_count(1), Err(told));
         assert_eq!(shard.write_listing(1, &mut []), Err(told));
         assert_eq!(shard.listing(1), Err(told));
@@ -152,6 +238,8 @@ fn each_call_passes_the_position_on() {
 fn the_untouched_shard_and_manifest_are_sound() {
     let sound = second([5, 53], &[5, 6, 0, 0, 2, 3]);
     assert_eq!(Shard::open(TWO, 0, &sound).check(), Ok(()));
+    let (sound, _) = second_mesh(manifest(1.0, [0, 1]), 10, 0);
+    assert_eq!(Shard::open(MESH, 0, &sound).check(), Ok(()));
     assert_eq!(Manifest::open(&manifest(1.0, [0, 1])).check(), Ok(()));
 }
 

@@ -12,6 +12,7 @@ fn every_value_of_each_field() {
             hash: 0,
             minishard_bits: 0,
             shard_bits: 0,
+            kind: 0,
         };
         let preshift = Sharding {
             preshift: value,
@@ -29,6 +30,10 @@ fn every_value_of_each_field() {
             shard_bits: value,
             ..zero
         };
+        let kind = Sharding {
+            kind: value,
+            ..zero
+        };
         assert_eq!(allowed(preshift), value <= 63);
         assert_eq!(
             allowed(hash),
@@ -36,5 +41,9 @@ fn every_value_of_each_field() {
         );
         assert_eq!(allowed(minishard_bits), value <= 16);
         assert_eq!(allowed(shard_bits), value <= 32);
+        assert_eq!(
+            allowed(kind),
+            [Sharding::VOLUME, Sharding::MESH].contains(&value)
+        );
     }
 }

@@ -15,6 +15,7 @@ const SHARDING: Sharding = Sharding {
     hash: Sharding::MURMUR,
     minishard_bits: 1,
     shard_bits: 0,
+    kind: Sharding::VOLUME,
 };
 
 /// Numbers as they stand in a shard.
@@ -37,6 +38,13 @@ fn info() -> (Vec<u8>, Vec<u8>) {
         .into_bytes()
     };
     (info(nested("0")), info(nested("[0]")))
+}
+
+/// A manifest of one node, whose fragment has 9 bytes.
+fn manifest() -> Vec<u8> {
+    let mut items = vec![1f32.to_bits(); 6];
+    items.extend([1, 0, 0, 0, 0, 1, 0, 0, 0, 9]);
+    items.iter().flat_map(|item| item.to_le_bytes()).collect()
 }
 
 /// A shard of one minishard with this many empty chunks, their ids falling.
@@ -76,6 +84,32 @@ fn shard_calls() {
     assert!(shard.settled().is_ok_and(|form| form == file));
 }
 
+/// The calls that read a mesh shard, of one whose 1,000 ids fall.
+fn mesh_calls() {
+    let mesh = Sharding {
+        hash: Sharding::IDENTITY,
+        minishard_bits: 0,
+        kind: Sharding::MESH,
+        ..SHARDING
+    };
+    let (chunks, manifest) = (1_000, manifest());
+    let length = manifest.len() as u64;
+    let file = {
+        let data = [vec![b'-'; 9], manifest].concat().repeat(chunks as usize);
+        let end = data.len() as u64;
+        let steps = (0..chunks).map(|i| if i == 0 { chunks } else { u64::MAX });
+        let mut rows: Vec<u64> = steps.collect();
+        rows.resize(2 * chunks as usize, 9);
+        rows.resize(3 * chunks as usize, length);
+        [row(&[end, end + 24 * chunks]), data, row(&rows)].concat()
+    };
+    let shard = Shard::open(mesh, 0, &file);
+    assert_eq!(shard.check(), Ok(()));
+    assert_eq!(shard.fragment(1, 0, 0), Ok(&b"---------"[..]));
+    let form = shard.settled().expect("the shard is sound");
+    assert!(form != file && form.len() == file.len());
+}
+
 /// A call of each kind but those. One that passes the stack ends the program.
 fn calls() {
     let volume = Volume::new([100, 200, 300], [64; 3], [-64, 0, 0]);
@@ -103,9 +137,7 @@ fn calls() {
         Card::read_info(&deep, 0).map_err(|refusal| refusal.number),
         Err(19)
     );
-    let mut items = vec![1f32.to_bits(); 6];
-    items.extend([1, 0, 0, 0, 0, 1, 0, 0, 0, 9]);
-    let bytes: Vec<u8> = items.iter().flat_map(|item| item.to_le_bytes()).collect();
+    let bytes = manifest();
     let manifest = Manifest::open(&bytes);
     assert!(manifest.header().is_ok() && manifest.levels().is_ok());
     assert!(manifest.node(0, 0).is_ok() && manifest.corners(0, 0).is_ok());
@@ -122,6 +154,7 @@ fn a_small_stack_is_enough() {
     within(STACK, calls);
     within(STACK, shard_calls);
     within(STACK, || judging_calls(1_000));
+    within(STACK, mesh_calls);
 }
 
 /// By the filter, and by the passes.

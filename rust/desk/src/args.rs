@@ -250,6 +250,17 @@ pub fn triple<T: FromStr>(word: &OsStr, what: &str, wanted: &str) -> Result<[T; 
     Ok([part(x)?, part(y)?, part(z)?])
 }
 
+/// Two whole numbers with a comma between them, each decimal or 0x hex; `wanted`
+/// names them.
+pub fn pair(word: &OsStr, what: &str, wanted: &str) -> Result<[u64; 2], Fault> {
+    let parts: Vec<&[u8]> = word.as_bytes().split(|byte| *byte == b',').collect();
+    let [first, second] = parts[..] else {
+        return Err(bad(word, what, wanted));
+    };
+    let part = |bytes| number(OsStr::from_bytes(bytes), what);
+    Ok([part(first)?, part(second)?])
+}
+
 /// The numbers that fit an extent or a cell coordinate.
 pub const U32: &str = "a number from 0 to 4294967295";
 /// The numbers that fit a voxel offset.
@@ -391,6 +402,16 @@ mod tests {
         assert_eq!(long(ends), Some([i64::MIN, i64::MAX, 0]));
         assert_eq!(long("9223372036854775808,0,0"), None);
         assert_eq!(signed("-2147483649,0,0"), None);
+    }
+
+    #[test]
+    fn pairs() {
+        let read = |word: &str| pair(OsStr::new(word), "--fragment", "a pair").ok();
+        assert_eq!(read("0,3"), Some([0, 3]));
+        assert_eq!(read("0x1f,18446744073709551615"), Some([31, u64::MAX]));
+        for word in ["", "1", "1,", ",1", "1,2,3", "1, 2", "-1,2"] {
+            assert_eq!(read(word), None, "{word}");
+        }
     }
 
     #[test]

@@ -2,7 +2,10 @@
 
 use std::fmt;
 
-use coronagamba::{Shard, Sharding};
+use coronagamba::{Shard, Sharding, Span};
+
+use crate::fragments::{Fragment, Fragments};
+use crate::settings::is_mesh;
 
 /// One of two things that are compared.
 #[derive(Clone, Copy, Debug, PartialEq, Eq)]
@@ -55,6 +58,15 @@ pub enum Kind {
         /// The two lengths.
         lengths: [usize; 2],
     },
+    /// The bytes of a fragment, of one and the same manifest.
+    Fragment {
+        /// The node's level.
+        level: u32,
+        /// The node's number in it.
+        node: u32,
+        /// The first place at which the two fragments differ.
+        at: usize,
+    },
 }
 
 impl fmt::Display for Difference {
@@ -65,6 +77,11 @@ impl fmt::Display for Difference {
                 f,
                 "id {} has other bytes: first difference at byte {at}, lengths {} and {}",
                 self.id, lengths[0], lengths[1]
+            ),
+            Kind::Fragment { level, node, at } => write!(
+                f,
+                "id {} has another fragment: first difference at byte {at} of level {level}, node {node}",
+                self.id
             ),
         }
     }
@@ -78,7 +95,7 @@ pub fn first_difference(sharding: &Sharding, number: u64, forms: [&[u8]; 2]) -> 
     let mut least: Option<Difference> = None;
     for minishard in minishards {
         let [first, second] = forms.map(|form| listing(sharding, number, form, minishard));
-        let found = walk([&first?, &second?], forms);
+        let found = walk([&first?, &second?], forms, is_mesh(sharding));
         least = match (least, found) {
             (Some(least), Some(found)) if least.id <= found.id => Some(least),
             (least, found) => found.or(least),
@@ -98,8 +115,9 @@ fn listing(sharding: &Sharding, number: u64, form: &[u8], minishard: u64) -> Opt
     Some(listing)
 }
 
-/// The first difference of two listings.
-fn walk(listings: [&[u64]; 2], forms: [&[u8]; 2]) -> Option<Difference> {
+/// The first difference of two listings; `mesh` tells whether chunks have
+/// fragments.
+fn walk(listings: [&[u64]; 2], forms: [&[u8]; 2], mesh: bool) -> Option<Difference> {
     let only = |entry: &[u64], side| Difference {
         id: entry[0],
         kind: Kind::OnlyIn(side),
@@ -109,7 +127,13 @@ fn walk(listings: [&[u64]; 2], forms: [&[u8]; 2]) -> Option<Difference> {
         match (first.next(), second.next()) {
             (None, None) => return None,
             (Some(first), Some(second)) if first[0] == second[0] => {
-                if let Some(kind) = bytes([first, second], forms) {
+                let spans = [first, second].map(|entry| Span {
+                    start: entry[1],
+                    length: entry[2],
+                });
+                let kind =
+                    bytes(spans, forms).or_else(|| mesh.then(|| fragments(spans, forms)).flatten());
+                if let Some(kind) = kind {
                     return Some(Difference { id: first[0], kind });
                 }
             }
@@ -122,21 +146,44 @@ fn walk(listings: [&[u64]; 2], forms: [&[u8]; 2]) -> Option<Difference> {
     }
 }
 
+/// The bytes at these places, one in each form.
+fn parts(spans: [Span; 2], forms: [&[u8]; 2]) -> [&[u8]; 2] {
+    [0, 1].map(|side: usize| {
+        let Span { start, length } = spans[side];
+        &forms[side][start as usize..][..length as usize]
+    })
+}
+
 /// How the bytes of two chunks differ.
-fn bytes(entries: [&[u64]; 2], forms: [&[u8]; 2]) -> Option<Kind> {
-    let chunk = |side: usize| {
-        let [start, length] = [1, 2].map(|field| entries[side][field] as usize);
-        &forms[side][start..][..length]
-    };
-    let (first, second) = (chunk(0), chunk(1));
+fn bytes(spans: [Span; 2], forms: [&[u8]; 2]) -> Option<Kind> {
+    let [first, second] = parts(spans, forms);
+    Some(Kind::Bytes {
+        at: first_other(first, second)?,
+        lengths: [first.len(), second.len()],
+    })
+}
+
+/// The first place at which two runs of bytes differ, or at which one ends.
+fn first_other(first: &[u8], second: &[u8]) -> Option<usize> {
     if first == second {
         return None;
     }
     let mut pairs = first.iter().zip(second);
     let at = pairs.position(|(first, second)| first != second);
-    Some(Kind::Bytes {
-        at: at.unwrap_or(first.len().min(second.len())),
-        lengths: [first.len(), second.len()],
+    Some(at.unwrap_or(first.len().min(second.len())))
+}
+
+/// How the fragments of two equal manifests at these places differ.
+fn fragments(spans: [Span; 2], forms: [&[u8]; 2]) -> Option<Kind> {
+    let [first, second] = [0, 1].map(|side: usize| Fragments::of(forms[side], spans[side]));
+    let [one, other] = parts([first.span(), second.span()], forms);
+    let at = first_other(one, other)? as u64 + first.span().start;
+    let within = |span: &Span| (span.start..span.start + span.length).contains(&at);
+    let Fragment { level, node, span } = first.each().find(|fragment| within(&fragment.span))?;
+    Some(Kind::Fragment {
+        level,
+        node,
+        at: (at - span.start) as usize,
     })
 }
 
@@ -150,41 +197,99 @@ mod tests {
         hash: 0,
         minishard_bits: 1,
         shard_bits: 0,
+        kind: Sharding::VOLUME,
+    };
+    const MESH: Sharding = Sharding {
+        kind: Sharding::MESH,
+        ..SHARDING
     };
 
+    /// An id, what stands right before its chunk, and the chunk.
+    type Item<'a> = (u64, &'a [u8], &'a [u8]);
+
     /// The settled form of these chunks, by the scope's section on it.
-    fn form(chunks: &[(u64, &[u8])]) -> Vec<u8> {
+    fn form(sharding: Sharding, items: &[Item]) -> Vec<u8> {
         let (mut index, mut data) = (Vec::new(), Vec::new());
         for minishard in 0..2 {
-            let own = || chunks.iter().filter(|(id, _)| id % 2 == minishard);
+            let own = || items.iter().filter(|(id, ..)| id % 2 == minishard);
             let first = data.len() as u64;
-            own().for_each(|(_, bytes)| data.extend_from_slice(bytes));
+            own().for_each(|(_, lead, bytes)| data.extend([*lead, bytes].concat()));
             let start = data.len() as u64;
             let mut last = 0;
-            for (id, _) in own() {
+            for (id, ..) in own() {
                 data.extend((id - last).to_le_bytes());
                 last = *id;
             }
-            for place in 0..own().count() {
-                data.extend(if place == 0 { first } else { 0 }.to_le_bytes());
+            for (place, (_, lead, _)) in own().enumerate() {
+                let before = if place == 0 { first } else { 0 };
+                data.extend((before + lead.len() as u64).to_le_bytes());
             }
-            own().for_each(|(_, bytes)| data.extend((bytes.len() as u64).to_le_bytes()));
+            own().for_each(|(.., bytes)| data.extend((bytes.len() as u64).to_le_bytes()));
             let end = data.len() as u64;
             let entry = if start == end { [0, 0] } else { [start, end] };
             index.extend(entry.map(u64::to_le_bytes).concat());
         }
         index.extend(data);
-        let shard = Shard::open(SHARDING, 0, &index);
+        let shard = Shard::open(sharding, 0, &index);
         assert_eq!(shard.settled().as_ref(), Ok(&index), "a settled form");
         index
+    }
+
+    fn told_of(sharding: Sharding, items: [&[Item]; 2]) -> Option<String> {
+        let [first, second] = items.map(|items| form(sharding, items));
+        let found = first_difference(&sharding, 0, [&first, &second]);
+        found.map(|difference| difference.to_string())
     }
 
     type Chunks = &'static [(u64, &'static [u8])];
 
     fn told(first: Chunks, second: Chunks) -> Option<String> {
-        let (first, second) = (form(first), form(second));
-        let found = first_difference(&SHARDING, 0, [&first, &second]);
-        found.map(|difference| difference.to_string())
+        let items = |chunks: Chunks| -> Vec<Item<'static>> {
+            chunks
+                .iter()
+                .map(|(id, bytes)| (*id, &b""[..], *bytes))
+                .collect()
+        };
+        let (first, second) = (items(first), items(second));
+        told_of(SHARDING, [&first, &second])
+    }
+
+    /// A manifest of two levels, with two nodes and one; their fragments have
+    /// these sizes.
+    fn manifest(sizes: [u32; 3]) -> Vec<u8> {
+        let one = 1f32.to_bits();
+        let [first, second, third] = sizes;
+        let mut items = vec![one, one, one, 0, 0, 0, 2];
+        items.resize(7 + 8, one);
+        items.extend([2, 1, 0, 1, 0, 0, 0, 0, first, second, 0, 0, 0, third]);
+        items.into_iter().flat_map(u32::to_le_bytes).collect()
+    }
+
+    #[test]
+    fn fragments_of_a_mesh() {
+        let (some, other) = (manifest([3, 0, 4]), manifest([3, 1, 3]));
+        let told = |one: &[Item], two: &[Item]| told_of(MESH, [one, two]);
+        let one: &[Item] = &[(2, b"abcdefg", &some), (5, b"hijklmn", &some)];
+        assert_eq!(told(one, one), None);
+        let text = "has another fragment: first difference at byte";
+        assert_eq!(
+            told(one, &[(2, b"abxdefg", &some), (5, b"-ijklmn", &some)]),
+            Some(format!("id 2 {text} 2 of level 0, node 0"))
+        );
+        // The second node's fragment is empty.
+        assert_eq!(
+            told(one, &[(2, b"abcdefg", &some), (5, b"hijkl--", &some)]),
+            Some(format!("id 5 {text} 2 of level 1, node 0"))
+        );
+        // The same bytes, cut at another place: the manifest tells.
+        assert_eq!(
+            told(one, &[(2, b"abcdefg", &other), (5, b"hijklmn", &some)]),
+            Some("id 2 has other bytes: first difference at byte 96, lengths 116 and 116".into())
+        );
+        assert_eq!(
+            told(one, &[(2, b"abcdefg", &some)]),
+            Some("id 5 is only in the first".into())
+        );
     }
 
     #[test]

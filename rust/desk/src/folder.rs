@@ -143,6 +143,7 @@ mod tests {
         hash: 0,
         minishard_bits: 0,
         shard_bits: 5,
+        kind: Sharding::VOLUME,
     };
 
     /// Name and number of each shard; 'misnamed' and 'fault' stand for what

@@ -17,6 +17,15 @@ settings, which are never assumed:
     };
 }
 
+/// The option of the kind, behind those of the sharding.
+macro_rules! kind {
+    () => {
+        "  --kind NAME         volume or mesh; a card says its own, and where nothing
+                      says it, it is a volume
+"
+    };
+}
+
 /// The options that give the volume, behind those of the sharding.
 macro_rules! volume {
     () => {
@@ -59,7 +68,7 @@ shards
   check      is each shard sound?
   settle     write the settled form of each shard
   same       do two shards or two deposits hold the same chunks?
-  get        the bytes of one chunk
+  get        the bytes of one chunk, or of one fragment of a mesh
   list       all chunks of a shard with their places
 cells
   locate     the key, shard file and minishard of a cell
@@ -91,7 +100,8 @@ pub const CHECK: &str = concat!(
     "\
 Tells for each shard whether it is sound: every index entry, id and chunk is
 as the rules ask, so that every listed chunk can be handed out. Ids may stand
-in any order, and chunks may overlap.
+in any order, and chunks may overlap. In a mesh each chunk must also be a sound
+manifest, with room for its fragments right before it.
 
 usage: coronagamba check PATH... [OPTIONS]
 
@@ -104,6 +114,7 @@ may belong to them. Who closes the output, as 'head' does, ends the run.
 
 ",
     sharding!(),
+    kind!(),
     "
 options:
 ",
@@ -117,6 +128,7 @@ folder has no shards; 2 wrong use; 3 one cannot be read.
 example:
   coronagamba check demo/copy-a --card demo/deposit.card
   coronagamba check demo/damaged --card demo/deposit.card
+  coronagamba check demo/mesh-b --card demo/mesh.card
 ",
 );
 
@@ -125,7 +137,9 @@ pub const SETTLE: &str = concat!(
     "\
 Writes settled forms: the one layout that what a shard lists has, in rising id
 order within each minishard. Two sound shards hold the same chunks exactly when
-their settled forms are the same bytes.
+their settled forms are the same bytes. In a mesh the fragments of a manifest
+stay right before it; settled as a volume it would lose them, like all bytes
+that nothing lists.
 
 usage: coronagamba settle FILE --out FILE2 [OPTIONS]
        coronagamba settle DIR --out DIR2 [OPTIONS]
@@ -140,6 +154,7 @@ the run: shards that were not begun are not settled then.
 
 ",
     sharding!(),
+    kind!(),
     "
 options:
   --out PATH          the output file or folder; a missing folder is made
@@ -169,17 +184,19 @@ usage: coronagamba same PATH1 PATH2 [OPTIONS]
 Both are files or both are folders, of one sharding. Their settled forms are
 compared byte for byte: for sound shards of one sharding and number these are
 equal exactly when the same ids list the same bytes, which is proved for this
-library. For each shard of either side a line says same, different (with the
-first id that differs, in rising order, and how), refused, or on one side
-only; then one sentence answers for the whole. Bytes of a chunk are counted
-from 0. A sound shard that only one side has is a difference where it lists
-chunks, and none where it lists no chunk. Something that is refused, cannot be
-read or has no shard's name leaves the answer open, unless another shard
-differs: a misnamed file may be the shard that its side lacks. Who closes the
-output, as 'head' does, ends the run.
+library. In a mesh the fragments count too. For each shard of either side a
+line says same, different (with the first id that differs, in rising order,
+and how), refused, or on one side only; then one sentence answers for the
+whole. Bytes of a chunk or fragment are counted from 0. A sound shard that
+only one side has is a difference where it lists chunks, and none where it
+lists no chunk. Something that is refused, cannot be read or has no shard's
+name leaves the answer open, unless another shard differs: a misnamed file may
+be the shard that its side lacks. Who closes the output, as 'head' does, ends
+the run.
 
 ",
     sharding!(),
+    kind!(),
     "
 options:
 ",
@@ -192,42 +209,51 @@ cannot be read.
 
 example:
   coronagamba same demo/copy-a demo/copy-b --card demo/deposit.card
+  coronagamba same demo/mesh-a demo/mesh-b --card demo/mesh.card
 ",
 );
 
 /// `get`.
 pub const GET: &str = concat!(
     "\
-Writes the bytes of one chunk.
+Writes the bytes of one chunk, or of one fragment of a mesh.
 
 usage: coronagamba get PATH ID [OPTIONS]
        coronagamba get PATH --cell X,Y,Z [OPTIONS]
+       coronagamba get PATH ID --fragment LEVEL,NODE [OPTIONS]
 
 PATH is a shard file, or the folder of a deposit: then the id's shard file is
 found by its name, and a deposit that has no such file has no such chunk,
 which is said. The id of a cell's chunk is the cell's key; --cell needs
 the volume beside the sharding. Only the id's own minishard is judged. An id
-that is not listed is refused with 12: the chunk is absent.
+that is not listed is refused with 12: the chunk is absent. The id of a mesh's
+chunk is the number of a net, and the chunk is its manifest; a level or node
+that the manifest does not have is refused with 18.
 
 ",
     sharding!(),
+    kind!(),
     volume!(),
     "
 options:
-  --cell X,Y,Z        ask for a cell, counted in chunks from 0
+  --cell X,Y,Z        ask for a cell of a volume, counted in chunks from 0
+  --fragment LEVEL,NODE
+                      write the fragment of this node in place of the manifest;
+                      both are counted from 0
   --out FILE          write to a file, which appears only when it is whole;
                       standard output otherwise
   --force             overwrite an existing file
 ",
     shard!(),
     "
-exit status: 0 the chunk is written; 1 refused or absent, or the deposit lacks
+exit status: 0 the bytes are written; 1 refused or absent, or the deposit lacks
 the id's shard file; 2 wrong use, or the output exists; 3 a file cannot be
 read or written.
 
 example:
   coronagamba get demo/copy-a --cell 1,2,1 --card demo/deposit.card
   coronagamba get demo/copy-a/5.shard 21 --out chunk --card demo/deposit.card
+  coronagamba get demo/mesh-a 17 --fragment 0,1 --card demo/mesh.card
 ",
 );
 
@@ -244,11 +270,17 @@ file's path stands before each header line. Minishards stand in number order,
 chunks as they are stored. A minishard with a fault ends the list of that file
 with a refusal. For a whole folder, give its files: DIR/*.shard
 
+In a mesh the chunks are manifests, and two more numbers tell where all their
+fragments start and how many bytes they have. With --fragments there is a line
+for each fragment instead: id, minishard, level, node, start and length.
+
 ",
     sharding!(),
+    kind!(),
     "
 options:
   --minishard N       list this minishard alone
+  --fragments         list the fragments of a mesh one by one
 ",
     shard!(),
     json!(),
@@ -257,6 +289,7 @@ exit status: 0 listed; 1 refused; 2 wrong use; 3 a file cannot be read.
 
 example:
   coronagamba list demo/copy-a/5.shard --card demo/deposit.card
+  coronagamba list demo/mesh-a/0.shard --fragments --card demo/mesh.card
 ",
 );
 
@@ -272,7 +305,7 @@ Cells count chunks from 0 on each axis. '-' reads cells from standard input,
 one a line; an empty last line does not count. Each cell has a line of its
 own: that of a refused one is 'refused N', that of a word or line that is no
 cell is 'wrong', and standard error says why. Whether the chunk is there,
-'get' tells.
+'get' tells. A mesh has no chunks of cells, and its settings are not taken here.
 
 ",
     sharding!(),
@@ -334,7 +367,7 @@ FROM and TO are X,Y,Z in voxels, the volume's offset included; TO is excluded
 on each axis. A box that is empty, reversed or outside the volume has no
 chunk, which standard error says. The time taken goes by the chunks listed,
 not by the size of the box or of the volume. Whether a chunk is there, 'get'
-tells.
+tells. A mesh has no chunks of cells, and its settings are not taken here.
 
 With --deposit, DIR2 gets a file for each chunk that DIR has, under the name
 of an unsharded chunk. A line for each chunk of the box, by shard and rising
@@ -388,6 +421,7 @@ volume, --shard needs the sharding.
 
 ",
     sharding!(),
+    kind!(),
     volume!(),
     "
 options:
@@ -407,7 +441,8 @@ example:
 /// `card` and its members.
 pub const CARD: &str = "\
 Makes, shows and checks deposit cards. A card keeps the sharding and the
-volume of a deposit in 46 or 61 bytes, so that nobody has to assume them.
+volume of a deposit in 46 or 61 bytes, of a mesh in 50 or 65, so that nobody
+has to assume them.
 
 usage: coronagamba card make --out FILE [OPTIONS]
        coronagamba card show FILE [--json]
@@ -431,14 +466,16 @@ usage: coronagamba card make --info FILE --scale K --out FILE2 [OPTIONS]
 what the card says:
   --info FILE         what an info file of the published format says, and
   --scale K           the number of its scale, from 0; or these, all needed but
-                      the offset:
+                      the offset and the kind:
   --preshift N        low bits of an id that do not count, 0 to 63
   --hash NAME         identity or murmur (also: murmurhash3_x86_128)
   --minishard-bits N  0 to 16
   --shard-bits N      0 to 32
 ",
     volume!(),
-    "
+    "  --kind NAME         volume or mesh, also beside an info file; a volume where
+                      it is not given
+
 options:
   --out FILE          the card; it appears only when it is whole
   --force             overwrite an existing file
@@ -618,6 +655,9 @@ DIR must be missing or empty. It then has:
   info            an info file of the published format: scale 0 says what
                   deposit.card says, scale 1 what murmur.card says
   mesh.manifest   a mesh manifest
+  mesh.card       the sharding of some nets' meshes
+  mesh-a          their shards, in settled form
+  mesh-b          the same nets in another layout, listed in order of arrival
 
 exit status: 0 made; 2 wrong use, or DIR is not empty; 3 it cannot be written.
 

@@ -11,6 +11,7 @@ mod explain;
 mod fault;
 mod files;
 mod folder;
+mod fragments;
 mod help;
 mod json;
 mod memory;

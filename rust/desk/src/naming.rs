@@ -94,6 +94,7 @@ mod tests {
             hash: Sharding::IDENTITY,
             minishard_bits: 0,
             shard_bits,
+            kind: Sharding::VOLUME,
         }
     }
 

@@ -1,6 +1,8 @@
 //! The sharding and the volume, from a deposit card, from an info file or from
 //! plain options.
-//! Nothing is assumed: a deposit was once opened under an assumed hash.
+//! Nothing is assumed: a deposit was once opened under an assumed hash. Two
+//! settings may be left out, as in a card, where that says something: no offset
+//! is 0,0,0, and no kind is a volume.
 
 use std::ffi::OsStr;
 use std::path::Path;
@@ -18,6 +20,7 @@ pub const OPTIONS: &[Opt] = &[
     value(CARD),
     value(INFO),
     value(SCALE),
+    value(KIND),
     value("--preshift"),
     value("--hash"),
     value("--minishard-bits"),
@@ -33,12 +36,14 @@ pub const FOR_CARD: &[Opt] = OPTIONS.split_at(1).1;
 /// The options that name an info file and one of its scales.
 pub const INFO_OPTIONS: &[Opt] = FOR_CARD.split_at(2).0;
 
-/// The options that give settings one by one.
-const PLAIN_OPTIONS: &[Opt] = FOR_CARD.split_at(2).1;
+/// The options that give settings one by one, but for the kind: an info file
+/// leaves it open, and beside a card it may stand where both say the same.
+const PLAIN_OPTIONS: &[Opt] = FOR_CARD.split_at(3).1;
 
 const CARD: &str = "--card";
 const INFO: &str = "--info";
 const SCALE: &str = "--scale";
+const KIND: &str = "--kind";
 const SHARDING: [&str; 4] = ["--preshift", "--hash", "--minishard-bits", "--shard-bits"];
 const EXTENTS: [&str; 2] = ["--size", "--chunk"];
 const OFFSET: &str = "--offset";
@@ -73,11 +78,31 @@ pub fn of_shards(args: &Args) -> Result<Settings, Fault> {
     })
 }
 
-/// The sharding and a volume whose cells have keys; both must be given.
+/// The sharding and a volume whose cells have keys; both must be given. The
+/// shards of a mesh list nets by their numbers, so that no cell leads to one.
 pub fn of_cells(args: &Args) -> Result<(Sharding, Volume), Fault> {
     let given = read(args, &[SHARDING.as_slice(), &EXTENTS].concat())?;
     let sharding = allowed(there(given.sharding))?;
+    if is_mesh(&sharding) {
+        return Err(Fault::wrong_use(
+            "these are the settings of a mesh: its shards list nets by their numbers, and no cell has a chunk in them",
+        ));
+    }
     Ok((sharding, with_keys(there(given.volume))?))
+}
+
+/// Whether chunks are manifests, with their fragments before them.
+pub fn is_mesh(sharding: &Sharding) -> bool {
+    sharding.kind == Sharding::MESH
+}
+
+/// The name of an allowed sharding's kind.
+pub fn kind_name(sharding: &Sharding) -> &'static str {
+    if is_mesh(sharding) {
+        "mesh"
+    } else {
+        "volume"
+    }
 }
 
 /// The volume, which must be given. Only its extents are judged.
@@ -93,7 +118,7 @@ pub fn volume(args: &Args) -> Result<Volume, Fault> {
 /// judges the latter.
 pub fn for_card(args: &Args) -> Result<Card, Fault> {
     if let Some((path, scale)) = info_given(args)? {
-        return read_info(path, scale);
+        return of_info(args, path, scale);
     }
     let hint = " (an info file gives them all: --info FILE --scale K)";
     let given = plain(args, &[SHARDING.as_slice(), &EXTENTS].concat(), hint)?;
@@ -135,8 +160,8 @@ pub fn files(args: &Args) -> impl Iterator<Item = &Path> {
 /// Reads the card, the info file, or the options that stand in their place.
 fn read(args: &Args, needed: &[&'static str]) -> Result<Given, Fault> {
     let card = match (card_given(args)?, info_given(args)?) {
-        (Some(path), _) => read_card(path)?,
-        (None, Some((path, scale))) => read_info(path, scale)?,
+        (Some(path), _) => of_card(args, path)?,
+        (None, Some((path, scale))) => of_info(args, path, scale)?,
         (None, None) => {
             let hint =
                 " (a deposit card gives them all: --card FILE; so does an info file: --info FILE --scale K)";
@@ -153,7 +178,7 @@ fn read(args: &Args, needed: &[&'static str]) -> Result<Given, Fault> {
 /// behind the names of missing ones.
 fn plain(args: &Args, needed: &[&'static str], hint: &str) -> Result<Given, Fault> {
     let begun = |name: &&str| args.flag(name) || needed.contains(name);
-    let with_sharding = SHARDING.iter().any(begun);
+    let with_sharding = SHARDING.iter().any(begun) || args.flag(KIND);
     let with_volume = EXTENTS.iter().any(begun) || args.flag(OFFSET);
     let missing = missing(args, with_sharding, with_volume);
     if !missing.is_empty() {
@@ -181,7 +206,8 @@ fn missing(args: &Args, with_sharding: bool, with_volume: bool) -> Vec<&'static 
 fn card_given(args: &Args) -> Result<Option<&Path>, Fault> {
     let given = args.value(CARD).map(Path::new);
     if given.is_some() {
-        alone(args, FOR_CARD, "--card", "a card")?;
+        alone(args, INFO_OPTIONS, "--card", "a card")?;
+        alone(args, PLAIN_OPTIONS, "--card", "a card")?;
     }
     Ok(given)
 }
@@ -211,6 +237,31 @@ fn alone(args: &Args, options: &[Opt], name: &str, what: &str) -> Result<(), Fau
             option.name
         ))),
     }
+}
+
+/// What a card says. Its kind is the deposit's, and another one that is given
+/// beside it is an error.
+fn of_card(args: &Args, path: &Path) -> Result<Card, Fault> {
+    let kind = kind(args)?;
+    let card = read_card(path)?;
+    match kind {
+        Some(kind) if kind != card.sharding.kind => Err(Fault::wrong_use(format!(
+            "--kind {} is given, but {} is the card of a {}",
+            shown(Path::new(args.needed(KIND)?)),
+            shown(path),
+            kind_name(&card.sharding)
+        ))),
+        _ => Ok(card),
+    }
+}
+
+/// What an info file says of a scale, of the kind that is given; it has none
+/// itself, and without one it is a volume.
+fn of_info(args: &Args, path: &Path, scale: u64) -> Result<Card, Fault> {
+    let kind = kind(args)?;
+    let mut card = read_info(path, scale)?;
+    card.sharding.kind = kind.unwrap_or(card.sharding.kind);
+    Ok(card)
 }
 
 /// Reads the card of a deposit.
@@ -248,7 +299,7 @@ pub fn card_in(path: &Path, bytes: &[u8]) -> Result<Card, Fault> {
     })
 }
 
-/// The four options of the sharding.
+/// The options of the sharding. Without a kind it is a volume, as in a card.
 fn sharding(args: &Args) -> Result<Sharding, Fault> {
     let field = |name| decimal(args.needed(name)?, name, U8);
     Ok(Sharding {
@@ -256,7 +307,23 @@ fn sharding(args: &Args) -> Result<Sharding, Fault> {
         hash: hash(args.needed("--hash")?)?,
         minishard_bits: field("--minishard-bits")?,
         shard_bits: field("--shard-bits")?,
+        kind: kind(args)?.unwrap_or(Sharding::VOLUME),
     })
+}
+
+/// The number of the kind that is given, by its name.
+fn kind(args: &Args) -> Result<Option<u8>, Fault> {
+    let Some(word) = args.value(KIND) else {
+        return Ok(None);
+    };
+    match word.to_str() {
+        Some("volume") => Ok(Some(Sharding::VOLUME)),
+        Some("mesh") => Ok(Some(Sharding::MESH)),
+        _ => Err(Fault::wrong_use(format!(
+            "{KIND}: '{}' is neither volume nor mesh",
+            shown(Path::new(word))
+        ))),
+    }
 }
 
 /// The number of a hash, by its name: the archive's or the published format's.
@@ -310,6 +377,11 @@ mod tests {
         hash: 1,
         minishard_bits: 2,
         shard_bits: 3,
+        kind: Sharding::VOLUME,
+    };
+    const MESH: Sharding = Sharding {
+        kind: Sharding::MESH,
+        ..ALLOWED
     };
 
     #[test]
@@ -324,6 +396,13 @@ mod tests {
         assert_eq!(volume(&all).unwrap(), found);
         let published = args(&SHARDING.replace("murmur", "murmurhash3_x86_128"));
         assert_eq!(of_shards(&published).unwrap().sharding, ALLOWED);
+        let of_kind = |kind: &str| of_shards(&args(&format!("{SHARDING} --kind {kind}")));
+        assert_eq!(of_kind("volume").unwrap().sharding, ALLOWED);
+        assert_eq!(of_kind("mesh").unwrap().sharding, MESH);
+        assert_eq!(
+            complaint(of_kind("net"), 2),
+            "--kind: 'net' is neither volume nor mesh"
+        );
         let without_offset = volume(&args(VOLUME)).unwrap();
         assert_eq!(without_offset.offset, Offset::default());
     }
@@ -344,10 +423,12 @@ mod tests {
         assert_eq!(missing(SHARDING), named("--size, --chunk"));
         let begun = args(&format!("{SHARDING} --offset 0,0,0"));
         assert_eq!(complaint(of_shards(&begun), 2), named("--size, --chunk"));
-        assert_eq!(
-            complaint(of_shards(&args("")), 2),
-            named("--preshift, --hash, --minishard-bits, --shard-bits")
-        );
+        for line in ["", "--kind mesh"] {
+            assert_eq!(
+                complaint(of_shards(&args(line)), 2),
+                named("--preshift, --hash, --minishard-bits, --shard-bits")
+            );
+        }
     }
 
     #[test]
@@ -414,7 +495,24 @@ mod tests {
             .iter()
             .map(|option| option.name)
             .eq([INFO, SCALE]));
-        assert_eq!(PLAIN_OPTIONS.len(), OPTIONS.len() - 3);
+        assert_eq!(PLAIN_OPTIONS.len(), OPTIONS.len() - 4);
+        let names = PLAIN_OPTIONS.iter().map(|option| option.name);
+        assert!(names.clone().all(|name| name != KIND && name != SCALE));
+    }
+
+    /// A cell's key is the id of its chunk in a volume, and of nothing in a mesh.
+    #[test]
+    fn a_mesh_has_no_cells() {
+        let told = complaint(
+            of_cells(&args(&format!("{SHARDING} {VOLUME} --kind mesh"))),
+            2,
+        );
+        assert!(
+            told.starts_with("these are the settings of a mesh: "),
+            "{told}"
+        );
+        let given = args(&format!("{SHARDING} {VOLUME} --kind mesh"));
+        assert!(volume(&given).is_ok() && of_shards(&given).is_ok());
     }
 
     #[test]
@@ -431,6 +529,15 @@ mod tests {
         assert_eq!(of_shards(&given(1)).unwrap().volume, Some(volume));
         let card = for_card(&given(1)).unwrap();
         assert_eq!((card.sharding, card.volume), (ALLOWED, volume));
+        let of_kind = |kind: &str| {
+            args(&format!(
+                "--info {} --scale 1 --kind {kind}",
+                path.display()
+            ))
+        };
+        assert_eq!(of_shards(&of_kind("mesh")).unwrap().sharding, MESH);
+        assert_eq!(for_card(&of_kind("mesh")).unwrap().sharding, MESH);
+        assert_eq!(of_shards(&of_kind("volume")).unwrap().sharding, ALLOWED);
         let told = complaint(of_shards(&given(0)), 1);
         assert!(told.contains("info: refused 20: "), "{told}");
         assert!(
@@ -459,6 +566,23 @@ mod tests {
         let given = args(&format!("--card {}", path.display()));
         assert_eq!(of_cells(&given).unwrap(), (card.sharding, card.volume));
         assert_eq!(of_shards(&given).unwrap().volume, Some(card.volume));
+        let of_kind =
+            |kind: &str| of_shards(&args(&format!("--card {0} --kind {kind}", path.display())));
+        assert_eq!(of_kind("volume").unwrap().sharding, ALLOWED);
+        let told = complaint(of_kind("mesh"), 2);
+        let expected = format!(
+            "--kind mesh is given, but {} is the card of a volume",
+            path.display()
+        );
+        assert_eq!(told, expected);
+        let mesh = Card {
+            sharding: MESH,
+            ..card
+        };
+        folder.write("card", &mesh.to_bytes().unwrap());
+        assert_eq!(of_shards(&given).unwrap().sharding, MESH);
+        assert_eq!(of_kind("mesh").unwrap().sharding, MESH);
+        assert!(complaint(of_kind("volume"), 2).ends_with("is the card of a mesh"));
         folder.write("card", b"{\"size\": 1}");
         let told = complaint(of_shards(&given), 1);
         assert!(told.contains("card: refused 14: "), "{told}");

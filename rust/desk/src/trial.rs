@@ -66,6 +66,7 @@ pub const TWO_MINISHARDS: Sharding = Sharding {
     hash: 0,
     minishard_bits: 1,
     shard_bits: 0,
+    kind: Sharding::VOLUME,
 };
 
 /// A sound shard of `TWO_MINISHARDS` in which ids 0 and 1 list the same bytes,

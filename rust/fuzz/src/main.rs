@@ -20,7 +20,7 @@ fn find(name: &str) -> Result<&'static compare::Part, String> {
 
 fn parts() {
     for part in compare::PARTS {
-        println!("{:16} {}", part.name, part.about);
+        println!("{:20} {}", part.name, part.about);
     }
 }
 

@@ -11,6 +11,7 @@ const NO_BITS: Sharding = Sharding {
     hash: Sharding::IDENTITY,
     minishard_bits: 0,
     shard_bits: 0,
+    kind: Sharding::VOLUME,
 };
 
 /// The whole-shard check of one minishard, beside a judge that lets the end of

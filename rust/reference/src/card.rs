@@ -1,8 +1,8 @@
-//! The deposit card (document 01, "Deposit card").
+//! The deposit card (document 01, "Deposit card"; document 02, order 7).
 
 use crate::endian::{read_u16, read_u32, write_front};
 use crate::grid::{grid_size, key_bits, Volume};
-use crate::sharding::Sharding;
+use crate::sharding::{Sharding, MESH, VOLUME};
 
 /// What a card says.
 #[derive(Clone, Copy, Debug, PartialEq, Eq, Hash)]
@@ -44,30 +44,45 @@ fn expect<'a>(field: Option<&Field<'a>>, tag: u8, length: usize) -> Result<&'a [
     }
 }
 
+/// The offset that the fields behind the required ones begin with, and the
+/// fields behind it. One of 0, 0, 0 is not written down.
+fn offset<'a, 'b>(rest: &'b [Field<'a>]) -> Result<([u32; 3], &'b [Field<'a>]), u8> {
+    match rest {
+        [field @ (7, _), rest @ ..] => match three(expect(Some(field), 7, 12)?) {
+            [0, 0, 0] => Err(14),
+            offset => Ok((offset, rest)),
+        },
+        _ => Ok(([0; 3], rest)),
+    }
+}
+
+/// The kind that the last fields say: none for a volume, one for a mesh.
+fn kind(rest: &[Field]) -> Result<u8, u8> {
+    match rest {
+        [] => Ok(VOLUME),
+        [(8, [1])] => Ok(MESH),
+        _ => Err(14),
+    }
+}
+
 /// The meaning of a well-formed card, or 14.
 fn parse(bytes: &[u8]) -> Result<Card, u8> {
     let fields = fields(bytes)?;
     let body = |tag: u8, length| expect(fields.get(usize::from(tag) - 1), tag, length);
     let byte = |tag| body(tag, 1).map(|body| body[0]);
     let numbers = |tag| body(tag, 12).map(three);
-    let sharding = Sharding {
-        preshift: byte(1)?,
-        hash: byte(2)?,
-        minishard_bits: byte(3)?,
-        shard_bits: byte(4)?,
-    };
-    let size = numbers(5)?;
-    let chunk = numbers(6)?;
-    let offset = match fields.len() {
-        6 => [0; 3],
-        7 => match numbers(7)? {
-            [0, 0, 0] => return Err(14),
-            offset => offset,
-        },
-        _ => return Err(14),
-    };
+    let (preshift, hash) = (byte(1)?, byte(2)?);
+    let (minishard_bits, shard_bits) = (byte(3)?, byte(4)?);
+    let (size, chunk) = (numbers(5)?, numbers(6)?);
+    let (offset, rest) = offset(&fields[6..])?;
     Ok(Card {
-        sharding,
+        sharding: Sharding {
+            preshift,
+            hash,
+            minishard_bits,
+            shard_bits,
+            kind: kind(rest)?,
+        },
         volume: Volume {
             size,
             chunk,
@@ -100,6 +115,7 @@ pub fn to_bytes(card: &Card) -> Result<Vec<u8>, u8> {
         hash,
         minishard_bits,
         shard_bits,
+        kind,
     } = card.sharding;
     let mut bytes = Vec::new();
     let mut field = |tag: u8, body: &[u8]| {
@@ -117,6 +133,9 @@ pub fn to_bytes(card: &Card) -> Result<Vec<u8>, u8> {
     if card.volume.offset != [0; 3] {
         field(7, &row(card.volume.offset.map(|number| number as u32)));
     }
+    if kind == MESH {
+        field(8, &[1]);
+    }
     Ok(bytes)
 }
 
@@ -130,12 +149,17 @@ mod tests {
     use super::*;
 
     fn card(offset: [i32; 3]) -> Card {
+        card_of_kind(VOLUME, offset)
+    }
+
+    fn card_of_kind(kind: u8, offset: [i32; 3]) -> Card {
         Card {
             sharding: Sharding {
                 preshift: 3,
                 hash: 1,
                 minishard_bits: 4,
                 shard_bits: 5,
+                kind,
             },
             volume: Volume {
                 size: [100, 200, 300],
@@ -151,6 +175,65 @@ mod tests {
             let bytes = to_bytes(&card(offset)).unwrap();
             assert_eq!(bytes.len(), length);
             assert_eq!(read(&bytes), Ok(card(offset)));
+        }
+    }
+
+    /// A card that says mesh is the volume's with four bytes behind it.
+    #[test]
+    fn cards_of_meshes() {
+        for (offset, length) in [([0, 0, 0], 50), ([0, -1, 0], 65)] {
+            let volume = to_bytes(&card(offset)).unwrap();
+            let mesh = to_bytes(&card_of_kind(MESH, offset)).unwrap();
+            assert_eq!(mesh.len(), length);
+            assert_eq!(mesh, [&volume[..], &[8, 1, 0, 1]].concat());
+            assert_eq!(read(&mesh), Ok(card_of_kind(MESH, offset)));
+            assert_eq!(read(&mesh[..length - 4]), Ok(card(offset)));
+            for short in length - 3..length {
+                assert_eq!(read(&mesh[..short]), Err(14));
+            }
+        }
+    }
+
+    /// Another number for a kind is refused, and written nowhere.
+    #[test]
+    fn other_kinds() {
+        let volume = to_bytes(&card([0; 3])).unwrap();
+        let mut out = [7; 70];
+        for kind in 0..=255 {
+            let bytes = [&volume[..], &[8, 1, 0, kind]].concat();
+            let read = read(&bytes);
+            let written = write(&card_of_kind(kind, [0; 3]), &mut out);
+            match kind {
+                0 => assert_eq!((read, written), (Err(14), Ok(46))),
+                1 => assert_eq!((read.is_ok(), written), (true, Ok(50))),
+                _ => assert_eq!((read, written), (Err(14), Err(1))),
+            }
+        }
+    }
+
+    /// Tag 8 stands last, once, with a body of one byte.
+    #[test]
+    fn the_place_of_the_kind() {
+        let whole = to_bytes(&card([1, 2, 3])).unwrap();
+        let (front, offset) = whole.split_at(46);
+        let kind: &[u8] = &[8, 1, 0, 1];
+        let allowed: [&[&[u8]]; 2] = [&[front, kind], &[front, offset, kind]];
+        for parts in allowed {
+            assert!(read(&parts.concat()).is_ok());
+        }
+        let malformed: [&[&[u8]]; 9] = [
+            &[front, kind, offset],
+            &[front, kind, kind],
+            &[front, offset, kind, kind],
+            &[front, kind, offset, kind],
+            &[kind, front],
+            &[&front[..16], kind, &front[16..]],
+            &[front, &[8, 0, 0]],
+            &[front, &[8, 2, 0, 1, 1]],
+            &[front, &[9, 1, 0, 1]],
+        ];
+        for parts in malformed {
+            assert_eq!(read(&parts.concat()), Err(14), "{parts:?}");
         }
     }
 

@@ -4,12 +4,13 @@
 use crate::card::{judge, Card};
 use crate::grid::Volume;
 use crate::json::{parse, Text, Value};
-use crate::sharding::{Sharding, IDENTITY, MURMUR};
+use crate::sharding::{Sharding, IDENTITY, MURMUR, VOLUME};
 
 /// What a sharding's `@type` must be.
 const SHARDED: &str = "neuroglancer_uint64_sharded_v1";
 
-/// The settings of a scale of an info file; or 19, 20, then 1, 2, 3.
+/// The settings of a scale of an info file, always a volume's; or 19, 20, then
+/// 1, 2, 3.
 pub fn read(text: &[u8], scale: u64) -> Result<Card, u8> {
     let document = parse(text).ok_or(19)?;
     let (card, known_hash) = settings(&document, scale).ok_or(20)?;
@@ -59,6 +60,7 @@ fn settings(document: &Value, scale: u64) -> Option<(Card, bool)> {
         hash: number.unwrap_or(IDENTITY),
         minishard_bits: bits("minishard_bits")?,
         shard_bits: bits("shard_bits")?,
+        kind: VOLUME,
     };
     Some((Card { sharding, volume }, number.is_some()))
 }
@@ -148,6 +150,7 @@ mod tests {
                 hash: MURMUR,
                 minishard_bits: 6,
                 shard_bits: 15,
+                kind: VOLUME,
             },
             volume: Volume {
                 size: [6446, 6643, 8090],

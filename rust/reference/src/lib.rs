@@ -23,9 +23,9 @@ pub mod vectors;
 /// The most bytes that a shard or a settled form may have: 1 GiB.
 pub const MOST_SHARD_BYTES: u64 = 1_073_741_824;
 
-/// A refusal: its number in document 01's table, for 7 to 11 the place of what
-/// offends (document 02, order 6), and for these in a whole-shard check the
-/// minishard with the fault.
+/// A refusal: its number in document 01's table; for 7 to 11, and in a mesh
+/// shard for 15, 16, 17 and 21, the place of what offends (document 02, orders 6
+/// and 7); and for these in a whole-shard check the minishard with the fault.
 #[derive(Clone, Copy, Debug, PartialEq, Eq, Hash, PartialOrd, Ord)]
 pub struct Refusal {
     /// The number in document 01's table.

@@ -55,15 +55,20 @@ pub fn locate(input: &[u8]) -> Vec<u8> {
 mod tests {
     use super::*;
     use crate::grid::Volume;
-    use crate::sharding::Sharding;
+    use crate::sharding::{Sharding, MESH, VOLUME};
 
     fn input(cells: &[Cell]) -> Vec<u8> {
+        input_of_kind(VOLUME, cells)
+    }
+
+    fn input_of_kind(kind: u8, cells: &[Cell]) -> Vec<u8> {
         let card = Card {
             sharding: Sharding {
                 preshift: 0,
                 hash: 0,
                 minishard_bits: 1,
                 shard_bits: 2,
+                kind,
             },
             volume: Volume {
                 size: [100; 3],
@@ -85,6 +90,16 @@ mod tests {
         let input = input(&[[1, 0, 1], [1, 1, 0], [2, 0, 0]]);
         let expected = "5 2.shard 1\n3 1.shard 1\nrefused 2\n";
         assert_eq!(locate(&input), expected.as_bytes());
+    }
+
+    /// A card of a mesh is four bytes longer and prints the same.
+    #[test]
+    fn the_kind_changes_nothing_else() {
+        let cells = [[1, 0, 1], [2, 0, 0]];
+        let (volume, mesh) = (input(&cells), input_of_kind(MESH, &cells));
+        assert_eq!((volume[0], mesh[0]), (46, 50));
+        assert_eq!(mesh[48..52], [8, 1, 0, 1]);
+        assert_eq!(locate(&mesh), locate(&volume));
     }
 
     #[test]

@@ -218,6 +218,13 @@ pub fn node_count(bytes: &[u8], level: u64) -> Result<u32, u8> {
     Ok(nth(&parts.levels, level)?.sizes.len() as u32)
 }
 
+/// How many bytes the fragments of all nodes have together, or 15 to 17.
+pub fn fragments_length(bytes: &[u8]) -> Result<u64, u8> {
+    let parts = judged(bytes)?;
+    let sizes = parts.levels.iter().flat_map(|level| &level.sizes);
+    Ok(sizes.map(|size| u64::from(*size)).sum())
+}
+
 /// A node of a sound manifest, or 18.
 fn node_of(parts: &Parts, level: u64, node: u64) -> Result<Node, u8> {
     let nodes = nth(&parts.levels, level)?;
@@ -420,6 +427,8 @@ mod tests {
         assert_eq!(last.position, [0, 1, 0]);
         assert_eq!(last.start, 2 * u64::from(u32::MAX) + 7);
         assert_eq!(last.end(), 2 * u64::from(u32::MAX) + 15);
+        assert_eq!(fragments_length(&bytes), Ok(8_589_934_605));
+        assert_eq!(fragments_length(&bytes[1..]), Err(15));
         assert_eq!(node(&bytes, 1, 2), Err(18));
         assert_eq!(node(&bytes, 2, 0), Err(18));
         assert_eq!(node(&bytes, u64::MAX, u64::MAX), Err(18));

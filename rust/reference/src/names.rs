@@ -44,6 +44,7 @@ mod tests {
             hash: 0,
             minishard_bits: 0,
             shard_bits,
+            kind: 0,
         }
     }
 

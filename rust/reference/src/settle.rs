@@ -1,35 +1,63 @@
-//! The settled form of what a shard lists (document 01, "Settled form").
+//! The settled form of what a shard lists (document 01, "Settled form";
+//! document 02, order 7).
 
 use crate::endian::write_front;
-use crate::shard::list;
+use crate::shard::{list, Entry};
 use crate::sharding::Sharding;
 use crate::{Refusal, MOST_SHARD_BYTES};
 
-/// A listed chunk: its id and its bytes.
+/// A chunk that a volume shard lists: its id and its bytes.
 pub type Listed<'a> = (u64, &'a [u8]);
 
-/// The content by minishard number, each in rising id order.
-fn by_minishard<'a>(sharding: &Sharding, content: &[Listed<'a>]) -> Vec<Vec<Listed<'a>>> {
-    let mut minishards = vec![Vec::new(); sharding.minishard_count() as usize];
-    for (id, bytes) in content {
-        minishards[sharding.place(*id).minishard as usize].push((*id, *bytes));
+/// What a shard of either kind lists under an id: in a mesh shard the bytes of
+/// the fragments and the manifest, in a volume no fragments and the chunk.
+#[derive(Clone, Copy, Debug, PartialEq, Eq, Hash)]
+pub struct Triple<'a> {
+    /// The id.
+    pub id: u64,
+    /// The fragments' bytes.
+    pub fragments: &'a [u8],
+    /// The bytes of the manifest or of the chunk.
+    pub chunk: &'a [u8],
+}
+
+impl<'a> From<Listed<'a>> for Triple<'a> {
+    fn from((id, chunk): Listed<'a>) -> Self {
+        Triple {
+            id,
+            fragments: &[],
+            chunk,
+        }
     }
-    for chunks in &mut minishards {
-        chunks.sort_by_key(|(id, _)| *id);
+}
+
+/// The content by minishard number, each in rising id order.
+fn by_minishard<'a>(sharding: &Sharding, content: &[Triple<'a>]) -> Vec<Vec<Triple<'a>>> {
+    let mut minishards = vec![Vec::new(); sharding.minishard_count() as usize];
+    for triple in content {
+        minishards[sharding.place(triple.id).minishard as usize].push(*triple);
+    }
+    for listed in &mut minishards {
+        listed.sort_by_key(|triple| triple.id);
     }
     minishards
 }
 
-/// The minishard index of chunks that stand one after another, the first at
-/// `place`, counted from the end of the shard index.
-fn minishard_index(chunks: &[Listed], place: u64) -> Vec<u8> {
-    let before = std::iter::once(0).chain(chunks.iter().map(|(id, _)| *id));
-    let id_steps = chunks
+/// The minishard index of chunks that stand one after another, each behind its
+/// fragments, the first of all at `place`, counted from the end of the shard
+/// index.
+fn minishard_index(listed: &[Triple], place: u64) -> Vec<u8> {
+    let before = std::iter::once(0).chain(listed.iter().map(|triple| triple.id));
+    let id_steps = listed
         .iter()
         .zip(before)
-        .map(|((id, _), before)| id - before);
-    let start_steps = (0..chunks.len()).map(|i| if i == 0 { place } else { 0 });
-    let sizes = chunks.iter().map(|(_, bytes)| bytes.len() as u64);
+        .map(|(triple, before)| triple.id - before);
+    let places = std::iter::once(place).chain(std::iter::repeat(0));
+    let start_steps = listed
+        .iter()
+        .zip(places)
+        .map(|(triple, place)| place + triple.fragments.len() as u64);
+    let sizes = listed.iter().map(|triple| triple.chunk.len() as u64);
     id_steps
         .chain(start_steps)
         .chain(sizes)
@@ -39,20 +67,21 @@ fn minishard_index(chunks: &[Listed], place: u64) -> Vec<u8> {
 
 /// The settled form of this content, given in any order: each id stands once
 /// and belongs to the shard. The specification is allowed.
-pub fn settled_form(sharding: &Sharding, content: &[Listed]) -> Vec<u8> {
+pub fn form_of(sharding: &Sharding, content: &[Triple]) -> Vec<u8> {
     let mut entries = Vec::new();
     let mut data = Vec::new();
-    for chunks in by_minishard(sharding, content) {
-        if chunks.is_empty() {
+    for listed in by_minishard(sharding, content) {
+        if listed.is_empty() {
             entries.extend([0, 0]);
             continue;
         }
         let place = data.len() as u64;
-        for (_, bytes) in &chunks {
-            data.extend(*bytes);
+        for triple in &listed {
+            data.extend(triple.fragments);
+            data.extend(triple.chunk);
         }
         let start = data.len() as u64;
-        data.extend(minishard_index(&chunks, place));
+        data.extend(minishard_index(&listed, place));
         entries.extend([start, data.len() as u64]);
     }
     let mut form: Vec<u8> = entries.into_iter().flat_map(u64::to_le_bytes).collect();
@@ -60,33 +89,40 @@ pub fn settled_form(sharding: &Sharding, content: &[Listed]) -> Vec<u8> {
     form
 }
 
-/// The length of the settled form of this content, exact.
-pub fn settled_length(sharding: &Sharding, content: &[Listed]) -> u128 {
-    let chunks: u128 = content
-        .iter()
-        .map(|(_, bytes)| 24 + bytes.len() as u128)
-        .sum();
-    u128::from(sharding.index_end()) + chunks
+/// The settled form of a volume's chunks, likewise.
+pub fn settled_form(sharding: &Sharding, content: &[Listed]) -> Vec<u8> {
+    let triples: Vec<Triple> = content.iter().copied().map(Triple::from).collect();
+    form_of(sharding, &triples)
 }
 
-/// What a sound shard lists, or 1, 5, 6, then 7 to 11 by minishard, which is
-/// not named.
-fn content<'a>(
+/// The length of the settled form of this content, exact.
+fn exact_length(sharding: &Sharding, content: &[Triple]) -> u128 {
+    let parts = content
+        .iter()
+        .map(|triple| 24 + triple.fragments.len() as u128 + triple.chunk.len() as u128);
+    u128::from(sharding.index_end()) + parts.sum::<u128>()
+}
+
+/// What a sound shard lists, or 1, 5, 6, then the faults of the minishards,
+/// which are not named.
+pub fn content_of<'a>(
     sharding: &Sharding,
     number: u64,
     file: &'a [u8],
-) -> Result<Vec<Listed<'a>>, Refusal> {
+) -> Result<Vec<Triple<'a>>, Refusal> {
     let entries = list(sharding, number, file).map_err(Refusal::passed_on)?;
-    Ok(entries
-        .iter()
-        .map(|entry| (entry.id, entry.bytes(file)))
-        .collect())
+    let triple = |entry: &Entry| Triple {
+        id: entry.id,
+        fragments: entry.fragment_bytes(file),
+        chunk: entry.bytes(file),
+    };
+    Ok(entries.iter().map(triple).collect())
 }
 
-/// The length of a shard's settled form, or 1, 5, 6, then 7 to 11 by
-/// minishard, then 13 where the form would exceed 1 GiB.
+/// The length of a shard's settled form, or 1, 5, 6, then the faults of the
+/// check by minishard, then 13 where the form would exceed 1 GiB.
 pub fn length_of(sharding: &Sharding, number: u64, file: &[u8]) -> Result<u64, Refusal> {
-    let length = settled_length(sharding, &content(sharding, number, file)?);
+    let length = exact_length(sharding, &content_of(sharding, number, file)?);
     if length > u128::from(MOST_SHARD_BYTES) {
         return Err(Refusal::bare(13));
     }
@@ -94,19 +130,19 @@ pub fn length_of(sharding: &Sharding, number: u64, file: &[u8]) -> Result<u64, R
 }
 
 /// Settles a shard: writes its settled form to the front of `out` and gives
-/// its length, or 1, 5, 6, then 7 to 11 by minishard, then 13.
+/// its length, or 1, 5, 6, then the faults of the check by minishard, then 13.
 pub fn settle(
     sharding: &Sharding,
     number: u64,
     file: &[u8],
     out: &mut [u8],
 ) -> Result<usize, Refusal> {
-    let content = content(sharding, number, file)?;
-    let length = settled_length(sharding, &content);
+    let content = content_of(sharding, number, file)?;
+    let length = exact_length(sharding, &content);
     if length > out.len() as u128 || length > u128::from(MOST_SHARD_BYTES) {
         return Err(Refusal::bare(13));
     }
-    Ok(write_front(&settled_form(sharding, &content), out)?)
+    Ok(write_front(&form_of(sharding, &content), out)?)
 }
 
 #[cfg(test)]
@@ -114,12 +150,14 @@ mod tests {
     use super::*;
     use crate::endian::read_u64;
     use crate::shard::{check, lookup};
+    use crate::sharding::VOLUME;
 
     const ONE: Sharding = Sharding {
         preshift: 0,
         hash: 0,
         minishard_bits: 1,
         shard_bits: 0,
+        kind: VOLUME,
     };
 
     fn numbers(bytes: &[u8]) -> Vec<u64> {
@@ -132,7 +170,7 @@ mod tests {
     fn the_example() {
         let form = settled_form(&ONE, &[(10, b"cde"), (4, b"ab")]);
         assert_eq!(form.len(), 85);
-        assert_eq!(settled_length(&ONE, &[(10, b"cde"), (4, b"ab")]), 85);
+        assert_eq!(length_of(&ONE, 0, &form), Ok(85));
         assert_eq!(numbers(&form[..32]), [5, 53, 0, 0]);
         assert_eq!(&form[32..37], b"abcde");
         assert_eq!(numbers(&form[37..]), [4, 6, 0, 0, 2, 3]);

@@ -1,9 +1,10 @@
 //! Reading a shard: lookup, the whole-shard check and listings (source
-//! document 002; document 01, "From id to shard"; document 02, orders 2 and 6).
+//! documents 001 and 002; document 01, "From id to shard"; document 02, orders
+//! 2, 6 and 7).
 
 use crate::endian::read_u64;
 use crate::sharding::Sharding;
-use crate::{Refusal, MOST_SHARD_BYTES};
+use crate::{manifest, Refusal, MOST_SHARD_BYTES};
 use std::collections::HashSet;
 use std::ops::Range;
 
@@ -16,10 +17,34 @@ pub struct Entry {
     pub start: u64,
     /// How many bytes it has.
     pub length: u64,
+    /// How many bytes right before it are its fragments: none in a volume.
+    pub fragments: u64,
 }
 
 impl Entry {
     /// The chunk's bytes in the file that lists it.
+    pub fn bytes<'a>(&self, file: &'a [u8]) -> &'a [u8] {
+        &file[self.start as usize..][..self.length as usize]
+    }
+
+    /// Its fragments' bytes in that file.
+    pub fn fragment_bytes<'a>(&self, file: &'a [u8]) -> &'a [u8] {
+        let end = self.start as usize;
+        &file[end - self.fragments as usize..end]
+    }
+}
+
+/// A node's fragment in a mesh shard, with its place in the file.
+#[derive(Clone, Copy, Debug, PartialEq, Eq, Hash)]
+pub struct Fragment {
+    /// Where its bytes start, counted from the start of the file.
+    pub start: u64,
+    /// How many bytes it has.
+    pub length: u64,
+}
+
+impl Fragment {
+    /// The fragment's bytes in the file that holds it.
     pub fn bytes<'a>(&self, file: &'a [u8]) -> &'a [u8] {
         &file[self.start as usize..][..self.length as usize]
     }
@@ -41,6 +66,11 @@ impl RawEntry {
     /// Where its bytes end, counted from the start of the file and exact.
     fn end(&self, index_end: u64) -> u128 {
         u128::from(index_end) + u128::from(self.start) + u128::from(self.size)
+    }
+
+    /// Its bytes, which test 11 has found in the file.
+    fn bytes<'a>(&self, file: &'a [u8], index_end: u64) -> &'a [u8] {
+        &file[(index_end + self.start) as usize..][..self.size as usize]
     }
 }
 
@@ -152,8 +182,46 @@ fn chunks_fit(file: &[u8], index_end: u64, entries: &[RawEntry]) -> Result<(), R
     }
 }
 
-/// What one minishard lists, in stored order, after tests 7 to 11 of it. The
-/// specification, the numbers and the file's length are fine already.
+/// Tests 15, 16 and 17 of the manifests that a mesh minishard lists: each runs
+/// over all of them before the next.
+fn manifests_sound(file: &[u8], index_end: u64, entries: &[RawEntry]) -> Result<(), Refusal> {
+    let verdict = |entry: &RawEntry| manifest::check(entry.bytes(file, index_end));
+    let verdicts: Vec<Result<(), u8>> = entries.iter().map(verdict).collect();
+    for number in [15, 16, 17] {
+        if let Some(first) = verdicts.iter().position(|found| *found == Err(number)) {
+            return Err(Refusal::at(number, entries[first].start_step));
+        }
+    }
+    Ok(())
+}
+
+/// How many bytes of fragments stand right before each chunk: in a mesh shard
+/// the sum of the sizes in its manifest, after tests 15, 16 and 17 and then 21,
+/// that no fragments would start before the index end; in a volume none.
+fn fragments_before(
+    sharding: &Sharding,
+    file: &[u8],
+    entries: &[RawEntry],
+) -> Result<Vec<u64>, Refusal> {
+    if !sharding.is_mesh() {
+        return Ok(vec![0; entries.len()]);
+    }
+    let index_end = sharding.index_end();
+    manifests_sound(file, index_end, entries)?;
+    let mut lengths = Vec::new();
+    for entry in entries {
+        let length = manifest::fragments_length(entry.bytes(file, index_end))?;
+        if length > entry.start {
+            return Err(Refusal::at(21, entry.start_step));
+        }
+        lengths.push(length);
+    }
+    Ok(lengths)
+}
+
+/// What one minishard lists, in stored order, after tests 7 to 11 of it and, in
+/// a mesh shard, 15 to 17 and 21. The specification, the numbers and the file's
+/// length are fine already.
 fn judged_minishard(
     sharding: &Sharding,
     number: u64,
@@ -165,16 +233,19 @@ fn judged_minishard(
     ids_differ(&raw)?;
     ids_belong(sharding, number, minishard, &raw)?;
     chunks_fit(file, index_end, &raw)?;
-    let entry = |raw: &RawEntry| Entry {
+    let fragments = fragments_before(sharding, file, &raw)?;
+    let entry = |(raw, fragments): (&RawEntry, u64)| Entry {
         id: raw.id,
         start: index_end + raw.start,
         length: raw.size,
+        fragments,
     };
-    Ok(raw.iter().map(entry).collect())
+    Ok(raw.iter().zip(fragments).map(entry).collect())
 }
 
 /// What one minishard lists, in stored order, or 1, 5 where there is no such
-/// shard or minishard, 6, then 7 to 11 of it.
+/// shard or minishard, 6, then 7 to 11 of it and, in a mesh shard, 15 to 17 and
+/// 21.
 pub fn list_minishard(
     sharding: &Sharding,
     number: u64,
@@ -226,7 +297,8 @@ pub fn check(sharding: &Sharding, number: u64, file: &[u8]) -> Result<(), Refusa
     list(sharding, number, file).map(|_| ())
 }
 
-/// The entry of an id, or 1, 5, 6, then 7 to 11 of its minishard, then 12.
+/// The entry of an id, or 1, 5, 6, then 7 to 11 of its minishard and, in a mesh
+/// shard, 15 to 17 and 21, then 12.
 pub fn lookup(sharding: &Sharding, number: u64, id: u64, file: &[u8]) -> Result<Entry, Refusal> {
     sharding.allowed()?;
     let place = sharding.place(id);
@@ -249,15 +321,55 @@ pub fn lookup_part<'a>(sharding: &Sharding, number: u64, id: u64, file: &'a [u8]
     }
 }
 
+/// The fragment of a node of an id's manifest, or the refusals of [`lookup`],
+/// then 18 where the manifest has no such level or node or the shard is a
+/// volume's.
+pub fn fragment(
+    sharding: &Sharding,
+    number: u64,
+    id: u64,
+    level: u64,
+    node: u64,
+    file: &[u8],
+) -> Result<Fragment, Refusal> {
+    let entry = lookup(sharding, number, id, file)?;
+    if !sharding.is_mesh() {
+        return Err(Refusal::bare(18));
+    }
+    let node = manifest::node(entry.bytes(file), level, node)?;
+    Ok(Fragment {
+        start: entry.start - entry.fragments + node.start,
+        length: node.size.into(),
+    })
+}
+
+/// The bytes of a node's fragment, as the part of the file; where [`fragment`]
+/// refuses, the empty part at the file's start.
+pub fn fragment_part<'a>(
+    sharding: &Sharding,
+    number: u64,
+    id: u64,
+    level: u64,
+    node: u64,
+    file: &'a [u8],
+) -> &'a [u8] {
+    match fragment(sharding, number, id, level, node, file) {
+        Ok(fragment) => fragment.bytes(file),
+        Err(_) => &file[..0],
+    }
+}
+
 #[cfg(test)]
 mod tests {
     use super::*;
+    use crate::sharding::VOLUME;
 
     const ONE: Sharding = Sharding {
         preshift: 0,
         hash: 0,
         minishard_bits: 1,
         shard_bits: 0,
+        kind: VOLUME,
     };
 
     /// Rows of u64, one after another.
@@ -302,7 +414,8 @@ mod tests {
             Ok(Entry {
                 id: 10,
                 start: 34,
-                length: 3
+                length: 3,
+                fragments: 0
             })
         );
         assert_eq!(lookup_part(&ONE, 0, 10, &file), b"cde");

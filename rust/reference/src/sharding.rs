@@ -12,6 +12,10 @@ pub const MOST_SHARD_BITS: u8 = 32;
 pub const IDENTITY: u8 = 0;
 /// The number of MurmurHash3_x86_128.
 pub const MURMUR: u8 = 1;
+/// The number of the kind of shard that holds a volume's chunks.
+pub const VOLUME: u8 = 0;
+/// The number of the kind of shard that holds meshes (document 02, order 7).
+pub const MESH: u8 = 1;
 
 /// A sharding specification, its fields as in a card.
 #[derive(Clone, Copy, Debug, PartialEq, Eq, Hash)]
@@ -24,6 +28,8 @@ pub struct Sharding {
     pub minishard_bits: u8,
     /// The next bits, which give the shard.
     pub shard_bits: u8,
+    /// 0 volume, 1 mesh.
+    pub kind: u8,
 }
 
 /// Where an id belongs.
@@ -41,12 +47,18 @@ impl Sharding {
         let fine = self.preshift <= MOST_PRESHIFT
             && (self.hash == IDENTITY || self.hash == MURMUR)
             && self.minishard_bits <= MOST_MINISHARD_BITS
-            && self.shard_bits <= MOST_SHARD_BITS;
+            && self.shard_bits <= MOST_SHARD_BITS
+            && (self.kind == VOLUME || self.kind == MESH);
         if fine {
             Ok(())
         } else {
             Err(1)
         }
+    }
+
+    /// Whether the shards hold meshes.
+    pub fn is_mesh(&self) -> bool {
+        self.kind == MESH
     }
 
     /// How many minishards a shard of an allowed specification has.
@@ -99,6 +111,7 @@ mod tests {
         hash: IDENTITY,
         minishard_bits: 0,
         shard_bits: 0,
+        kind: VOLUME,
     };
 
     #[test]
@@ -142,6 +155,7 @@ mod tests {
             hash: MURMUR,
             minishard_bits: 16,
             shard_bits: 32,
+            kind: MESH,
         };
         assert_eq!(most.allowed(), Ok(()));
         let beyond = [
@@ -158,9 +172,28 @@ mod tests {
                 shard_bits: 33,
                 ..most
             },
+            Sharding { kind: 2, ..most },
+            Sharding { kind: 255, ..most },
         ];
         for sharding in beyond {
             assert_eq!(place_of(&sharding, 0), Err(1));
+        }
+    }
+
+    #[test]
+    fn the_kind_moves_no_id() {
+        let volume = Sharding {
+            hash: MURMUR,
+            minishard_bits: 5,
+            shard_bits: 7,
+            ..PLAIN
+        };
+        let mesh = Sharding {
+            kind: MESH,
+            ..volume
+        };
+        for id in [0, 1, 99, 1 << 40, u64::MAX] {
+            assert_eq!(place_of(&mesh, id), place_of(&volume, id));
         }
     }
 }

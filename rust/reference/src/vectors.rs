@@ -4,7 +4,7 @@
 //! between. The ids are 0, each power of two below 2^64, 2^64-1 and 32 numbers
 //! of an xorshift generator, under each of four preshifts.
 
-use crate::sharding::{Sharding, MURMUR};
+use crate::sharding::{Sharding, MURMUR, VOLUME};
 
 const PRESHIFTS: [u8; 4] = [0, 1, 9, 63];
 const SEED: u64 = 88_172_645_463_325_252;
@@ -36,6 +36,7 @@ pub fn vectors() -> String {
             hash: MURMUR,
             minishard_bits: 0,
             shard_bits: 0,
+            kind: VOLUME,
         };
         for id in ids() {
             lines += &format!("{preshift} {id} {}\n", sharding.hashed_id(id));

@@ -3,8 +3,9 @@
 use crate::{places, Rng};
 use reference::card::{to_bytes, Card};
 use reference::endian::put_u32;
+use reference::sharding::MESH;
 
-/// What a card may say, allowed or not.
+/// What a card of a volume may say, allowed or not.
 pub fn meaning(rng: &mut Rng) -> Card {
     let mut volume = places::volume(rng);
     if rng.once_in(3) {
@@ -16,7 +17,14 @@ pub fn meaning(rng: &mut Rng) -> Card {
     }
 }
 
-/// The bytes of an allowed card.
+/// What a card may say with any number for its kind, allowed or not.
+pub fn meaning_of_kinds(rng: &mut Rng) -> Card {
+    let mut card = meaning(rng);
+    card.sharding.kind = places::kind(rng);
+    card
+}
+
+/// The bytes of an allowed card of a volume.
 pub fn allowed(rng: &mut Rng) -> Vec<u8> {
     loop {
         if let Ok(bytes) = to_bytes(&meaning(rng)) {
@@ -53,7 +61,64 @@ pub fn damage(rng: &mut Rng, bytes: &mut Vec<u8>) {
     }
 }
 
-/// A card that was damaged in up to two places; it may still be allowed.
+/// The bytes of an allowed card of a mesh.
+pub fn allowed_mesh(rng: &mut Rng) -> Vec<u8> {
+    [&allowed(rng)[..], KIND].concat()
+}
+
+/// The field that says mesh.
+const KIND: &[u8] = &[8, 1, 0, MESH];
+
+/// Changes the last field of a card: its body, its length, its tag, its place,
+/// or how often it is there, which may be never.
+fn damage_kind(rng: &mut Rng, bytes: &mut Vec<u8>) {
+    let at = bytes.len().saturating_sub(KIND.len());
+    match rng.below(6) {
+        0 => {
+            bytes.pop();
+            bytes.push(rng.edge(8) as u8);
+        }
+        1 => {
+            let fields: [&[u8]; 4] = [&[8, 0, 0], &[8, 2, 0, 1, 1], &[7, 1, 0, 1], &[9, 1, 0, 1]];
+            bytes.truncate(at);
+            bytes.extend(*rng.pick(&fields));
+        }
+        2 => bytes.extend(KIND),
+        3 => bytes.truncate(at),
+        _ => {
+            bytes.truncate(at);
+            let place = *rng.pick(&[0, 4, 16, 31, 46]);
+            let place = place.min(bytes.len());
+            bytes.splice(place..place, KIND.iter().copied());
+        }
+    }
+}
+
+/// A card of a mesh that was damaged in up to two places; it may still be
+/// allowed, and that of a volume.
+pub fn damaged_mesh(rng: &mut Rng) -> Vec<u8> {
+    let mut bytes = allowed_mesh(rng);
+    for _ in 0..rng.below(3) {
+        if rng.once_in(2) {
+            damage(rng, &mut bytes);
+        } else {
+            damage_kind(rng, &mut bytes);
+        }
+    }
+    bytes
+}
+
+/// A card of either kind that was damaged in up to two places.
+pub fn any(rng: &mut Rng) -> Vec<u8> {
+    if rng.once_in(2) {
+        damaged(rng)
+    } else {
+        damaged_mesh(rng)
+    }
+}
+
+/// A card of a volume that was damaged in up to two places; it may still be
+/// allowed.
 pub fn damaged(rng: &mut Rng) -> Vec<u8> {
     let mut bytes = allowed(rng);
     for _ in 0..rng.below(3) {
@@ -67,6 +132,7 @@ mod tests {
     use super::*;
     use crate::Met;
     use reference::card::read;
+    use std::collections::BTreeMap;
 
     #[test]
     fn damage_reaches_each_refusal() {
@@ -78,5 +144,28 @@ mod tests {
         }
         reads.assert_exactly(&[0, 1, 2, 3, 14]);
         writes.assert_exactly(&[0, 1, 2, 3]);
+    }
+
+    #[test]
+    fn cards_of_both_kinds_and_of_each_length() {
+        let mut rng = Rng::new(2);
+        let (mut reads, mut writes) = (Met::new(), Met::new());
+        let mut lengths = BTreeMap::new();
+        for _ in 0..20_000 {
+            let bytes = damaged_mesh(&mut rng);
+            let card = read(&bytes);
+            reads.note(&card);
+            if let Ok(card) = card {
+                *lengths
+                    .entry((card.sharding.kind, bytes.len()))
+                    .or_insert(0) += 1;
+            }
+            writes.note(&to_bytes(&meaning_of_kinds(&mut rng)));
+        }
+        reads.assert_exactly(&[0, 1, 2, 3, 14]);
+        writes.assert_exactly(&[0, 1, 2, 3]);
+        let expected = [(0, 46), (0, 61), (1, 50), (1, 65)];
+        assert!(lengths.keys().copied().eq(expected), "{lengths:?}");
+        assert!(lengths.values().all(|count| *count > 50), "{lengths:?}");
     }
 }

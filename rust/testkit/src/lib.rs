@@ -10,6 +10,7 @@ pub mod cards;
 pub mod infos;
 pub mod lent;
 pub mod manifests;
+pub mod meshes;
 pub mod places;
 pub mod rng;
 pub mod shards;

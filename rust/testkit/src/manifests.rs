@@ -112,10 +112,10 @@ fn positions(rng: &mut Rng, most: usize) -> Vec<[u32; 3]> {
     positions
 }
 
-/// Nodes in strictly rising Z-curve order.
-fn nodes(rng: &mut Rng, most: usize) -> Vec<Node> {
+/// Nodes in strictly rising Z-curve order, with fragments of such a size.
+fn nodes(rng: &mut Rng, most: usize, size: fn(&mut Rng) -> u32) -> Vec<Node> {
     let positions = positions(rng, most).into_iter();
-    positions.map(|at| (at, rng.edge_u32())).collect()
+    positions.map(|at| (at, size(rng))).collect()
 }
 
 /// How many levels: every count from 0 to 32, the ends and small ones more
@@ -127,27 +127,53 @@ fn level_count(rng: &mut Rng) -> usize {
     }
 }
 
-/// A sound manifest with up to `most` nodes on a level. Its reals are of one
-/// kind, so that the corners of some manifests are all finite.
+/// A sound manifest with up to `most` nodes on a level.
 pub fn sound(rng: &mut Rng, most: usize) -> Vec<u8> {
     let count = level_count(rng);
+    parts(rng, count, most, Rng::edge_u32).bytes()
+}
+
+/// The parts of a sound manifest with this many levels, up to `most` nodes on
+/// each and fragments of such a size. Its reals are of one kind, so that the
+/// corners of some manifests are all finite.
+pub fn parts(rng: &mut Rng, count: usize, most: usize, size: fn(&mut Rng) -> u32) -> Parts {
     let real = rng.pick(&[usual, rounding, finite]);
-    let parts = Parts {
+    Parts {
         shape: std::array::from_fn(|_| above_zero(real(rng))),
         origin: std::array::from_fn(|_| real(rng)),
         scales: (0..count).map(|_| real(rng)).collect(),
         offsets: (0..count)
             .map(|_| std::array::from_fn(|_| real(rng)))
             .collect(),
-        levels: (0..count).map(|_| nodes(rng, most)).collect(),
-    };
-    parts.bytes()
+        levels: (0..count).map(|_| nodes(rng, most, size)).collect(),
+    }
 }
 
 /// The numbers of the items that say how many nodes a level has.
 fn counts(bytes: &[u8]) -> std::ops::Range<usize> {
     let levels = read_u32(bytes, 24).min(32) as usize;
     7 + 4 * levels..7 + 5 * levels
+}
+
+/// The rows of each level of a manifest of the right length: the number of
+/// their first item, and how many nodes the level has.
+pub fn rows(bytes: &[u8]) -> Vec<(usize, usize)> {
+    let counts = counts(bytes);
+    let mut first = counts.end;
+    let mut rows = Vec::new();
+    for number in counts {
+        let count = read_u32(bytes, 4 * number) as usize;
+        rows.push((first, count));
+        first += 4 * count;
+    }
+    rows
+}
+
+/// The numbers of the items that are fragment sizes, in the order of the
+/// fragments, in a manifest of the right length.
+pub fn size_items(bytes: &[u8]) -> Vec<usize> {
+    let sizes = |(first, count)| first + 3 * count..first + 4 * count;
+    rows(bytes).into_iter().flat_map(sizes).collect()
 }
 
 /// A sound manifest cut short: anywhere, by a few bytes, or by the 16 bytes of

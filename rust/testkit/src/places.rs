@@ -2,7 +2,7 @@
 
 use crate::Rng;
 use reference::grid::{grid_size, key_bits, Cell, Volume};
-use reference::sharding::{Place, Sharding, MOST_MINISHARD_BITS};
+use reference::sharding::{Place, Sharding, MESH, MOST_MINISHARD_BITS, VOLUME};
 
 /// A volume of any numbers: zeros and grids of up to 96 key bits occur.
 pub fn wild_volume(rng: &mut Rng) -> Volume {
@@ -98,17 +98,29 @@ pub fn key(rng: &mut Rng, volume: &Volume) -> u64 {
     }
 }
 
-/// An allowed specification.
+/// An allowed specification of a volume.
 pub fn sharding(rng: &mut Rng) -> Sharding {
     Sharding {
         preshift: rng.below(64) as u8 >> rng.below(7),
         hash: rng.below(2) as u8,
         minishard_bits: rng.below(u64::from(MOST_MINISHARD_BITS) + 1) as u8,
         shard_bits: rng.below(33) as u8,
+        kind: VOLUME,
     }
 }
 
-/// A specification of any numbers, near the limits half of the time.
+/// The number of a kind: mostly volume or mesh, else any.
+pub fn kind(rng: &mut Rng) -> u8 {
+    match rng.below(12) {
+        0 => *rng.pick(&[2, 3, 127, 128, 254, 255]),
+        1 => rng.edge(8) as u8,
+        2..7 => VOLUME,
+        _ => MESH,
+    }
+}
+
+/// A specification of any numbers for a volume, near the limits half of the
+/// time.
 pub fn wild_sharding(rng: &mut Rng) -> Sharding {
     let mut sharding = sharding(rng);
     if rng.once_in(2) {

@@ -1,9 +1,9 @@
-//! Random shards: sound ones in many layouts, and damaged ones.
+//! Random volume shards: sound ones in many layouts, and damaged ones.
 
 use crate::places::{self, identity_id};
 use crate::Rng;
 use reference::endian::{put_u64, read_u64};
-use reference::sharding::{Place, Sharding, IDENTITY, MOST_MINISHARD_BITS};
+use reference::sharding::{Place, Sharding, IDENTITY, MOST_MINISHARD_BITS, VOLUME};
 use reference::MOST_SHARD_BYTES;
 use std::collections::BTreeMap;
 
@@ -38,6 +38,7 @@ pub fn sharding(rng: &mut Rng) -> Sharding {
         } else {
             rng.below(4) as u8
         },
+        kind: VOLUME,
     }
 }
 
@@ -66,7 +67,7 @@ pub fn id(rng: &mut Rng, sharding: &Sharding, number: u64) -> Option<u64> {
 }
 
 /// Up to `most` ids of this shard, some of them close together.
-fn ids(rng: &mut Rng, sharding: &Sharding, number: u64, most: usize) -> Vec<u64> {
+pub(crate) fn ids(rng: &mut Rng, sharding: &Sharding, number: u64, most: usize) -> Vec<u64> {
     let mut ids = Vec::new();
     for _ in 0..rng.index(most + 1) {
         let near = ids.last().map(|last: &u64| last.wrapping_add(rng.below(9)));
@@ -131,7 +132,12 @@ impl Difference {
 
 /// An id of this shard that the content does not list, often the neighbour of
 /// one that it lists, where the search finds one.
-fn unlisted(rng: &mut Rng, sharding: &Sharding, number: u64, content: &Content) -> Option<u64> {
+pub(crate) fn unlisted<T>(
+    rng: &mut Rng,
+    sharding: &Sharding,
+    number: u64,
+    content: &BTreeMap<u64, T>,
+) -> Option<u64> {
     let near = listed(rng, content).map(|id| id.wrapping_add(1 + rng.below(4)));
     near.filter(|id| rng.once_in(2) && sharding.place(*id).shard == number)
         .or_else(|| id(rng, sharding, number))
@@ -139,7 +145,7 @@ fn unlisted(rng: &mut Rng, sharding: &Sharding, number: u64, content: &Content) 
 }
 
 /// One of the listed ids, where there are any.
-fn listed(rng: &mut Rng, content: &Content) -> Option<u64> {
+pub(crate) fn listed<T>(rng: &mut Rng, content: &BTreeMap<u64, T>) -> Option<u64> {
     let ids: Vec<u64> = content.keys().copied().collect();
     (!ids.is_empty()).then(|| *rng.pick(&ids))
 }
@@ -233,11 +239,11 @@ impl Order {
 /// given so far and the place of its index, counted from the end of the shard
 /// index.
 #[derive(Default)]
-struct Layout {
-    ids: Vec<u64>,
-    sizes: Vec<u64>,
-    starts: Vec<u64>,
-    index: Option<u64>,
+pub(crate) struct Layout {
+    pub(crate) ids: Vec<u64>,
+    pub(crate) sizes: Vec<u64>,
+    pub(crate) starts: Vec<u64>,
+    pub(crate) index: Option<u64>,
 }
 
 impl Layout {
@@ -248,7 +254,7 @@ impl Layout {
             .map_or(0, |start| start + self.sizes[placed - 1])
     }
 
-    fn index_length(&self) -> u64 {
+    pub(crate) fn index_length(&self) -> u64 {
         24 * self.ids.len() as u64
     }
 
@@ -275,7 +281,7 @@ impl Layout {
 
 /// The file of these minishards over this data: the shard index in front, the
 /// minishard indexes at their places.
-fn finish(rng: &mut Rng, minishards: &[Layout], mut data: Vec<u8>) -> Vec<u8> {
+pub(crate) fn finish(rng: &mut Rng, minishards: &[Layout], mut data: Vec<u8>) -> Vec<u8> {
     let mut file = Vec::new();
     for minishard in minishards {
         let (start, end) = match minishard.index {
@@ -296,7 +302,7 @@ fn finish(rng: &mut Rng, minishards: &[Layout], mut data: Vec<u8>) -> Vec<u8> {
 }
 
 /// Up to `most` bytes that nothing lists.
-fn gap(rng: &mut Rng, most: usize) -> Vec<u8> {
+pub(crate) fn gap(rng: &mut Rng, most: usize) -> Vec<u8> {
     if rng.once_in(2) {
         return Vec::new();
     }
@@ -304,21 +310,37 @@ fn gap(rng: &mut Rng, most: usize) -> Vec<u8> {
     rng.bytes(length)
 }
 
-/// Where these bytes stand already as the front of an earlier chunk, at `least`
-/// or behind it.
-fn shared(data: &[u8], chunks: &[(u64, u64)], least: u64, bytes: &[u8]) -> Option<u64> {
-    chunks
-        .iter()
-        .find(|(start, size)| {
-            *start >= least
-                && *size >= bytes.len() as u64
-                && data[*start as usize..].starts_with(bytes)
-        })
-        .map(|(start, _)| *start)
+/// Bytes to lay out together: a chunk, and in front of it what is not listed.
+pub(crate) struct Block {
+    /// How many bytes stand in front of the chunk.
+    pub(crate) lead: usize,
+    /// These and the chunk.
+    pub(crate) bytes: Vec<u8>,
+}
+
+impl Block {
+    /// Where the bytes stand already as the front of an earlier block, so that
+    /// the chunk is at `least` or behind it.
+    fn shared(&self, data: &[u8], blocks: &[(u64, u64)], least: u64) -> Option<u64> {
+        let Block { lead, bytes } = self;
+        blocks
+            .iter()
+            .find(|(start, size)| {
+                *start + *lead as u64 >= least
+                    && *size >= bytes.len() as u64
+                    && data[*start as usize..].starts_with(bytes)
+            })
+            .map(|(start, _)| *start)
+    }
 }
 
 /// The minishards of a specification with these ids, in this order.
-fn listing(rng: &mut Rng, sharding: &Sharding, ids: &[u64], order: Order) -> Vec<Layout> {
+pub(crate) fn listing(
+    rng: &mut Rng,
+    sharding: &Sharding,
+    ids: &[u64],
+    order: Order,
+) -> Vec<Layout> {
     let mut minishards: Vec<Layout> = Vec::new();
     minishards.resize_with(sharding.minishard_count() as usize, Layout::default);
     for id in ids {
@@ -338,14 +360,28 @@ pub fn lay_out(rng: &mut Rng, sharding: &Sharding, content: &Content) -> Vec<u8>
     lay_out_in(rng, sharding, content, order)
 }
 
-/// A sound shard that lists this content in this order, in a random layout:
-/// with gaps, minishard indexes before, between or after chunks, minishards
-/// mixed, bytes shared, and odd entries for empty minishards.
+/// A sound shard that lists this content in this order, in a random layout.
 pub fn lay_out_in(rng: &mut Rng, sharding: &Sharding, content: &Content, order: Order) -> Vec<u8> {
+    let block = |(id, bytes): (&u64, &Vec<u8>)| {
+        let bytes = bytes.clone();
+        (*id, Block { lead: 0, bytes })
+    };
+    lay_blocks(rng, sharding, &content.iter().map(block).collect(), order)
+}
+
+/// A sound shard with these blocks in this order, in a random layout: with
+/// gaps, minishard indexes before, between or after blocks, minishards mixed,
+/// bytes shared, and odd entries for empty minishards.
+pub(crate) fn lay_blocks(
+    rng: &mut Rng,
+    sharding: &Sharding,
+    content: &BTreeMap<u64, Block>,
+    order: Order,
+) -> Vec<u8> {
     let ids: Vec<u64> = content.keys().copied().collect();
     let mut minishards = listing(rng, sharding, &ids, order);
     for minishard in &mut minishards {
-        let size = |id| content[id].len() as u64;
+        let size = |id| (content[id].bytes.len() - content[id].lead) as u64;
         minishard.sizes = minishard.ids.iter().map(size).collect();
     }
     let mut open: Vec<usize> = (0..minishards.len())
@@ -355,7 +391,7 @@ pub fn lay_out_in(rng: &mut Rng, sharding: &Sharding, content: &Content, order: 
     let sharing = rng.once_in(2);
     let most_gap = *rng.pick(&[0, 0, 3, 20]);
     let mut data = Vec::new();
-    let mut chunks = Vec::new();
+    let mut blocks = Vec::new();
     while !open.is_empty() {
         let turn = if mixed { rng.index(open.len()) } else { 0 };
         let minishard = &mut minishards[open[turn]];
@@ -366,18 +402,18 @@ pub fn lay_out_in(rng: &mut Rng, sharding: &Sharding, content: &Content, order: 
             minishard.index = Some(data.len() as u64);
             data.resize(data.len() + minishard.index_length() as usize, 0);
         } else if next < minishard.ids.len() {
-            let bytes = &content[&minishard.ids[next]];
+            let block = &content[&minishard.ids[next]];
             let least = match order {
                 Order::Rising => minishard.cursor(),
                 Order::Arrival => 0,
             };
-            let found = shared(&data, &chunks, least, bytes).filter(|_| sharing);
+            let found = block.shared(&data, &blocks, least).filter(|_| sharing);
             let start = found.unwrap_or(data.len() as u64);
             if found.is_none() {
-                data.extend(bytes);
-                chunks.push((start, bytes.len() as u64));
+                data.extend(&block.bytes);
+                blocks.push((start, block.bytes.len() as u64));
             }
-            minishard.starts.push(start);
+            minishard.starts.push(start + block.lead as u64);
         }
         if minishard.finished() {
             open.remove(turn);
@@ -440,7 +476,7 @@ pub fn sound(rng: &mut Rng, most: usize) -> Sample {
 
 /// The place and the count of the u64 numbers of each nonempty minishard index
 /// that lies inside the file.
-fn named_indexes(sharding: &Sharding, file: &[u8]) -> Vec<(usize, usize)> {
+pub(crate) fn named_indexes(sharding: &Sharding, file: &[u8]) -> Vec<(usize, usize)> {
     let base = sharding.index_end() as usize;
     (0..sharding.minishard_count() as usize)
         .map(|m| (read_u64(file, 16 * m), read_u64(file, 16 * m + 8)))
@@ -623,6 +659,7 @@ pub fn random_bytes(rng: &mut Rng) -> Sample {
             hash: rng.below(2) as u8,
             minishard_bits: rng.below(4) as u8,
             shard_bits: 0,
+            kind: VOLUME,
         },
         number: 0,
         file: rng.bytes(length),
@@ -638,6 +675,7 @@ pub fn brimming(rng: &mut Rng) -> Sample {
         hash: IDENTITY,
         minishard_bits: 12,
         shard_bits: 0,
+        kind: VOLUME,
     };
     let whole = (MOST_SHARD_BYTES - (16 + 24) * CHUNKS) / CHUNKS;
     let data = whole + 2;

@@ -13,7 +13,7 @@ slice-aggregate-read-body c =
 returns : tie.Need-returns
 returns c =
     let n = c .before .before .before .before .card-length .result in
-    let h : n ≤ 61 = c .before .before .before .before .card-length .ensures .1 in
+    let h : n ≤ 65 = c .before .before .before .before .card-length .ensures .1 in
     let k : n ≡ length (take n (c .before .before .before .before .before .before .before .before .before .before .before .before .args .bytes .now)) = part-long n (c .before .before .before .before .before .before .before .before .before .before .before .before .args .bytes .now) (omega arith) in
     started-by _ _ _ (c .before .before .before .before .before .before .before .before .read-full .result) (c .before .before .before .before .card-length .ensures .0) (omega arith) (c .before .before .read-body .ensures)
 

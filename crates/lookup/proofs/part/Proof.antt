@@ -1,14 +1,11 @@
--- The part handed out: its bytes and its place.
-use mathlib.Core.Path.{refl}
+-- The part that the lookup's answer gives.
 use borrow.Author.Needs.{needs}
-use Rattle.lookup.proofs.Handed.{part-inside, part-fits, part-bytes, part-place, none-bytes, none-place, fault-bytes, fault-place}
+use Rattle.lookup.proofs.Handed.{lookup-inside, lookup-short, same-bytes, same-place}
 use Rattle.lookup.proofs.part.Statement.{statement}
 use Rattle.lookup.proofs.part.Tie as tie
 
 pub part-spec : {M : Type 1} → statement M
 part-spec =
     tie.close
-    (tie.spec (λ c κs. search needs) (λ c. search needs) (λ c. search part-fits) (λ c. search needs) (λ c. search needs) (λ c. search part-inside)
-    (λ c. search needs) (λ c. search needs) (λ c. search needs) (λ c. search needs) (λ c. search needs) (λ c. search needs) (λ c. search needs)
-    (λ c. search needs) (λ c. (search part-bytes, (refl, search part-place))) (λ c. (search none-bytes, (refl, search none-place)))
-    (λ c. (search fault-bytes, (refl, search fault-place))))
+    (tie.spec (λ c κs. search needs) (λ c κs. (search lookup-inside, search lookup-short))
+    (λ c. (search same-bytes, (search needs, search same-place))))

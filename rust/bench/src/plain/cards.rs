@@ -42,21 +42,24 @@ pub fn read(bytes: &[u8]) -> Result<Card, u8> {
         *body = field(&mut rest, tag, length)?;
     }
     let offset = match rest {
-        [] => [0; 3],
-        _ => match three(field(&mut rest, 7, 12)?) {
+        [7, ..] => match three(field(&mut rest, 7, 12)?) {
             [0, 0, 0] => return Err(14),
             offset => offset,
         },
+        _ => [0; 3],
     };
-    if !rest.is_empty() {
-        return Err(14);
-    }
+    let kind = match rest {
+        [] => Sharding::VOLUME,
+        [8, 1, 0, 1] => Sharding::MESH,
+        _ => return Err(14),
+    };
     let card = Card {
         sharding: Sharding {
             preshift: bodies[0][0],
             hash: bodies[1][0],
             minishard_bits: bodies[2][0],
             shard_bits: bodies[3][0],
+            kind,
         },
         volume: Volume {
             size: Extents::from(three(bodies[4])),
@@ -90,7 +93,8 @@ pub fn write(card: &Card, out: &mut [u8]) -> Result<usize, u8> {
     judge(card)?;
     let (spec, volume) = (card.sharding, card.volume);
     let offset = <[i32; 3]>::from(volume.offset);
-    let length = if offset == [0; 3] { 46 } else { 61 };
+    let mesh = spec.kind == Sharding::MESH;
+    let length = if offset == [0; 3] { 46 } else { 61 } + if mesh { 4 } else { 0 };
     if out.len() < length {
         return Err(13);
     }
@@ -106,8 +110,11 @@ pub fn write(card: &Card, out: &mut [u8]) -> Result<usize, u8> {
     }
     at = put_three(out, at, 5, volume.size.into());
     at = put_three(out, at, 6, volume.chunk.into());
-    if length == 61 {
-        put_three(out, at, 7, offset.map(|number| number as u32));
+    if offset != [0; 3] {
+        at = put_three(out, at, 7, offset.map(|number| number as u32));
+    }
+    if mesh {
+        put(out, at, 8, &[1]);
     }
     Ok(length)
 }

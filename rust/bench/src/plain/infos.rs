@@ -327,6 +327,7 @@ impl Text<'_> {
             hash: 0,
             minishard_bits: bits(minishards)?,
             shard_bits: bits(shards)?,
+            kind: Sharding::VOLUME,
         };
         let hash = match (
             self.is(hash, "identity"),

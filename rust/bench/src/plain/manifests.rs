@@ -111,6 +111,20 @@ pub fn check(bytes: &[u8]) -> Result<(), u8> {
     Ok(())
 }
 
+/// How many bytes all fragments have together, or 15 to 17.
+pub fn fragments(bytes: &[u8]) -> Result<u64, u8> {
+    check(bytes)?;
+    let parts = parts(bytes)?;
+    let mut levels = parts.levels;
+    let mut sum = 0;
+    for count in items(parts.counts) {
+        let (level, rest) = levels.split_at(16 * count as usize);
+        levels = rest;
+        sum += items(rows(level)[3]).map(u64::from).sum::<u64>();
+    }
+    Ok(sum)
+}
+
 /// A level's rows of items: x, y, z and the fragments' sizes.
 fn rows(level: &[u8]) -> [&[u8]; 4] {
     let length = level.len() / 4;

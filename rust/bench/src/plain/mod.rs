@@ -3,5 +3,6 @@
 pub mod cards;
 pub mod infos;
 pub mod manifests;
+pub mod meshes;
 pub mod places;
 pub mod shards;

@@ -178,7 +178,8 @@ pub fn judged(sharding: &Sharding) -> Result<(), u8> {
     let allowed = sharding.preshift <= 63
         && sharding.hash <= 1
         && sharding.minishard_bits <= 16
-        && sharding.shard_bits <= 32;
+        && sharding.shard_bits <= 32
+        && sharding.kind <= 1;
     if allowed {
         Ok(())
     } else {

@@ -1,20 +1,20 @@
-//! Shards in plain Rust, with the same tests in the same order.
+//! Volume shards in plain Rust, with the same tests in the same order.
 
 use super::places::{judged, place};
 use coronagamba::Sharding;
 
 /// The most bytes of a shard or a settled form.
-const MOST_BYTES: usize = 1 << 30;
+pub(super) const MOST_BYTES: usize = 1 << 30;
 
 /// A listed chunk: id, start and end in the file.
 type Chunk = (u64, u64, u64);
 
 /// A nonempty minishard index: its three rows, and where the shard index ends.
-struct Index<'a> {
+pub(super) struct Index<'a> {
     ids: &'a [u8],
     starts: &'a [u8],
     sizes: &'a [u8],
-    base: u64,
+    pub(super) base: u64,
 }
 
 /// Number `i` of a row.
@@ -23,7 +23,7 @@ fn number(row: &[u8], i: usize) -> u64 {
 }
 
 /// Tests 1, 5 and 6.
-fn open(sharding: &Sharding, shard: u64, file: &[u8]) -> Result<(), u8> {
+pub(super) fn open(sharding: &Sharding, shard: u64, file: &[u8]) -> Result<(), u8> {
     judged(sharding)?;
     if shard >> sharding.shard_bits != 0 {
         return Err(5);
@@ -35,7 +35,11 @@ fn open(sharding: &Sharding, shard: u64, file: &[u8]) -> Result<(), u8> {
 }
 
 /// A minishard's index, after tests 7 and 8; none where it is empty.
-fn index<'a>(sharding: &Sharding, file: &'a [u8], minishard: u64) -> Result<Option<Index<'a>>, u8> {
+pub(super) fn index<'a>(
+    sharding: &Sharding,
+    file: &'a [u8],
+    minishard: u64,
+) -> Result<Option<Index<'a>>, u8> {
     let base = 16 << sharding.minishard_bits;
     let entry = &file[16 * minishard as usize..][..16];
     let (start, end) = (number(entry, 0), number(entry, 1));
@@ -67,7 +71,7 @@ impl Index<'_> {
 
     /// Hands each chunk to `take`, in stored order: its id, and where it begins
     /// and ends in the file or none where it ends past it. Sums wrap.
-    fn walk(&self, length: usize, mut take: impl FnMut(u64, Option<(u64, u64)>)) {
+    pub(super) fn walk(&self, length: usize, mut take: impl FnMut(u64, Option<(u64, u64)>)) {
         let (mut id, mut cursor) = (0u64, 0u64);
         let data = length as u64 - self.base;
         for i in 0..self.count() {
@@ -109,7 +113,7 @@ impl Index<'_> {
 
     /// Hands each chunk to `take`, in stored order, and gives the lowest of
     /// tests 9, 10 and 11 that any of them fails.
-    fn judge(
+    pub(super) fn judge(
         &self,
         sharding: &Sharding,
         home: (u64, u64),

@@ -13,7 +13,7 @@ pub const CARD_READ: Part = Part {
     about: "a card read from bytes, which writes the same bytes",
     meets: &[0, 1, 2, 3, 14],
     compare: compare_read,
-    sample: cards::damaged,
+    sample: cards::any,
 };
 
 /// Writing a card.
@@ -43,7 +43,7 @@ fn compare_read(bytes: &[u8]) -> u8 {
 fn compare_write(bytes: &[u8]) -> u8 {
     let mut reader = Reader::new(bytes);
     let card = card::Card {
-        sharding: reader.sharding(),
+        sharding: reader.sharding_of_kinds(),
         volume: reader.volume(),
     };
     let library = sides::card(&card);
@@ -63,9 +63,9 @@ fn compare_write(bytes: &[u8]) -> u8 {
 }
 
 fn sample_write(rng: &mut Rng) -> Vec<u8> {
-    let card = cards::meaning(rng);
+    let card = cards::meaning_of_kinds(rng);
     Writer::new()
-        .sharding(&card.sharding)
+        .sharding_of_kinds(&card.sharding)
         .volume(&card.volume)
         .room(Room::draw(rng))
         .finish()

@@ -4,6 +4,7 @@ pub mod card;
 pub mod grid;
 pub mod info;
 pub mod manifest;
+pub mod mesh;
 pub mod names;
 pub mod settle;
 pub mod shard;

@@ -53,7 +53,7 @@ fn compare_chunk_name(bytes: &[u8]) -> u8 {
 
 fn compare_shard_name(bytes: &[u8]) -> u8 {
     let mut reader = Reader::new(bytes);
-    let sharding = reader.sharding();
+    let sharding = reader.sharding_of_kinds();
     let shard = reader.choice().shard(&sharding, &[]);
     let library = sides::sharding(&sharding);
     let name = names::shard_name(&sharding, shard);
@@ -82,10 +82,11 @@ fn sample_chunk_name(rng: &mut Rng) -> Vec<u8> {
 }
 
 fn sample_shard_name(rng: &mut Rng) -> Vec<u8> {
-    let sharding = places::wild_sharding(rng);
+    let mut sharding = places::wild_sharding(rng);
     let shard = places::shard_number(rng, &sharding);
+    sharding.kind = places::kind(rng);
     Writer::new()
-        .sharding(&sharding)
+        .sharding_of_kinds(&sharding)
         .choice(Choice::draw(rng, shard))
         .room(Room::draw(rng))
         .finish()

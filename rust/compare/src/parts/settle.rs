@@ -1,12 +1,11 @@
 //! Settling.
 
-use super::shard::front;
+use super::shard::{front, of_volume};
 use crate::agree::{guarded, same, same_writing};
 use crate::question::{Reader, Room, LONGEST_ANSWER};
 use crate::{sides, Part, LISTS_DIFFER};
 use coronagamba::Shard;
-use reference::settle;
-use reference::shard::list;
+use reference::settle::{self, content_of, Triple};
 use reference::sharding::Sharding;
 use reference::Refusal;
 use std::collections::BTreeMap;
@@ -18,7 +17,7 @@ pub const SETTLED_LENGTH: Part = Part {
     name: "settled_length",
     about: "the length of a shard's settled form",
     meets: &[0, 1, 5, 6, 7, 8, 9, 10, 11, 13],
-    compare: compare_settled_length,
+    compare: |bytes| of_volume(bytes, compare_settled_length),
     sample: sample_settled_length,
 };
 
@@ -27,7 +26,7 @@ pub const SETTLE: Part = Part {
     name: "settle",
     about: "a shard's settled form, which is sound, settles to itself and lists the same",
     meets: &[0, 1, 5, 6, 7, 8, 9, 10, 11, 13],
-    compare: compare_settle,
+    compare: |bytes| of_volume(bytes, compare_settle),
     sample: sample_settle,
 };
 
@@ -36,13 +35,12 @@ pub const SAME: Part = Part {
     name: "same",
     about: "two shards, whose settled forms are equal exactly where they list the same",
     meets: &[0, 1, 5, 6, 7, 8, 9, 10, 11, 13, LISTS_DIFFER],
-    compare: compare_same,
+    compare: |bytes| of_volume(bytes, compare_same),
     sample: sample_same,
 };
 
-fn compare_settled_length(bytes: &[u8]) -> u8 {
-    let mut reader = Reader::new(bytes);
-    let (sharding, number) = (reader.sharding(), reader.choice());
+pub fn compare_settled_length(sharding: Sharding, mut reader: Reader) -> u8 {
+    let number = reader.choice();
     guarded(reader.rest(), |file| {
         let number = number.shard(&sharding, file);
         same(
@@ -53,19 +51,17 @@ fn compare_settled_length(bytes: &[u8]) -> u8 {
     })
 }
 
-/// What a shard lists, by the reference.
-type Content<'a> = BTreeMap<u64, &'a [u8]>;
+/// What a shard lists, by the reference: in a mesh the fragments too.
+type Content<'a> = BTreeMap<u64, Triple<'a>>;
 
 /// What a shard lists, by the reference, or its refusal.
 fn content<'a>(sharding: &Sharding, number: u64, file: &'a [u8]) -> Result<Content<'a>, Refusal> {
-    let entries = list(sharding, number, file)?;
-    let pair = |entry: reference::shard::Entry| (entry.id, entry.bytes(file));
-    Ok(entries.into_iter().map(pair).collect())
+    let triples = content_of(sharding, number, file)?;
+    Ok(triples.into_iter().map(|t| (t.id, t)).collect())
 }
 
-fn compare_settle(bytes: &[u8]) -> u8 {
-    let mut reader = Reader::new(bytes);
-    let (sharding, number, room) = (reader.sharding(), reader.choice(), reader.room());
+pub fn compare_settle(sharding: Sharding, mut reader: Reader) -> u8 {
+    let (number, room) = (reader.choice(), reader.room());
     guarded(reader.rest(), |file| {
         let number = number.shard(&sharding, file);
         let opened = Shard::open(sides::sharding(&sharding), number, file);
@@ -118,8 +114,8 @@ fn settled<'a>(
         return Err(Refusal::bare(13));
     }
     let content = content(sharding, number, file)?;
-    let listed: Vec<_> = content.iter().map(|(id, bytes)| (*id, *bytes)).collect();
-    let form = settle::settled_form(sharding, &listed);
+    let listed: Vec<Triple> = content.values().copied().collect();
+    let form = settle::form_of(sharding, &listed);
     assert!(
         opened.settled().as_ref() == Ok(&form),
         "the settled form of shard {number} under {sharding:?} differs"
@@ -127,9 +123,8 @@ fn settled<'a>(
     Ok((form, content))
 }
 
-fn compare_same(bytes: &[u8]) -> u8 {
-    let mut reader = Reader::new(bytes);
-    let (sharding, number, split) = (reader.sharding(), reader.choice(), reader.number());
+pub fn compare_same(sharding: Sharding, mut reader: Reader) -> u8 {
+    let (number, split) = (reader.choice(), reader.number());
     guarded(reader.rest(), |files| {
         let split = split.min(files.len() as u64) as usize;
         let (one, other) = files.split_at(split);

@@ -14,7 +14,7 @@ pub const LOOKUP: Part = Part {
     name: "lookup",
     about: "the place of an id's chunk in a shard, and the chunk",
     meets: &[0, 1, 5, 6, 7, 8, 9, 10, 11, 12],
-    compare: compare_lookup,
+    compare: |bytes| of_volume(bytes, compare_lookup),
     sample: sample_lookup,
 };
 
@@ -23,7 +23,7 @@ pub const CHECK: Part = Part {
     name: "check",
     about: "the whole-shard check, the minishard and the position that it names",
     meets: &[0, 1, 5, 6, 7, 8, 9, 10, 11],
-    compare: compare_check,
+    compare: |bytes| of_volume(bytes, compare_check),
     sample: sample_check,
 };
 
@@ -32,7 +32,7 @@ pub const CHUNKS: Part = Part {
     name: "chunks",
     about: "all chunks of a sound shard",
     meets: &[0, 1, 5, 6, 7, 8, 9, 10, 11],
-    compare: compare_chunks,
+    compare: |bytes| of_volume(bytes, compare_chunks),
     sample: sample_check,
 };
 
@@ -41,7 +41,7 @@ pub const LISTED_COUNT: Part = Part {
     name: "listed_count",
     about: "how many chunks a minishard lists",
     meets: &[0, 1, 5, 6, 7, 8, 9, 10, 11],
-    compare: compare_listed_count,
+    compare: |bytes| of_volume(bytes, compare_listed_count),
     sample: sample_listed_count,
 };
 
@@ -50,9 +50,21 @@ pub const LISTING: Part = Part {
     name: "listing",
     about: "the chunks that a minishard lists",
     meets: &[0, 1, 5, 6, 7, 8, 9, 10, 11, 13],
-    compare: compare_listing,
+    compare: |bytes| of_volume(bytes, compare_listing),
     sample: sample_listing,
 };
+
+/// Decodes a specification of a volume in front of the question.
+pub fn of_volume(bytes: &[u8], compare: fn(Sharding, Reader) -> u8) -> u8 {
+    let mut reader = Reader::new(bytes);
+    compare(reader.sharding(), reader)
+}
+
+/// Decodes a specification of any kind in front of the question.
+pub fn of_kinds(bytes: &[u8], compare: fn(Sharding, Reader) -> u8) -> u8 {
+    let mut reader = Reader::new(bytes);
+    compare(reader.sharding_of_kinds(), reader)
+}
 
 /// Id, start and length of an entry.
 fn listed(entry: &shard::Entry) -> Listed {
@@ -70,9 +82,8 @@ fn span(entry: &shard::Entry) -> Span {
     }
 }
 
-fn compare_lookup(bytes: &[u8]) -> u8 {
-    let mut reader = Reader::new(bytes);
-    let (sharding, number, id) = (reader.sharding(), reader.choice(), reader.choice());
+pub fn compare_lookup(sharding: Sharding, mut reader: Reader) -> u8 {
+    let (number, id) = (reader.choice(), reader.choice());
     guarded(reader.rest(), |file| {
         let (number, id) = (number.shard(&sharding, file), id.id(&sharding, file));
         let opened = Shard::open(sides::sharding(&sharding), number, file);
@@ -90,9 +101,8 @@ fn compare_lookup(bytes: &[u8]) -> u8 {
     })
 }
 
-fn compare_check(bytes: &[u8]) -> u8 {
-    let mut reader = Reader::new(bytes);
-    let (sharding, number) = (reader.sharding(), reader.choice());
+pub fn compare_check(sharding: Sharding, mut reader: Reader) -> u8 {
+    let number = reader.choice();
     guarded(reader.rest(), |file| {
         let number = number.shard(&sharding, file);
         same(
@@ -103,9 +113,8 @@ fn compare_check(bytes: &[u8]) -> u8 {
     })
 }
 
-fn compare_chunks(bytes: &[u8]) -> u8 {
-    let mut reader = Reader::new(bytes);
-    let (sharding, number) = (reader.sharding(), reader.choice());
+pub fn compare_chunks(sharding: Sharding, mut reader: Reader) -> u8 {
+    let number = reader.choice();
     guarded(reader.rest(), |file| {
         let number = number.shard(&sharding, file);
         let chunk = |entry: &shard::Entry| Chunk {
@@ -124,9 +133,8 @@ fn compare_chunks(bytes: &[u8]) -> u8 {
     })
 }
 
-fn compare_listed_count(bytes: &[u8]) -> u8 {
-    let mut reader = Reader::new(bytes);
-    let (sharding, number, minishard) = (reader.sharding(), reader.choice(), reader.choice());
+pub fn compare_listed_count(sharding: Sharding, mut reader: Reader) -> u8 {
+    let (number, minishard) = (reader.choice(), reader.choice());
     guarded(reader.rest(), |file| {
         let number = number.shard(&sharding, file);
         let minishard = minishard.minishard(&sharding, file);
@@ -139,9 +147,8 @@ fn compare_listed_count(bytes: &[u8]) -> u8 {
     })
 }
 
-fn compare_listing(bytes: &[u8]) -> u8 {
-    let mut reader = Reader::new(bytes);
-    let (sharding, number, minishard) = (reader.sharding(), reader.choice(), reader.choice());
+pub fn compare_listing(sharding: Sharding, mut reader: Reader) -> u8 {
+    let (number, minishard) = (reader.choice(), reader.choice());
     let room = reader.room();
     guarded(reader.rest(), |file| {
         let number = number.shard(&sharding, file);
@@ -185,7 +192,7 @@ fn sample_check(rng: &mut Rng) -> Vec<u8> {
 }
 
 /// A minishard number to ask for: mostly one that the specification has.
-fn minishard(rng: &mut Rng, sharding: &Sharding) -> Choice {
+pub fn minishard(rng: &mut Rng, sharding: &Sharding) -> Choice {
     let number = if rng.once_in(4) {
         places::minishard_number(rng, sharding)
     } else {

@@ -4,7 +4,9 @@ use crate::agree::same;
 use crate::question::{Reader, Room, Writer};
 use crate::{sides, Part};
 use reference::endian::read_u64;
-use reference::sharding::{place_of, Sharding, MOST_MINISHARD_BITS, MOST_SHARD_BITS, MURMUR};
+use reference::sharding::{
+    place_of, Sharding, MOST_MINISHARD_BITS, MOST_SHARD_BITS, MURMUR, VOLUME,
+};
 use testkit::{places, Lent, Rng};
 
 /// Shard and minishard of an id.
@@ -27,7 +29,7 @@ pub const PLACES: Part = Part {
 
 fn compare_place(bytes: &[u8]) -> u8 {
     let mut reader = Reader::new(bytes);
-    let (sharding, id) = (reader.sharding(), reader.number());
+    let (sharding, id) = (reader.sharding_of_kinds(), reader.number());
     let library = sides::sharding(&sharding);
     same(
         format_args!("whether {sharding:?} is allowed"),
@@ -61,7 +63,7 @@ fn batch(
 
 fn compare_places(bytes: &[u8]) -> u8 {
     let mut reader = Reader::new(bytes);
-    let sharding = reader.sharding();
+    let sharding = reader.sharding_of_kinds();
     let rooms = [reader.room(), reader.room()];
     let rest = reader.rest();
     let ids: Vec<u64> = (0..rest.len() / 8).map(|i| read_u64(rest, 8 * i)).collect();
@@ -84,21 +86,26 @@ fn compare_places(bytes: &[u8]) -> u8 {
 
 /// A specification of any numbers, often the one that shows most of the hash.
 fn specification(rng: &mut Rng) -> Sharding {
-    if rng.once_in(4) {
+    let volume = if rng.once_in(4) {
         Sharding {
             preshift: 0,
             hash: MURMUR,
             minishard_bits: MOST_MINISHARD_BITS,
             shard_bits: MOST_SHARD_BITS,
+            kind: VOLUME,
         }
     } else {
         places::wild_sharding(rng)
+    };
+    Sharding {
+        kind: places::kind(rng),
+        ..volume
     }
 }
 
 fn sample_place(rng: &mut Rng) -> Vec<u8> {
     Writer::new()
-        .sharding(&specification(rng))
+        .sharding_of_kinds(&specification(rng))
         .number(rng.edge_u64())
         .finish()
 }
@@ -109,7 +116,7 @@ fn sample_places(rng: &mut Rng) -> Vec<u8> {
     let ids = (0..rng.index(most)).flat_map(|_| rng.edge_u64().to_le_bytes());
     let ids: Vec<u8> = ids.collect();
     Writer::new()
-        .sharding(&sharding)
+        .sharding_of_kinds(&sharding)
         .room(Room::draw(rng))
         .room(Room::draw(rng))
         .rest(&ids)

@@ -12,15 +12,17 @@ const _: fn(Sharding) = |given| {
         hash,
         minishard_bits,
         shard_bits,
+        kind,
     } = given;
-    let _: (u8, u8, u8, u8) = (preshift, hash, minishard_bits, shard_bits);
+    let _: (u8, u8, u8, u8, u8) = (preshift, hash, minishard_bits, shard_bits, kind);
 };
 const _: () = {
     assert!(offset_of!(Sharding, preshift) == 0);
     assert!(offset_of!(Sharding, hash) == 1);
     assert!(offset_of!(Sharding, minishard_bits) == 2);
     assert!(offset_of!(Sharding, shard_bits) == 3);
-    assert!(size_of::<Sharding>() == 4);
+    assert!(offset_of!(Sharding, kind) == 4);
+    assert!(size_of::<Sharding>() == 5);
     assert!(align_of::<Sharding>() == 1);
 };
 const _: fn(Extents) = |given| {
@@ -196,11 +198,12 @@ extern "C" {
         length: *mut u64,
     ) -> u64;
 
-    /// Where the chunk of an id lies in the shard's file. Writes where it begins, counted from the
-    /// file's first byte, to `start`, and its number of bytes to `length`. Of the minishards it
-    /// judges the id's own alone.
+    /// Where the chunk of an id lies in the shard's file; in a mesh the chunk is a manifest. Writes
+    /// where it begins, counted from the file's first byte, to `start`, and its number of bytes to
+    /// `length`. Of the minishards it judges the id's own alone.
     ///
-    /// Refusals: 1, 5, 6, 7 to 11 of the id's minishard with the position, 12
+    /// Refusals: 1, 5, 6, 7 to 11, 15 to 17 (mesh), 21 (mesh) of the id's minishard with the
+    /// position, 12
     pub fn coronagamba_lookup(
         sharding: Sharding,
         shard: u64,
@@ -211,16 +214,37 @@ extern "C" {
         length: *mut u64,
     ) -> u64;
 
-    /// Whether the whole shard is sound. Writes nothing. Where a minishard has a fault, the answer
-    /// word names the first such minishard and the position.
+    /// Where the fragment of a node lies in a mesh shard's file, by the id of its manifest, its
+    /// level and its number, both counted from 0. A manifest's fragments are the bytes right before
+    /// it, as many as its sizes make together, one after the other in the order of its nodes.
+    /// Writes where the fragment begins, counted from the file's first byte, to `start`, and its
+    /// number of bytes to `length`. Of the minishards it judges the id's own alone.
     ///
-    /// Refusals: 1, 5, 6, 7 to 11 with the minishard and the position
+    /// Refusals: 1, 5, 6, 7 to 11, 15 to 17 (mesh), 21 (mesh) of the id's minishard with the
+    /// position, 12, 18 also where the kind is volume
+    pub fn coronagamba_fragment(
+        sharding: Sharding,
+        shard: u64,
+        file: *const u8,
+        count: usize,
+        id: u64,
+        level: u32,
+        node: u32,
+        start: *mut u64,
+        length: *mut u64,
+    ) -> u64;
+
+    /// Whether the whole shard is sound; in a mesh each chunk must be a sound manifest with its
+    /// fragments before it. Writes nothing. Where a minishard has a fault, the answer word names
+    /// the first such minishard and the position.
+    ///
+    /// Refusals: 1, 5, 6, 7 to 11, 15 to 17 (mesh), 21 (mesh) with the minishard and the position
     pub fn coronagamba_check(sharding: Sharding, shard: u64, file: *const u8, count: usize) -> u64;
 
     /// How many chunks a minishard lists. Writes the number to `chunks`.
     ///
-    /// Refusals: 1, 5 (also for a minishard that is not there), 6, 7 to 11 of that minishard with
-    /// the position
+    /// Refusals: 1, 5 (also for a minishard that is not there), 6, 7 to 11, 15 to 17 (mesh), 21
+    /// (mesh) of that minishard with the position
     pub fn coronagamba_listed_count(
         sharding: Sharding,
         shard: u64,
@@ -234,8 +258,8 @@ extern "C" {
     /// front of `out`: id, start counted from the file's first byte, length in bytes. Writes how
     /// many numbers these are, three times what coronagamba_listed_count gives, to `length`.
     ///
-    /// Refusals: 1, 5 (also for a minishard that is not there), 6, 7 to 11 of that minishard with
-    /// the position, 13 where `out` has room for fewer
+    /// Refusals: 1, 5 (also for a minishard that is not there), 6, 7 to 11, 15 to 17 (mesh), 21
+    /// (mesh) of that minishard with the position, 13 where `out` has room for fewer
     pub fn coronagamba_listing(
         sharding: Sharding,
         shard: u64,
@@ -249,8 +273,8 @@ extern "C" {
 
     /// How many bytes a shard's settled form has. Writes the number to `length`.
     ///
-    /// Refusals: 1, 5, 6, 7 to 11 of the first faulty minishard with the position, 13 where the
-    /// form would pass 1 GiB
+    /// Refusals: 1, 5, 6, 7 to 11, 15 to 17 (mesh), 21 (mesh) of the first faulty minishard with
+    /// the position, 13 where the form would pass 1 GiB
     pub fn coronagamba_settled_length(
         sharding: Sharding,
         shard: u64,
@@ -259,11 +283,12 @@ extern "C" {
         length: *mut u64,
     ) -> u64;
 
-    /// A shard's settled form. Writes it to the front of `out`, which needs the room that
-    /// coronagamba_settled_length tells, and its number of bytes to `length`.
+    /// A shard's settled form; in a mesh each manifest has its fragments right before it there too.
+    /// Writes it to the front of `out`, which needs the room that coronagamba_settled_length tells,
+    /// and its number of bytes to `length`.
     ///
-    /// Refusals: 1, 5, 6, 7 to 11 of the first faulty minishard with the position, 13 where `out`
-    /// is shorter than the form or the form would pass 1 GiB
+    /// Refusals: 1, 5, 6, 7 to 11, 15 to 17 (mesh), 21 (mesh) of the first faulty minishard with
+    /// the position, 13 where `out` is shorter than the form or the form would pass 1 GiB
     pub fn coronagamba_settle(
         sharding: Sharding,
         shard: u64,
@@ -274,23 +299,23 @@ extern "C" {
         length: *mut u64,
     ) -> u64;
 
-    /// What a deposit card of these bytes says. Writes preshift, hash, minishard bits and shard
-    /// bits to `sharding`, and volume size, chunk size and voxel offset along x, y and z to `size`,
-    /// `chunk` and `offset`. To use them in other calls, copy the numbers into the structs one by
-    /// one.
+    /// What a deposit card of these bytes says. Writes preshift, hash, minishard bits, shard bits
+    /// and kind to `sharding`, and volume size, chunk size and voxel offset along x, y and z to
+    /// `size`, `chunk` and `offset`. To use them in other calls, copy the numbers into the structs
+    /// one by one.
     ///
     /// Refusals: 14, 1, 2, 3
     pub fn coronagamba_card_read(
         bytes: *const u8,
         count: usize,
-        sharding: *mut [u8; 4],
+        sharding: *mut [u8; 5],
         size: *mut [u32; 3],
         chunk: *mut [u32; 3],
         offset: *mut [i32; 3],
     ) -> u64;
 
-    /// A deposit card. Writes its bytes, 46 or 61, to the front of `out`, and their number to
-    /// `length`.
+    /// A deposit card. Writes its bytes, 46 or 61, of a mesh 50 or 65, to the front of `out`, and
+    /// their number to `length`.
     ///
     /// Refusals: 1, 2, 3, 13 where `out` is shorter than the card
     pub fn coronagamba_card_write(
@@ -302,14 +327,15 @@ extern "C" {
     ) -> u64;
 
     /// What the text of an info file says of its scale number `scale`, from 0: the numbers that a
-    /// deposit card of it says, written as coronagamba_card_read writes them.
+    /// deposit card of it says, written as coronagamba_card_read writes them. The kind is 0,
+    /// volume.
     ///
     /// Refusals: 19, 20, 1, 2, 3
     pub fn coronagamba_info_read(
         text: *const u8,
         count: usize,
         scale: u64,
-        sharding: *mut [u8; 4],
+        sharding: *mut [u8; 5],
         size: *mut [u32; 3],
         chunk: *mut [u32; 3],
         offset: *mut [i32; 3],

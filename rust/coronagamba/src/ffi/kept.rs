@@ -1,6 +1,7 @@
 //! Each call that writes, refused in each way that the header names for it:
-//! the answer is the refusal's number, with 7 to 11 the position too and nothing
-//! else, and every byte that was lent is as it was, whatever it was.
+//! the answer is the refusal's number, of a shard with 7 to 11, 15 to 17 and 21
+//! the position too and nothing else, and every byte that was lent is as it was,
+//! whatever it was.
 
 use super::*;
 use crate::{Cell, Point, Sharding, Volume};
@@ -86,6 +87,13 @@ macro_rules! cases {
 const FORBIDDEN: Sharding = bits(64, 1);
 /// One shard of two minishards.
 const TWO: Sharding = bits(0, 1);
+/// The same of a mesh.
+const MESH: Sharding = Sharding {
+    kind: Sharding::MESH,
+    ..TWO
+};
+/// The same of neither kind.
+const NEITHER: Sharding = Sharding { kind: 2, ..TWO };
 
 const fn bits(preshift: u8, minishard_bits: u8) -> Sharding {
     Sharding {
@@ -93,6 +101,7 @@ const fn bits(preshift: u8, minishard_bits: u8) -> Sharding {
         hash: Sharding::IDENTITY,
         minishard_bits,
         shard_bits: 0,
+        kind: Sharding::VOLUME,
     }
 }
 
@@ -136,6 +145,7 @@ fn sharding() -> Vec<Case<'static>> {
     let ids = IDS.as_ptr();
     Vec::from(cases! { lent:
         1 => coronagamba_place_of(FORBIDDEN, 7, lent.one(), lent.one());
+        1 => coronagamba_place_of(NEITHER, 7, lent.one(), lent.one());
         1 => coronagamba_places_of(FORBIDDEN, ids, 2, lent.many(2), 2, lent.many(2), 2, lent.one());
         13 => coronagamba_places_of(TWO, ids, 2, lent.many(1), 1, lent.many(2), 2, lent.one());
         13 => coronagamba_places_of(TWO, ids, 2, lent.many(2), 2, lent.many(1), 1, lent.one());
@@ -160,6 +170,24 @@ fn shard(entry: [u64; 2], rows: [u64; 6]) -> Vec<u8> {
 /// The rows of ids 5 and 11.
 const ROWS: [u64; 6] = [5, 6, 0, 0, 2, 3];
 
+/// A mesh shard of two minishards, and where its start steps begin. The first
+/// minishard is empty, the second lists these manifests under ids 5 and 11, each
+/// behind so many bytes.
+fn mesh(manifests: [Vec<u8>; 2], lead: u64) -> (Vec<u8>, u64) {
+    let [first, second] = [0, 1].map(|i: usize| manifests[i].len() as u64);
+    let before = vec![b'-'; lead as usize];
+    let data = manifests.map(|manifest| [&before[..], &manifest].concat());
+    let (data, end) = (data.concat(), 2 * lead + first + second);
+    let rows = row(&[5, 6, lead, lead, first, second]);
+    let file = [row(&[0, 0, end, end + 48]), data, rows].concat();
+    (file, 32 + end + 16)
+}
+
+/// A sound mesh shard: each manifest has 10 bytes of fragments.
+fn sound_mesh() -> Vec<u8> {
+    mesh([manifest(1.0, [0, 1]), manifest(1.0, [2, 3])], 10).0
+}
+
 /// A specification, a shard number and a file that each call on a shard
 /// refuses with the word in front.
 type Faulty = (u64, Sharding, u64, Vec<u8>);
@@ -181,7 +209,20 @@ fn faulty_shards() -> Vec<Faulty> {
         (at(9, 45), TWO, 0, shard([5, 53], [5, 0, 0, 0, 2, 3])),
         (at(10, 45), TWO, 0, shard([5, 53], [5, 5, 0, 0, 2, 3])),
         (at(11, 61), TWO, 0, shard([5, 53], [5, 6, 0, 0, 2, 52])),
+        (1, NEITHER, 0, sound),
+        faulty_mesh(15, 1, manifest(1.0, [0, 1])[1..].to_vec(), 10),
+        faulty_mesh(16, 1, manifest(f32::NAN, [0, 1]), 10),
+        faulty_mesh(17, 1, manifest(1.0, [1, 0]), 10),
+        // The fragments of the first manifest would begin a byte too early.
+        faulty_mesh(21, 0, manifest(1.0, [0, 1]), 9),
     ]
+}
+
+/// A mesh shard whose second manifest is this one. An entry's start step is the
+/// position.
+fn faulty_mesh(number: u64, entry: u64, second: Vec<u8>, lead: u64) -> Faulty {
+    let (file, steps) = mesh([manifest(1.0, [0, 1]), second], lead);
+    (at(number, steps + 8 * entry), MESH, 0, file)
 }
 
 /// The calls that write, on a shard whose second minishard is faulty.
@@ -190,6 +231,9 @@ fn on_faulty_shard((word, sharding, shard, file): &Faulty) -> Vec<Case<'_>> {
     let (from, count) = (file.as_ptr(), file.len());
     Vec::from(cases! { lent:
         word => coronagamba_lookup(sharding, shard, from, count, 5, lent.one(), lent.one());
+        word => coronagamba_fragment(
+            sharding, shard, from, count, 5, 0, 0, lent.one(), lent.one(),
+        );
         word => coronagamba_listed_count(sharding, shard, from, count, 1, lent.one());
         word => coronagamba_listing(sharding, shard, from, count, 1, lent.many(9), 9, lent.one());
         word => coronagamba_settled_length(sharding, shard, from, count, lent.one());
@@ -202,10 +246,25 @@ fn on_sound_shard(file: &[u8]) -> Vec<Case<'_>> {
     let (from, count) = (file.as_ptr(), file.len());
     Vec::from(cases! { lent:
         12 => coronagamba_lookup(TWO, 0, from, count, 7, lent.one(), lent.one());
+        12 => coronagamba_fragment(TWO, 0, from, count, 7, 0, 0, lent.one(), lent.one());
+        18 => coronagamba_fragment(TWO, 0, from, count, 5, 0, 0, lent.one(), lent.one());
         5 => coronagamba_listed_count(TWO, 0, from, count, 2, lent.one());
         5 => coronagamba_listing(TWO, 0, from, count, 2, lent.many(9), 9, lent.one());
         13 => coronagamba_listing(TWO, 0, from, count, 1, lent.many(5), 5, lent.one());
         13 => coronagamba_settle(TWO, 0, from, count, lent.many(84), 84, lent.one());
+    })
+}
+
+/// Fragments that a sound mesh shard does not have.
+fn on_sound_mesh(file: &[u8]) -> Vec<Case<'_>> {
+    let (from, count) = (file.as_ptr(), file.len());
+    Vec::from(cases! { lent:
+        12 => coronagamba_fragment(MESH, 0, from, count, 7, 0, 0, lent.one(), lent.one());
+        18 => coronagamba_fragment(MESH, 0, from, count, 11, 0, 2, lent.one(), lent.one());
+        18 => coronagamba_fragment(MESH, 0, from, count, 11, 1, 0, lent.one(), lent.one());
+        13 => coronagamba_settle(
+            MESH, 0, from, count, lent.many(99), 99, lent.one(),
+        );
     })
 }
 
@@ -245,6 +304,8 @@ fn card(preshift: u8, size: u32, chunk: u32) -> Vec<u8> {
 fn faulty_cards() -> Vec<(u64, Vec<u8>)> {
     vec![
         (14, card(0, 8, 1)[..45].to_vec()),
+        // Tag 8 for a volume.
+        (14, [&card(0, 8, 1)[..], &[8, 1, 0, 0]].concat()),
         (1, card(64, 8, 1)),
         (2, card(0, 0, 1)),
         (3, card(0, 1 << 22, 1)),
@@ -296,10 +357,12 @@ fn card_write() -> Vec<Case<'static>> {
     let (empty, row) = (volume([0, 1, 1]), volume([5, 3, 1]));
     let large = volume([1 << 22, 1 << 22, 1 << 21]);
     Vec::from(cases! { lent:
-        1 => coronagamba_card_write(FORBIDDEN, row, lent.many(61), 61, lent.one());
-        2 => coronagamba_card_write(TWO, empty, lent.many(61), 61, lent.one());
-        3 => coronagamba_card_write(TWO, large, lent.many(61), 61, lent.one());
+        1 => coronagamba_card_write(FORBIDDEN, row, lent.many(65), 65, lent.one());
+        1 => coronagamba_card_write(NEITHER, row, lent.many(65), 65, lent.one());
+        2 => coronagamba_card_write(TWO, empty, lent.many(65), 65, lent.one());
+        3 => coronagamba_card_write(TWO, large, lent.many(65), 65, lent.one());
         13 => coronagamba_card_write(TWO, row, lent.many(45), 45, lent.one());
+        13 => coronagamba_card_write(MESH, row, lent.many(49), 49, lent.one());
     })
 }
 
@@ -404,12 +467,13 @@ fn named() -> BTreeSet<(String, u64)> {
 fn a_refusal_leaves_every_lent_byte() {
     let (shards, cards, manifests) = (faulty_shards(), faulty_cards(), faulty_manifests());
     let infos = faulty_infos();
-    let (sound, long) = (shard([5, 53], ROWS), overlapping());
+    let (sound, long, mesh) = (shard([5, 53], ROWS), overlapping(), sound_mesh());
     let far = manifest(1.0, [0, 1 << 24]);
     let cases: Vec<Case> = [grid(), sharding(), card_write()]
         .into_iter()
         .chain(shards.iter().map(on_faulty_shard))
-        .chain([on_sound_shard(&sound), on_overlapping_shard(&long)])
+        .chain([on_sound_shard(&sound), on_sound_mesh(&mesh)])
+        .chain([on_overlapping_shard(&long)])
         .chain(cards.iter().map(on_faulty_card))
         .chain(infos.iter().map(on_faulty_info))
         .chain(manifests.iter().map(on_faulty_manifest))

@@ -155,6 +155,10 @@ impl Shown {
             ..
         } = self.card.sharding;
         let hash = self.hash;
+        let kind = match settings::is_mesh(&self.card.sharding) {
+            false => "",
+            true => " --kind mesh",
+        };
         let [first, last] = &self.ends;
         let size = extents(self.card.volume.size);
         let chunk = extents(self.card.volume.chunk);
@@ -176,13 +180,17 @@ impl Shown {
             "  shard bits: {shard_bits} (shards: {}, {first} to {last})",
             1u64 << shard_bits
         ))?;
+        report.line(format_args!(
+            "  kind: {}",
+            settings::kind_name(&self.card.sharding)
+        ))?;
         report.line(format_args!("  volume size: {size}"))?;
         report.line(format_args!("  chunk size: {chunk}"))?;
         report.line(format_args!("  voxel offset: {x},{y},{z}"))?;
         report.line(format_args!("  grid: {} cells", extents(self.grid)))?;
         report.line(format_args!(
             "  as options: --preshift {preshift} --hash {hash} --minishard-bits {minishard_bits} \
-             --shard-bits {shard_bits} --size {size} --chunk {chunk} --offset {x},{y},{z}"
+             --shard-bits {shard_bits} --size {size} --chunk {chunk} --offset {x},{y},{z}{kind}"
         ))
     }
 
@@ -210,6 +218,7 @@ impl Shown {
             .text("hash", self.hash)
             .number("minishard_bits", minishard_bits)
             .number("shard_bits", shard_bits)
+            .text("kind", settings::kind_name(&self.card.sharding))
             .numbers("size", three(volume.size))
             .numbers("chunk", three(volume.chunk))
             .numbers("offset", [x, y, z])

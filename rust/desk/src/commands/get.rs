@@ -1,11 +1,11 @@
-//! `get`: the bytes of one chunk.
+//! `get`: the bytes of one chunk, or of one fragment of a mesh.
 
 use std::path::{Path, PathBuf};
 
 use coronagamba::{Shard, Sharding};
 
 use super::{cell_of, Command};
-use crate::args::{flag, number, value, Args};
+use crate::args::{flag, number, pair, value, Args};
 use crate::diagnosis;
 use crate::fault::{Fault, Refused, Status};
 use crate::files::{is_missing, read_whole, Inputs};
@@ -23,6 +23,7 @@ pub const COMMAND: Command = Command {
         settings::OPTIONS,
         &[
             value("--cell"),
+            value(FRAGMENT),
             value("--shard"),
             value("--out"),
             flag("--force"),
@@ -31,7 +32,10 @@ pub const COMMAND: Command = Command {
     run,
 };
 
+const FRAGMENT: &str = "--fragment";
+
 fn run(args: &Args, report: &mut Report) -> Result<(), Fault> {
+    let fragment = fragment(args)?;
     let (asked, sharding, id) = asked(args)?;
     let (path, number) = shard_file(args, &sharding, asked, id)?;
     if asked.is_dir() && is_missing(&path) {
@@ -45,15 +49,37 @@ fn run(args: &Args, report: &mut Report) -> Result<(), Fault> {
         remove_stale_parts_of(out, &inputs);
     }
     let file = read_whole(&path)?;
-    let chunk = Shard::open(sharding, number, &file).chunk(id);
-    let chunk = chunk.map_err(|refusal| {
-        let diagnosis = diagnosis::of_lookup(&sharding, number, &file, id, refusal);
+    let shard = Shard::open(sharding, number, &file);
+    let found = match fragment {
+        None => shard.chunk(id),
+        Some([level, node]) => shard.fragment(id, level, node),
+    };
+    let bytes = found.map_err(|refusal| {
+        let diagnosis = match fragment {
+            None => diagnosis::of_lookup(&sharding, number, &file, id, refusal),
+            Some([level, node]) => {
+                diagnosis::of_fragment(&sharding, number, &file, (id, level, node), refusal)
+            }
+        };
         Refused::file(&path, refusal, diagnosis)
     })?;
     match out {
-        Some(out) => write_new(out, args.flag("--force"), chunk),
-        None => report.bytes(chunk),
+        Some(out) => write_new(out, args.flag("--force"), bytes),
+        None => report.bytes(bytes),
     }
+}
+
+/// The level and the node whose fragment is asked for.
+fn fragment(args: &Args) -> Result<Option<[u64; 2]>, Fault> {
+    let Some(word) = args.value(FRAGMENT) else {
+        return Ok(None);
+    };
+    if args.flag("--cell") {
+        return Err(Fault::wrong_use(
+            "--cell and --fragment exclude each other: a volume has no fragments, and a mesh no cells",
+        ));
+    }
+    pair(word, FRAGMENT, "two numbers with a comma, LEVEL,NODE").map(Some)
 }
 
 /// The path, the sharding and the id asked for: the id itself, or the key of a

@@ -1,15 +1,18 @@
-//! `list`: all chunks of a shard with their places.
+//! `list`: all chunks of a shard with their places, of a mesh those of the
+//! fragments too.
 
+use std::fmt;
 use std::io;
 use std::path::Path;
 
-use coronagamba::{Shard, Sharding};
+use coronagamba::{Shard, Sharding, Span};
 
 use super::Command;
 use crate::args::{flag, value, Args};
 use crate::diagnosis;
 use crate::fault::{Fault, Refused};
 use crate::files::read_whole;
+use crate::fragments::Fragments;
 use crate::help;
 use crate::json::Object;
 use crate::naming::{number_of_file, shard_number};
@@ -23,10 +26,17 @@ pub const COMMAND: Command = Command {
     help: help::LIST,
     options: &[
         settings::OPTIONS,
-        &[value("--minishard"), value("--shard"), flag("--json")],
+        &[
+            value("--minishard"),
+            flag(FRAGMENTS),
+            value("--shard"),
+            flag("--json"),
+        ],
     ],
     run,
 };
+
+const FRAGMENTS: &str = "--fragments";
 
 fn run(args: &Args, report: &mut Report) -> Result<(), Fault> {
     let files = args.at_least_one("FILE")?;
@@ -34,6 +44,11 @@ fn run(args: &Args, report: &mut Report) -> Result<(), Fault> {
     let sharding = settings::of_shards(args)?.sharding;
     if files.len() > 1 && args.flag("--shard") {
         return Err(Fault::wrong_use("--shard is for one file"));
+    }
+    if args.flag(FRAGMENTS) && !settings::is_mesh(&sharding) {
+        return Err(Fault::wrong_use(
+            "--fragments: a volume has none; a card says mesh, or --kind mesh does",
+        ));
     }
     for file in files {
         let path = Path::new(file);
@@ -82,10 +97,15 @@ fn list(
         Some(minishard) => minishard..=minishard,
         None => 0..=(1 << sharding.minishard_bits) - 1,
     };
+    let view = View::of(args, sharding);
+    let teller = Teller {
+        file: &file,
+        view,
+        about: Object::new().path(path).text("result", view.result()),
+    };
     if !report.json() {
-        report.line("ID MINISHARD START LENGTH")?;
+        report.line(view.header())?;
     }
-    let about_file = Object::new().path(path).text("result", "chunk");
     let mut numbers = Vec::new();
     for minishard in minishards {
         let listed = fill(&shard, minishard, &mut numbers, path)?;
@@ -94,7 +114,7 @@ fn list(
             Refused::file(path, refusal, diagnosis)
         })?;
         for entry in numbers.chunks_exact(3) {
-            tell(report, &about_file, minishard, entry)?;
+            teller.tell(report, minishard, entry)?;
         }
     }
     Ok(())
@@ -121,25 +141,104 @@ fn fill(
     Ok(shard.write_listing(minishard, numbers).map(|_| ()))
 }
 
-/// The line of one chunk; an object begins with what it says about the file.
-fn tell(
-    report: &mut Report,
-    about_file: &Object,
-    minishard: u64,
-    entry: &[u64],
-) -> Result<(), Fault> {
-    let &[id, start, length] = entry else {
-        return Ok(());
-    };
-    if report.json() {
-        return report.object(
-            about_file
-                .clone()
-                .number("id", id)
-                .number("minishard", minishard)
-                .number("start", start)
-                .number("length", length),
-        );
+/// What is told of each chunk.
+#[derive(Clone, Copy)]
+enum View {
+    /// Its place.
+    Chunks,
+    /// That of a manifest, and that of all its fragments.
+    Manifests,
+    /// That of each of its fragments.
+    Fragments,
+}
+
+impl View {
+    fn of(args: &Args, sharding: &Sharding) -> View {
+        match (settings::is_mesh(sharding), args.flag(FRAGMENTS)) {
+            (false, _) => View::Chunks,
+            (true, false) => View::Manifests,
+            (true, true) => View::Fragments,
+        }
     }
-    report.line(format_args!("{id} {minishard} {start} {length}"))
+
+    /// The names of the numbers in a line.
+    fn header(self) -> &'static str {
+        match self {
+            View::Chunks => "ID MINISHARD START LENGTH",
+            View::Manifests => "ID MINISHARD START LENGTH FRAGMENTS_START FRAGMENTS_LENGTH",
+            View::Fragments => "ID MINISHARD LEVEL NODE START LENGTH",
+        }
+    }
+
+    /// What an object is about.
+    fn result(self) -> &'static str {
+        match self {
+            View::Chunks | View::Manifests => "chunk",
+            View::Fragments => "fragment",
+        }
+    }
+}
+
+/// Tells the chunks of one file.
+struct Teller<'a> {
+    file: &'a [u8],
+    view: View,
+    /// What each object says about the file.
+    about: Object,
+}
+
+impl Teller<'_> {
+    /// The line of one chunk, or a line for each of its fragments.
+    fn tell(&self, report: &mut Report, minishard: u64, entry: &[u64]) -> Result<(), Fault> {
+        let &[id, start, length] = entry else {
+            return Ok(());
+        };
+        let front = [("id", id), ("minishard", minishard)];
+        let place = [("start", start), ("length", length)];
+        let fragments = || Fragments::of(self.file, Span { start, length });
+        match self.view {
+            View::Chunks => self.line(report, &[front, place]),
+            View::Manifests => {
+                let Span { start, length } = fragments().span();
+                let run = [("fragments_start", start), ("fragments_length", length)];
+                self.line(report, &[front, place, run])
+            }
+            View::Fragments => fragments().each().try_for_each(|fragment| {
+                let Span { start, length } = fragment.span;
+                let node = [
+                    ("level", fragment.level.into()),
+                    ("node", fragment.node.into()),
+                ];
+                self.line(
+                    report,
+                    &[front, node, [("start", start), ("length", length)]],
+                )
+            }),
+        }
+    }
+
+    /// A line of these numbers, or an object with their names.
+    fn line(&self, report: &mut Report, numbers: &[[(&str, u64); 2]]) -> Result<(), Fault> {
+        if !report.json() {
+            return report.line(Numbers(numbers.as_flattened()));
+        }
+        let mut object = self.about.clone();
+        for (name, number) in numbers.as_flattened() {
+            object = object.number(name, *number);
+        }
+        report.object(object)
+    }
+}
+
+/// Numbers with blanks between them.
+struct Numbers<'a>(&'a [(&'a str, u64)]);
+
+impl fmt::Display for Numbers<'_> {
+    fn fmt(&self, f: &mut fmt::Formatter<'_>) -> fmt::Result {
+        for (place, (_, number)) in self.0.iter().enumerate() {
+            let blank = if place == 0 { "" } else { " " };
+            write!(f, "{blank}{number}")?;
+        }
+        Ok(())
+    }
 }

@@ -32,7 +32,10 @@ fn run(args: &Args, report: &mut Report) -> Result<(), Fault> {
     let sharding = settings::of_shards(args)?.sharding;
     let workers = round::workers(args, 1)?;
     let paths = args.exactly(["PATH1", "PATH2"])?.map(Path::new);
-    let mut summary = Summary::default();
+    let mut summary = Summary {
+        mesh: settings::is_mesh(&sharding),
+        ..Summary::default()
+    };
     let pairs = match paths.map(is_folder) {
         [true, true] => {
             round::no_shard_option(args, paths[0])?;
@@ -347,6 +350,8 @@ impl Task {
 /// Counts over all shards.
 #[derive(Default)]
 struct Summary {
+    /// Whether chunks have fragments, which are compared too.
+    mesh: bool,
     same: u64,
     different: u64,
     refused: u64,
@@ -441,12 +446,9 @@ impl Summary {
     /// The answer in a word and in a sentence.
     fn sentence(&self) -> (&'static str, String) {
         let (answer, beginning) = if self.differs() {
-            ("different", "The two do not hold the same chunks")
+            ("different", "The two do not hold the same")
         } else if self.is_unknown() {
-            (
-                "unknown",
-                "It is not known whether the two hold the same chunks",
-            )
+            ("unknown", "It is not known whether the two hold the same")
         } else {
             return ("same", self.sentence_of_same());
         };
@@ -456,8 +458,9 @@ impl Summary {
         };
         let [first, second] = self.missing;
         let sentence = format!(
-            "{beginning}: {} same, {} different, {} refused, {first} missing in the first, \
+            "{beginning} {}: {} same, {} different, {} refused, {first} missing in the first, \
              {second} missing in the second{}{}{}{bare}.",
+            self.what(),
             counted(self.same, "shard"),
             self.different,
             self.refused,
@@ -486,8 +489,16 @@ impl Summary {
             0 => String::new(),
             empty => format!("; shards on one side only that list no chunk: {empty}"),
         };
-        let shards = counted(self.same, "shard");
-        format!("The two hold the same chunks: {shards} compared, all the same{empty}.")
+        let (what, shards) = (self.what(), counted(self.same, "shard"));
+        format!("The two hold the same {what}: {shards} compared, all the same{empty}.")
+    }
+
+    /// What was compared.
+    fn what(&self) -> &'static str {
+        match self.mesh {
+            false => "chunks",
+            true => "chunks and fragments",
+        }
     }
 }
 
@@ -526,6 +537,10 @@ fn tell_different(
             Kind::Bytes { at, lengths } => object
                 .number("first_difference", at as u64)
                 .numbers("lengths", lengths.map(|length| length as u64)),
+            Kind::Fragment { level, node, at } => object
+                .number("level", level)
+                .number("node", node)
+                .number("first_difference", at as u64),
         }
     };
     say(name, &format!("different: {difference}"), members, report)
@@ -621,6 +636,23 @@ mod tests {
             sentence(same()),
             "The two hold the same chunks: 12 shards compared, all the same."
         );
+        let of_mesh = |summary| {
+            sentence(Summary {
+                mesh: true,
+                ..summary
+            })
+        };
+        assert_eq!(
+            of_mesh(same()),
+            "The two hold the same chunks and fragments: 12 shards compared, all the same."
+        );
+        let beginning =
+            "The two do not hold the same chunks and fragments: 12 shards same, 1 different,";
+        let different = Summary {
+            different: 1,
+            ..same()
+        };
+        assert!(of_mesh(different).starts_with(beginning));
         assert_eq!(
             sentence(Summary {
                 same: 10,

@@ -95,7 +95,8 @@ fn next(folder: &str) -> String {
   coronagamba check {folder}/damaged --card {folder}/deposit.card
   coronagamba get {folder}/copy-b --cell 1,2,1 --card {folder}/deposit.card
   coronagamba check {folder}/murmur --info {folder}/info --scale 1
-  coronagamba manifest show {folder}/mesh.manifest"
+  coronagamba manifest show {folder}/mesh.manifest
+  coronagamba list {folder}/mesh-a/0.shard --card {folder}/mesh.card"
     )
 }
 

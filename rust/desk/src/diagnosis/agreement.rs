@@ -7,7 +7,7 @@ use std::collections::BTreeSet;
 use compare::sides::{sharding, volume};
 use coronagamba::{Card, Cell, Manifest, Refusal, Shard};
 use testkit::shards::{self, Sample};
-use testkit::{infos, manifests, places, Rng};
+use testkit::{cards, infos, manifests, meshes, places, Rng};
 
 use super::*;
 
@@ -77,6 +77,52 @@ fn of_shards() {
     explained.assert_exactly([1].into_iter().chain(5..=12));
 }
 
+#[test]
+fn of_mesh_shards() {
+    let mut rng = Rng::new(1_106);
+    let mut explained = Explained::default();
+    for _ in 0..20_000 {
+        let sample = meshes::any(&mut rng);
+        let (sharding, number) = (sharding(&sample.sharding), sample.number);
+        let shard = Shard::open(sharding, number, &sample.file);
+        let explain = |refusal| of_shard(&sharding, number, &sample.file, refusal);
+        let checked = explained.note(shard.check(), explain);
+        let settled = explained.note(shard.settled_length(), explain);
+        assert_eq!(checked, settled);
+        let (id, level, node) = meshes::question(&mut rng, &sample);
+        explained.note(shard.lookup(id), |refusal| {
+            of_lookup(&sharding, number, &sample.file, id, refusal)
+        });
+        explained.note(shard.lookup_fragment(id, level, node), |refusal| {
+            of_fragment(&sharding, number, &sample.file, (id, level, node), refusal)
+        });
+        let minishard = places::minishard_number(&mut rng, &sample.sharding);
+        explained.note(shard.listed_count(minishard), |refusal| {
+            of_listing(&sharding, number, &sample.file, minishard, refusal)
+        });
+    }
+    let numbers = [1].into_iter().chain(5..=12).chain(15..=18).chain([21]);
+    explained.assert_exactly(numbers);
+}
+
+/// Settled forms of meshes, just below and just above what a shard may have.
+#[test]
+fn of_mesh_forms_that_are_too_long() {
+    let mut rng = Rng::new(1_107);
+    let mut explained = Explained::default();
+    for _ in 0..10 {
+        let sample = meshes::brimming(&mut rng);
+        let (sharding, number) = (sharding(&sample.sharding), sample.number);
+        let shard = Shard::open(sharding, number, &sample.file);
+        let told = explained.note(shard.settled_length(), |refusal| {
+            of_shard(&sharding, number, &sample.file, refusal)
+        });
+        let expected = "a settled form of 1073741825 bytes";
+        assert!(told.is_none_or(|told| told.found == expected));
+    }
+    explained.assert_exactly([13]);
+}
+
 /// The bytes of a card of any meaning, allowed or not.
 fn card(rng: &mut Rng) -> Vec<u8> {
     let sharding = places::wild_sharding(rng);
@@ -131,6 +177,8 @@ fn of_cards() {
             damage_card(&mut rng, &mut card);
         }
         explained.note(Card::read(&card), |refusal| of_card(&card, refusal));
+        let mesh = cards::damaged_mesh(&mut rng);
+        explained.note(Card::read(&mesh), |refusal| of_card(&mesh, refusal));
     }
     explained.assert_exactly([1, 2, 3, 14]);
 }

@@ -14,21 +14,25 @@ struct Field {
     length: u16,
 }
 
-/// The fields of a card in their order (scope, 'Deposit card').
-const FIELDS: [Field; 7] = [
+/// The fields that every card has, in their order (scope, 'Deposit card').
+const FIELDS: [Field; 6] = [
     field(1, "preshift", 1),
     field(2, "hash", 1),
     field(3, "minishard bits", 1),
     field(4, "shard bits", 1),
     field(5, "volume size", 12),
     field(6, "chunk size", 12),
-    field(7, "voxel offset", 12),
 ];
+/// The fields that may stand behind them, in this order.
+const VOXEL_OFFSET: Field = field(7, "voxel offset", 12);
+const KIND: Field = field(8, "kind", 1);
 
 /// Bytes of tag and length before a body.
 const HEAD: usize = 3;
-/// Bytes of a card without voxel offset.
+/// Bytes of the fields that every card has.
 const SHORT: usize = 46;
+/// The body of the field that says mesh; a volume has none.
+const MESH: u8 = 1;
 /// Where the bodies of volume size, chunk size and voxel offset begin.
 const SIZE: usize = 19;
 const CHUNK: usize = 34;
@@ -36,6 +40,18 @@ const OFFSET: usize = 49;
 
 const fn field(tag: u8, name: &'static str, length: u16) -> Field {
     Field { tag, name, length }
+}
+
+impl Field {
+    /// As a complaint names it.
+    fn named(&self) -> String {
+        format!("{}, tag {}", self.name, self.tag)
+    }
+
+    /// Its bytes, with tag and length.
+    fn bytes(&self) -> usize {
+        HEAD + usize::from(self.length)
+    }
 }
 
 /// A refusal of a card: 14, 1, 2 or 3.
@@ -57,38 +73,52 @@ fn byte(place: usize, what: &str) -> Place {
 fn malformed(bytes: &[u8]) -> Option<Diagnosis> {
     let mut place = 0;
     for field in &FIELDS {
-        if field.tag == 7 && bytes.len() == place {
-            return None;
-        }
         if let Some(told) = bad_field(bytes, place, field) {
             return Some(told);
         }
-        place += HEAD + usize::from(field.length);
+        place += field.bytes();
     }
-    if bytes.len() > place {
-        return Some(Diagnosis::new(
-            format!(
-                "{} behind the last field",
-                counted((bytes.len() - place) as u64, "byte")
-            ),
-            "a card of 46 bytes, or of 61 with a voxel offset",
+    let mut open = vec![&VOXEL_OFFSET, &KIND];
+    while let Some(tag) = bytes.get(place) {
+        let Some(at) = open.iter().position(|field| field.tag == *tag) else {
+            return Some(bad_end(bytes, place, &open));
+        };
+        if let Some(told) = bad_field(bytes, place, open[at]) {
+            return Some(told);
+        }
+        place += open[at].bytes();
+        // Tags rise, each once.
+        open.drain(..=at);
+    }
+    zero_offset(bytes).or_else(|| no_mesh(bytes))
+}
+
+/// What is wrong with a byte behind which only these fields may follow.
+fn bad_end(bytes: &[u8], place: usize, open: &[&Field]) -> Diagnosis {
+    let names: Vec<String> = open.iter().map(|field| field.named()).collect();
+    if names.is_empty() {
+        let more = (bytes.len() - place) as u64;
+        return Diagnosis::new(
+            format!("{} behind the last field", counted(more, "byte")),
+            "a card of 46 bytes, of 61 with a voxel offset, and of 4 more for a mesh",
             byte(place, "the first byte too many"),
-        ));
+        );
     }
-    zero_offset(bytes)
+    Diagnosis::new(
+        format!("tag {}", bytes[place]),
+        format!("{}, or the end of the card", names.join(", or ")),
+        byte(place, "a field's tag"),
+    )
 }
 
 /// What is wrong with the field that should begin here.
 fn bad_field(bytes: &[u8], place: usize, field: &Field) -> Option<Diagnosis> {
-    let name = format!("{}, tag {}", field.name, field.tag);
+    let name = field.named();
     let rest = bytes.get(place..)?;
     let cut = || {
         Diagnosis::new(
             format!("the card ends at byte {}", bytes.len()),
-            format!(
-                "{name}: {} bytes from byte {place} on",
-                HEAD + usize::from(field.length)
-            ),
+            format!("{name}: {} bytes from byte {place} on", field.bytes()),
             "the card's length: was it cut short?",
         )
     };
@@ -96,13 +126,9 @@ fn bad_field(bytes: &[u8], place: usize, field: &Field) -> Option<Diagnosis> {
         return Some(cut());
     };
     if *tag != field.tag {
-        let expected = match field.tag {
-            7 => format!("{name}, or the end of the card"),
-            _ => name,
-        };
         return Some(Diagnosis::new(
             format!("tag {tag}"),
-            expected,
+            name,
             byte(place, "a field's tag"),
         ));
     }
@@ -119,6 +145,25 @@ fn bad_field(bytes: &[u8], place: usize, field: &Field) -> Option<Diagnosis> {
     }
     let whole = rest.len() >= HEAD + usize::from(length);
     (!whole).then(cut)
+}
+
+/// A kind other than mesh, of a card whose fields are whole.
+fn no_mesh(bytes: &[u8]) -> Option<Diagnosis> {
+    let place = bytes.len().checked_sub(1)?;
+    let kind = *bytes.last().filter(|_| has_kind(bytes))?;
+    (kind != MESH).then(|| {
+        Diagnosis::new(
+            format!("kind {kind}"),
+            "kind 1, a mesh: a card without tag 8 means a volume, and one meaning has one card",
+            byte(place, "kind"),
+        )
+    })
+}
+
+/// Whether a card whose fields are whole has the last one.
+fn has_kind(bytes: &[u8]) -> bool {
+    let without = [SHORT, SHORT + VOXEL_OFFSET.bytes()];
+    without.contains(&(bytes.len().wrapping_sub(KIND.bytes())))
 }
 
 /// An offset of 0,0,0 that is written out.
@@ -180,6 +225,7 @@ fn sharding(bytes: &[u8]) -> Option<Sharding> {
         hash: *bytes.get(7)?,
         minishard_bits: *bytes.get(11)?,
         shard_bits: *bytes.get(15)?,
+        kind: u8::from(has_kind(bytes)),
     })
 }
 
@@ -228,10 +274,42 @@ mod tests {
         card
     }
 
+    /// A card with the last field, of this kind.
+    fn with_kind(card: Vec<u8>, kind: u8) -> Vec<u8> {
+        [&card[..], &[8, 1, 0, kind]].concat()
+    }
+
     #[test]
     fn the_sound_cards_are_sound() {
-        assert!(Card::read(&sound()).is_ok());
-        assert!(Card::read(&with_offset(-64)).is_ok());
+        for card in [sound(), with_offset(-64)] {
+            assert!(Card::read(&card).is_ok());
+            let mesh = with_kind(card, 1);
+            let read = Card::read(&mesh).expect("a mesh card");
+            assert_eq!(Some(read.sharding), sharding(&mesh));
+        }
+    }
+
+    #[test]
+    fn kinds() {
+        for (card, place) in [(sound(), 46), (with_offset(-64), 61)] {
+            let volume = told(&with_kind(card.clone(), 0), 14);
+            assert_eq!(volume.found, "kind 0");
+            let at = format!("byte {} of the card (kind)", place + 3);
+            assert_eq!(volume.look_at, at);
+            let cut = told(&with_kind(card.clone(), 1)[..place + 2], 14);
+            assert_eq!(
+                cut.expected,
+                format!("kind, tag 8: 4 bytes from byte {place} on")
+            );
+            let twice = told(&with_kind(with_kind(card.clone(), 1), 1), 14);
+            assert_eq!(twice.found, "4 bytes behind the last field");
+            let long = told(&[&card[..], &[8, 2, 0, 1, 1]].concat(), 14);
+            assert_eq!(long.found, "length 2 for kind, tag 8");
+        }
+        // An offset behind the kind.
+        let offset = with_offset(-64)[46..].to_vec();
+        let turned = told(&[with_kind(sound(), 1), offset].concat(), 14);
+        assert_eq!(turned.found, "15 bytes behind the last field");
     }
 
     #[test]
@@ -276,14 +354,25 @@ mod tests {
         assert_eq!(told(&card, 14).found, "tag 9");
         assert_eq!(
             told(&card, 14).expected,
-            "voxel offset, tag 7, or the end of the card"
+            "voxel offset, tag 7, or kind, tag 8, or the end of the card"
         );
         let mut card = with_offset(5);
+        card.extend([0, 0]);
+        assert_eq!(told(&card, 14).found, "tag 0");
+        assert_eq!(
+            told(&card, 14).expected,
+            "kind, tag 8, or the end of the card"
+        );
+        assert_eq!(
+            told(&card, 14).look_at,
+            "byte 61 of the card (a field's tag)"
+        );
+        let mut card = with_kind(sound(), 1);
         card.extend([0, 0]);
         assert_eq!(told(&card, 14).found, "2 bytes behind the last field");
         assert_eq!(
             told(&card, 14).look_at,
-            "byte 61 of the card (the first byte too many)"
+            "byte 50 of the card (the first byte too many)"
         );
     }
 

@@ -546,6 +546,7 @@ impl Text<'_> {
                     hash,
                     minishard_bits: minishard_bits?,
                     shard_bits: shard_bits?,
+                    kind: Sharding::VOLUME,
                 });
                 let at: Vec<usize> = bad
                     .iter()

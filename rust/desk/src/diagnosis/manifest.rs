@@ -32,6 +32,11 @@ pub fn of_manifest(bytes: &[u8], refusal: Refusal) -> Diagnosis {
     told.unwrap_or_else(Diagnosis::not_found_again)
 }
 
+/// Refusal 18 of a level or node that a sound manifest does not have.
+pub fn of_no_node(bytes: &[u8], level: u64, node: u64) -> Option<Diagnosis> {
+    Seen { bytes }.no_node(level, node)
+}
+
 /// A refusal of a node or of its corners: 15 to 18.
 pub fn of_node(bytes: &[u8], level: u64, node: u64, refusal: Refusal) -> Diagnosis {
     if refusal.number != 18 {

@@ -12,7 +12,7 @@ pub(super) const MOST_MINISHARD_BITS: u8 = 16;
 
 /// A field of the sharding that is not allowed.
 pub(super) struct BadField {
-    /// Its place among the four.
+    /// Its place among the five.
     pub place: usize,
     found: String,
     expected: &'static str,
@@ -40,6 +40,12 @@ pub(super) fn bad_fields(sharding: &Sharding) -> Vec<BadField> {
             32,
             "shard bits at most 32",
         ),
+        (
+            "kind number",
+            sharding.kind,
+            1,
+            "kind volume (0) or mesh (1)",
+        ),
     ];
     let bad = fields
         .iter()
@@ -55,7 +61,13 @@ pub(super) fn bad_fields(sharding: &Sharding) -> Vec<BadField> {
 
 /// Refusal 1, of settings.
 pub fn of_sharding(sharding: &Sharding) -> Diagnosis {
-    const OPTIONS: [&str; 4] = ["--preshift", "--hash", "--minishard-bits", "--shard-bits"];
+    const OPTIONS: [&str; 5] = [
+        "--preshift",
+        "--hash",
+        "--minishard-bits",
+        "--shard-bits",
+        "--kind",
+    ];
     let bad = bad_fields(sharding);
     let options: Vec<&str> = bad.iter().map(|field| OPTIONS[field.place]).collect();
     told_fields(&bad, format!("the settings, {}", options.join(", ")))
@@ -256,6 +268,7 @@ mod tests {
             hash,
             minishard_bits,
             shard_bits,
+            kind: Sharding::MESH,
         };
         let told = of_sharding(&sharding(64, 0, 16, 33));
         assert_eq!(told.found, "preshift 64, shard bits 33");
@@ -264,6 +277,12 @@ mod tests {
         let told = of_sharding(&sharding(63, 2, 17, 32));
         assert_eq!(told.found, "hash number 2, minishard bits 17");
         assert!(bad_fields(&sharding(63, 1, 16, 32)).is_empty());
+        let told = of_sharding(&Sharding {
+            kind: 2,
+            ..sharding(63, 1, 16, 32)
+        });
+        assert_eq!(told.found, "kind number 2");
+        assert_eq!(told.look_at, "the settings, --kind");
     }
 
     #[test]
@@ -316,6 +335,7 @@ mod tests {
             hash: Sharding::IDENTITY,
             minishard_bits: 0,
             shard_bits: 32,
+            kind: Sharding::VOLUME,
         };
         let told = of_shard_number(&sharding, 1 << 32);
         assert_eq!(told.found, "shard number 4294967296");

@@ -1,11 +1,15 @@
-//! Refusals of a shard: 5 to 13. Where a fault stands is what the library says;
-//! here the numbers at that place are read and put into words.
+//! Refusals of a shard: 5 to 13, and of a mesh 15 to 18 and 21. Where a fault
+//! stands is what the library says; here the numbers at that place are read and
+//! put into words.
 
-use coronagamba::{Refusal, Shard, Sharding};
+use coronagamba::{Manifest, Refusal, Shard, Sharding};
 
+use super::manifest::{of_manifest, of_no_node};
 use super::places::MOST_MINISHARD_BITS;
 use super::{of_shard_number, of_sharding, u64_at, Diagnosis, Place};
+use crate::fragments::length_of;
 use crate::report::counted;
+use crate::settings::is_mesh;
 
 /// The most bytes of a shard and of a settled form.
 const MOST_BYTES: u64 = 1 << 30;
@@ -22,7 +26,13 @@ struct Seen<'a> {
     file: &'a [u8],
 }
 
-/// A refusal of the whole-shard check or of settling: 1, 5 to 11, 13.
+/// Whether a number is that of a fault in a minishard, which has a position.
+fn is_fault(number: u8) -> bool {
+    matches!(number, 7..=11 | 15..=17 | 21)
+}
+
+/// A refusal of the whole-shard check or of settling: 1, 5 to 11, 13, 15 to 17,
+/// 21.
 pub fn of_shard(sharding: &Sharding, number: u64, file: &[u8], refusal: Refusal) -> Diagnosis {
     let seen = Seen {
         sharding,
@@ -33,13 +43,13 @@ pub fn of_shard(sharding: &Sharding, number: u64, file: &[u8], refusal: Refusal)
         1 => of_sharding(sharding),
         5 => of_shard_number(sharding, number),
         6 => seen.length(),
-        7..=11 => told(seen.first_fault(refusal)),
+        number if is_fault(number) => told(seen.first_fault(refusal)),
         13 => told(seen.settled_length()),
         _ => Diagnosis::not_found_again(),
     }
 }
 
-/// A refusal of one minishard's listing: 1, 5 to 11.
+/// A refusal of one minishard's listing: 1, 5 to 11, 15 to 17, 21.
 pub fn of_listing(
     sharding: &Sharding,
     number: u64,
@@ -54,12 +64,12 @@ pub fn of_listing(
     };
     match refusal.number {
         5 if minishard >= seen.minishards() => seen.no_minishard(minishard),
-        7..=11 => told(seen.fault(minishard, refusal)),
+        number if is_fault(number) => told(seen.fault(minishard, refusal)),
         _ => of_shard(sharding, number, file, refusal),
     }
 }
 
-/// A refusal of a lookup: 1, 5 to 12.
+/// A refusal of a lookup: 1, 5 to 12, 15 to 17, 21.
 pub fn of_lookup(
     sharding: &Sharding,
     number: u64,
@@ -77,10 +87,29 @@ pub fn of_lookup(
     };
     match refusal.number {
         5 if sharding.shard_name(number).is_ok() => seen.other_shard(id),
-        7..=11 => told(seen.fault(place.minishard, refusal)),
         12 => told(seen.not_listed(id, place.minishard)),
+        number if is_fault(number) => told(seen.fault(place.minishard, refusal)),
         _ => of_shard(sharding, number, file, refusal),
     }
+}
+
+/// A refusal of the fragment of a node: as of a lookup, and 18.
+pub fn of_fragment(
+    sharding: &Sharding,
+    number: u64,
+    file: &[u8],
+    (id, level, node): (u64, u64, u64),
+    refusal: Refusal,
+) -> Diagnosis {
+    if refusal.number != 18 {
+        return of_lookup(sharding, number, file, id, refusal);
+    }
+    let seen = Seen {
+        sharding,
+        number,
+        file,
+    };
+    told(seen.no_fragment(id, level, node))
 }
 
 /// A diagnosis, or that none was found.
@@ -178,6 +207,8 @@ impl Seen<'_> {
             9 => self.repeated_id(minishard, position),
             10 => self.bad_place(minishard, position),
             11 => self.bad_end(minishard, position),
+            15..=17 => self.bad_manifest(minishard, position, refusal),
+            21 => self.no_room(minishard, position),
             _ => None,
         }
     }
@@ -308,6 +339,81 @@ impl Seen<'_> {
         Some(told.of_entry(entry, id))
     }
 
+    /// What the entry of a manifest tells whose start step is at this byte.
+    fn listed(&self, minishard: u64, position: u64) -> Option<Listed<'_>> {
+        let rows = self.rows(minishard)?;
+        let entry = rows.entry(START_STEPS, position)?;
+        let size_at = rows.place(SIZES, entry);
+        let start = self.index_length().checked_add(rows.start(entry))?;
+        let end = start.checked_add(u64_at(self.file, size_at)?)?;
+        let place = |byte| usize::try_from(byte).ok();
+        let words = format!("start steps of minishard {minishard}; the size is at byte {size_at}");
+        Some(Listed {
+            entry,
+            id: rows.id(entry)?,
+            start,
+            bytes: self.file.get(place(start)?..place(end)?)?,
+            place: byte(position, &words),
+        })
+    }
+
+    /// Refusal 15, 16 or 17 of a listed manifest: what is wrong with it by
+    /// itself, and where that is in the file.
+    fn bad_manifest(&self, minishard: u64, position: u64, refusal: Refusal) -> Option<Diagnosis> {
+        let listed = self.listed(minishard, position)?;
+        let inner = of_manifest(listed.bytes, refusal);
+        let (entry, id) = (listed.entry, listed.id);
+        let told = Diagnosis::new(
+            format!("entry {entry}, id {id}: {}", inner.found),
+            inner.expected.clone(),
+            listed.place.and(in_manifest(listed.start, &inner)),
+        );
+        Some(told.of_entry(entry, id))
+    }
+
+    /// Refusal 21.
+    fn no_room(&self, minishard: u64, position: u64) -> Option<Diagnosis> {
+        let listed = self.listed(minishard, position)?;
+        let fragments = length_of(&Manifest::open(listed.bytes))?;
+        let (base, start) = (self.index_length(), listed.start);
+        let room = start - base;
+        let told = Diagnosis::new(
+            format!(
+                "entry {}, id {}: its manifest starts at byte {start}, {} behind the shard index, \
+                 and its fragments, right before it, have {} together",
+                listed.entry,
+                listed.id,
+                counted(room, "byte"),
+                counted(fragments, "byte")
+            ),
+            format!("fragments of at most {}", counted(room, "byte")),
+            listed.place.and("; and the fragment sizes in the manifest"),
+        );
+        Some(told.of_entry(listed.entry, listed.id))
+    }
+
+    /// Refusal 18 of a fragment: a volume has none, or the manifest has no such
+    /// node.
+    fn no_fragment(&self, id: u64, level: u64, node: u64) -> Option<Diagnosis> {
+        if !is_mesh(self.sharding) {
+            return Some(Diagnosis::new(
+                "the settings of a volume, whose chunks have no fragments",
+                "those of a mesh",
+                "the settings: a card that says mesh, or --kind mesh",
+            ));
+        }
+        let shard = Shard::open(*self.sharding, self.number, self.file);
+        let start = shard.lookup(id).ok()?.start;
+        let inner = of_no_node(shard.chunk(id).ok()?, level, node)?;
+        let place = Place::byte(start, "the file", "the manifest");
+        let look_at = place.and(in_manifest(start, &inner));
+        Some(Diagnosis::new(
+            format!("id {id}: {}", inner.found),
+            inner.expected,
+            look_at,
+        ))
+    }
+
     /// Refusal 12.
     fn not_listed(&self, id: u64, minishard: u64) -> Option<Diagnosis> {
         let (start, end) = self.entry(ENTRY * minishard)?;
@@ -351,12 +457,51 @@ impl Seen<'_> {
             let rows = self.rows(minishard)?;
             total += rows.bytes.len() as u128;
             total += rows.numbers(SIZES).map(u128::from).sum::<u128>();
+            if is_mesh(self.sharding) {
+                total += u128::from(self.fragments(minishard)?);
+            }
         }
+        let look_at = match is_mesh(self.sharding) {
+            false => "chunks that share bytes: a settled form writes each chunk's bytes out by themselves",
+            true => {
+                "chunks and fragments that share bytes: a settled form writes those of each \
+                 manifest out by themselves"
+            }
+        };
         Some(Diagnosis::new(
             format!("a settled form of {total} bytes"),
             format!("at most {MOST_BYTES} bytes"),
-            "chunks that share bytes: a settled form writes each chunk's bytes out by themselves",
+            look_at,
         ))
+    }
+
+    /// How many bytes the fragments of a sound mesh minishard have together.
+    fn fragments(&self, minishard: u64) -> Option<u64> {
+        let shard = Shard::open(*self.sharding, self.number, self.file);
+        let lengths = shard.listing(minishard).ok()?.into_iter().map(|listed| {
+            let (start, length) = (listed.span.start as usize, listed.span.length as usize);
+            length_of(&Manifest::open(&self.file[start..][..length]))
+        });
+        lengths.sum()
+    }
+}
+
+/// A manifest as its entry lists it.
+struct Listed<'a> {
+    entry: u64,
+    id: u64,
+    /// Where it starts in the file.
+    start: u64,
+    bytes: &'a [u8],
+    /// Where the entry's start step is.
+    place: Place,
+}
+
+/// Where something of a manifest is in the file, in words behind others.
+fn in_manifest(start: u64, inner: &Diagnosis) -> String {
+    match inner.byte {
+        Some(byte) => format!("; byte {} of the file is {}", start + byte, inner.look_at),
+        None => format!("; the manifest begins at byte {start}; {}", inner.look_at),
     }
 }
 
@@ -425,6 +570,7 @@ mod tests {
         hash: 0,
         minishard_bits: 1,
         shard_bits: 0,
+        kind: Sharding::VOLUME,
     };
 
     /// The scope's case: ids 4 and 10 with bytes `ab` and `cde`, settled. The
@@ -482,7 +628,7 @@ mod tests {
     /// A fault without a place is not explained, and no place is made up.
     #[test]
     fn no_place_no_explanation() {
-        for number in 7..=11 {
+        for number in (0..=255).filter(|number| is_fault(*number)) {
             let refusal = Refusal {
                 number,
                 minishard: Some(0),

@@ -8,12 +8,12 @@ use super::Explained;
 pub const TABLE: &[Explained] = &[
     Explained {
         number: 1,
-        given: "preshift above 63, hash neither identity nor murmur, minishard bits above 16, or \
-         shard bits above 32",
+        given: "preshift above 63, hash neither identity nor murmur, minishard bits above 16, \
+         shard bits above 32, or a kind that is neither volume nor mesh",
         cause: "A mistyped option, a card that was made for another format, or an info file with \
          a hash that this archive does not know.",
         remedy: "Make the card again from the deposit's info file, with 'card make --info', or \
-         take the four values from the deposit's own papers.",
+         take the values from the deposit's own papers.",
     },
     Explained {
         number: 2,
@@ -101,8 +101,8 @@ pub const TABLE: &[Explained] = &[
     Explained {
         number: 12,
         given: "the id is not listed",
-        cause: "The volume has no data in this cell: writers leave empty chunks out. Or the id \
-         comes from another deposit.",
+        cause: "The volume has no data in this cell: writers leave empty chunks out. In a mesh, \
+         the net has no shape. Or the id comes from another deposit.",
         remedy: "This is an answer, not damage: the chunk is absent and its minishard is sound. \
          'list' shows what is there.",
     },
@@ -110,7 +110,8 @@ pub const TABLE: &[Explained] = &[
         number: 13,
         given: "the output is too short for the whole answer, or a settled form would exceed \
          1,073,741,824 bytes",
-        cause: "A shard whose chunks share bytes: written out one by one they pass 1 GiB.",
+        cause: "A shard whose chunks share bytes, or in a mesh their fragments: written out one \
+         by one they pass 1 GiB.",
         remedy: "Keep the shard as it is. It is sound, but it has no settled form that a shard \
          may have; a deposit with more shard bits would.",
     },
@@ -123,36 +124,44 @@ pub const TABLE: &[Explained] = &[
     },
     Explained {
         number: 15,
-        given: "the manifest's length or level count is wrong",
+        given: "the manifest's length or level count is wrong; in a mesh shard, that of a listed \
+         manifest",
         cause: "The file is no manifest of this kind, it was cut short, or it holds the \
-         fragments too.",
-        remedy: "Compare the file's length with the source and copy it again.",
+         fragments too. In a shard: bytes damaged in a minishard index or in the manifest, \
+         or a volume that was opened as a mesh.",
+        remedy: "Compare the file's length with the source and copy it again. If all shards of a \
+         deposit are refused in this way, suspect the kind in the settings.",
     },
     Explained {
         number: 16,
-        given: "a manifest real is not finite, or a chunk shape is not above zero",
+        given: "a manifest real is not finite, or a chunk shape is not above zero; in a mesh \
+         shard, of a listed manifest",
         cause: "Damaged bytes, or a writer that divided by zero.",
-        remedy: "Look for a sound copy with 'manifest check'. If the fault is in the source, its \
-         writer must repair it.",
+        remedy: "Look for a sound copy with 'manifest check', or of a shard with 'check'. If the \
+         fault is in the source, its writer must repair it.",
     },
     Explained {
         number: 17,
-        given: "a level's nodes are not in strictly rising Z-curve order",
+        given: "a level's nodes are not in strictly rising Z-curve order; in a mesh shard, of a \
+         listed manifest",
         cause: "A writer that sorted by x, y, z, or listed a node twice; or damaged bytes.",
-        remedy: "Look for a sound copy with 'manifest check'. If the fault is in the source, its \
-         writer must repair it.",
+        remedy: "Look for a sound copy with 'manifest check', or of a shard with 'check'. If the \
+         fault is in the source, its writer must repair it.",
     },
     Explained {
         number: 18,
         given: "no such level, node or field; or, where corners are asked for, that node has a \
-         position of 2^24 or more or either corner is not finite",
+         position of 2^24 or more or either corner is not finite; or, where a fragment is \
+         asked for, the shard is of a volume",
         cause: "A level or node number beyond the last one; they count from 0. Where only the \
          corners are missing: a position that a 32-bit real may not hold exactly, or a \
          chunk shape or grid origin so large that a corner passes the greatest real, from \
-         a writer or from damaged bytes.",
-        remedy: "'manifest show' tells how many levels and nodes there are. A node without \
-         corners has its position and its fragment all the same; compare its position, \
-         the chunk shape and the grid origin with the source.",
+         a writer or from damaged bytes. Where a shard's fragment is asked for: a mesh \
+         that was opened as a volume.",
+        remedy: "'manifest show' tells how many levels and nodes there are, in a shard 'list \
+         --fragments'. A node without corners has its position and its fragment all the \
+         same; compare its position, the chunk shape and the grid origin with the source. \
+         A mesh needs a card that says so, or '--kind mesh'.",
     },
     Explained {
         number: 19,
@@ -174,5 +183,17 @@ pub const TABLE: &[Explained] = &[
          compressed with gzip, which this archive does not hold.",
         remedy: "Look at the line and column that the desk tool tells, and at the scale's \
          number. A deposit whose encoding is not raw must be written anew by its maker.",
+    },
+    Explained {
+        number: 21,
+        given: "in a mesh shard, the fragments of a listed manifest would start before the index \
+         end: the sum of its sizes, taken exactly, exceeds its start relative to the index \
+         end",
+        cause: "Fragments that were left out when the shard was copied or settled as a volume, \
+         bytes damaged in a minishard index or in the manifest's sizes, or manifests of a \
+         writer that keeps fragments elsewhere.",
+        remedy: "Look for a copy that has its fragments with 'check'. If the fault is in the \
+         source, its writer must write the shard again, each manifest right behind its \
+         fragments.",
     },
 ];

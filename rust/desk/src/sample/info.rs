@@ -27,6 +27,7 @@ fn scale(key: &str, sharding: &Sharding) -> String {
         hash,
         minishard_bits,
         shard_bits,
+        kind: _,
     } = sharding;
     let hash = match *hash {
         Sharding::IDENTITY => "identity",

@@ -1,8 +1,7 @@
 //! Writes shards in a layout of their own. The library writes settled forms
 //! only, and the sample needs a second copy that differs in its index bytes.
 
-use super::volume::Chunk;
-use super::Shards;
+use super::{Chunk, Shards};
 use coronagamba::{Refusal, Sharding};
 use std::collections::BTreeMap;
 
@@ -60,6 +59,7 @@ fn file(minishards: &[Minishard], order: Order) -> Vec<u8> {
         entries[number] = [start, data.len() as u64];
         for chunk in chunks {
             data.extend(FILLER);
+            data.extend(&chunk.lead);
             data.extend(&chunk.bytes);
         }
     }
@@ -72,12 +72,13 @@ fn file(minishards: &[Minishard], order: Order) -> Vec<u8> {
 type Listed = [u64; 3];
 
 /// The minishard index that starts at `start`, its chunks behind it by rising
-/// id, each after some filler.
+/// id, each after some filler and its lead.
 fn index(chunks: &[&Chunk], start: u64, order: Order) -> Vec<u8> {
     let mut end = start + 24 * chunks.len() as u64;
     let mut listed = Vec::new();
     for chunk in chunks {
-        let (start, size) = (end + FILLER.len() as u64, chunk.bytes.len() as u64);
+        let before = FILLER.len() + chunk.lead.len();
+        let (start, size) = (end + before as u64, chunk.bytes.len() as u64);
         listed.push([chunk.id, start, size]);
         end = start + size;
     }

@@ -1,6 +1,6 @@
 //! The sample deposit: a small volume, sharded two ways, in three copies of
-//! different layout, a damaged copy and a mesh manifest. Its bytes are the
-//! same every time.
+//! different layout, a damaged copy, a mesh manifest, and a few nets in two
+//! copies. Its bytes are the same every time.
 
 mod damage;
 mod info;
@@ -18,17 +18,38 @@ const DEPOSIT: Sharding = Sharding {
     hash: 0,
     minishard_bits: 1,
     shard_bits: 3,
+    kind: Sharding::VOLUME,
 };
 
 /// The same but for the hash: what a deposit looks like that is opened under
 /// an assumed one.
 const MURMUR: Sharding = Sharding { hash: 1, ..DEPOSIT };
 
+/// The nets' sharding: 2 shards of 2 minishards.
+const MESH: Sharding = Sharding {
+    preshift: 0,
+    hash: 1,
+    minishard_bits: 1,
+    shard_bits: 1,
+    kind: Sharding::MESH,
+};
+
 /// The scales of the info file: a folder of shards and its sharding.
 const SCALES: [(&str, &Sharding); 2] = [("copy-a", &DEPOSIT), ("murmur", &MURMUR)];
 
 /// Shard files by shard number.
 type Shards = BTreeMap<u64, Vec<u8>>;
+
+/// A chunk and the id under which it is listed.
+struct Chunk {
+    /// The key of a volume's cell, the number of a mesh's net.
+    id: u64,
+    /// What stands right before it and is not listed: the fragments of a
+    /// manifest, nothing in a volume.
+    lead: Vec<u8>,
+    /// Its bytes.
+    bytes: Vec<u8>,
+}
 
 /// Something that the sample holds.
 pub struct Part {
@@ -56,6 +77,8 @@ pub fn parts() -> Result<Vec<Part>, Refusal> {
     let copy_a = settled(&DEPOSIT, &copy_b)?;
     let damaged = damaged(copy_b.clone());
     let murmur = layout::scattered(&MURMUR, &chunks, Order::Rising)?;
+    let mesh_b = layout::scattered(&MESH, &mesh::nets(), Order::Arrival)?;
+    let mesh_a = settled(&MESH, &mesh_b)?;
     let same_chunks = "the same chunks in another layout";
     let arrival = "the same chunks, listed in order of arrival";
     Ok(vec![
@@ -80,6 +103,9 @@ pub fn parts() -> Result<Vec<Part>, Refusal> {
             about: "a mesh manifest of 3 levels".to_string(),
             files: Files::One(mesh::manifest()),
         },
+        card("mesh.card", &MESH, "sharding of the nets' meshes")?,
+        folder("mesh-a", &MESH, mesh_a, "settled forms of the nets' meshes")?,
+        folder("mesh-b", &MESH, mesh_b, "the same nets in another layout")?,
     ])
 }
 

@@ -1,5 +1,6 @@
 //! What the sample deposit holds: a small volume and its chunks.
 
+use super::Chunk;
 use coronagamba::{Cell, Extents, Offset, Refusal, Volume};
 
 /// A grid of 5 by 5 by 4 cells. It begins left of the origin, and its last
@@ -21,21 +22,15 @@ pub const VOLUME: Volume = Volume {
 /// A cell whose chunk has no bytes; it is listed all the same.
 const EMPTY: Cell = Cell { x: 2, y: 2, z: 3 };
 
-/// A chunk and the id under which it is listed.
-pub struct Chunk {
-    /// The key of its cell.
-    pub id: u64,
-    /// Its bytes.
-    pub bytes: Vec<u8>,
-}
-
 /// The chunks that the deposit stores, in rising id order.
 pub fn chunks() -> Result<Vec<Chunk>, Refusal> {
     let mut chunks = Vec::new();
     for cell in cells()?.into_iter().filter(stored) {
-        let id = VOLUME.key(cell)?;
-        let bytes = bytes(cell);
-        chunks.push(Chunk { id, bytes });
+        chunks.push(Chunk {
+            id: VOLUME.key(cell)?,
+            lead: Vec::new(),
+            bytes: bytes(cell),
+        });
     }
     chunks.sort_by_key(|chunk| chunk.id);
     Ok(chunks)

@@ -29,6 +29,7 @@ const COMMANDS: [&str; 19] = [
 ];
 
 const CARD: &str = "--card demo/deposit.card";
+const MESH_CARD: &str = "--card demo/mesh.card";
 const SHARDING: &str = "--preshift 1 --hash identity --minishard-bits 1 --shard-bits 3";
 const VOLUME: &str = "--size 300,260,200 --chunk 64,64,64 --offset -64,0,0";
 
@@ -87,6 +88,10 @@ fn statuses() -> Vec<(String, i32)> {
         ("list demo/copy-a/0.shard --minishard x", 2),
         ("list demo/copy-a/8.shard", 2),
         ("list demo/copy-a", 2),
+        ("list demo/copy-a/0.shard --fragments", 2),
+        ("get demo/copy-a 21 --fragment 0,0", 1),
+        ("check demo/copy-a --kind mesh", 2),
+        ("check demo/copy-a --kind volume", 0),
         ("list nothing/0.shard", 3),
         ("locate 0,0,0 4,3,2", 0),
         ("locate 0,0,0 5,0,0", 1),
@@ -110,7 +115,55 @@ fn statuses() -> Vec<(String, i32)> {
         ("name --shard 8", 1),
         ("name", 2),
     ];
+    let with_mesh_card = [
+        ("check demo/mesh-a", 0),
+        ("check demo/mesh-b --kind mesh", 0),
+        ("check demo/mesh-b --kind volume", 2),
+        ("check demo/mesh-b --kind net", 2),
+        ("check demo/mesh-b --kind", 2),
+        ("check demo/copy-a/0.shard", 1),
+        ("settle demo/mesh-b --out nets", 0),
+        ("settle demo/mesh-b/0.shard --out net", 0),
+        ("same demo/mesh-a demo/mesh-b", 0),
+        ("same demo/mesh-a nets", 0),
+        ("get demo/mesh-a 17", 0),
+        ("get demo/mesh-b 17 --fragment 0,1", 0),
+        ("get demo/mesh-b 17 --fragment 0x0,0x1", 0),
+        ("get demo/mesh-b 17 --fragment 0,2", 1),
+        ("get demo/mesh-b 17 --fragment 2,0", 1),
+        ("get demo/mesh-b 18 --fragment 0,0", 1),
+        ("get demo/mesh-b 17 --fragment 0", 2),
+        ("get demo/mesh-b 17 --fragment 0,0,0", 2),
+        ("get demo/mesh-b 17 --fragment -1,0", 2),
+        ("get demo/mesh-b --cell 0,0,0", 2),
+        ("get demo/mesh-b --cell 0,0,0 --fragment 0,0", 2),
+        ("list demo/mesh-a/0.shard", 0),
+        (
+            "list demo/mesh-a/0.shard demo/mesh-a/1.shard --fragments",
+            0,
+        ),
+        ("list demo/mesh-a/0.shard --fragments=1", 2),
+        ("locate 0,0,0", 2),
+        ("cover 0,0,0 1,1,1", 2),
+        ("cell 21", 0),
+        ("name 0,0,0", 0),
+        ("name --shard 1", 0),
+    ];
     let plain = [
+        (
+            "check demo/mesh-a --info demo/info --scale 0 --kind mesh",
+            1,
+        ),
+        ("card show demo/mesh.card", 0),
+        ("card check demo/mesh.card", 0),
+        (
+            "card make --info demo/info --scale 0 --kind mesh --out info-mesh.card",
+            0,
+        ),
+        (
+            "card make --info demo/info --scale 0 --kind x --out x.card",
+            2,
+        ),
         ("locate 0,0,0 --card nothing", 3),
         ("card show demo/deposit.card", 0),
         ("card show demo/mesh.manifest", 1),
@@ -188,7 +241,7 @@ fn statuses() -> Vec<(String, i32)> {
         ("manifest", 2),
         ("explain", 0),
         ("explain 9", 0),
-        ("explain 20", 0),
+        ("explain 21", 0),
         ("explain 0", 2),
         ("explain 200", 2),
         ("explain 99", 2),
@@ -206,6 +259,7 @@ fn statuses() -> Vec<(String, i32)> {
     ];
     let mut all: Vec<(String, i32)> = Vec::new();
     all.extend(with_card.map(|(line, status)| (format!("{line} {CARD}"), status)));
+    all.extend(with_mesh_card.map(|(line, status)| (format!("{line} {MESH_CARD}"), status)));
     all.extend(plain.map(|(line, status)| (line.to_string(), status)));
     let make = format!("card make --out made.card {SHARDING} {VOLUME}");
     all.push((make.clone(), 0));
@@ -237,8 +291,11 @@ fn exit_statuses() {
             "by-info",
             "demo",
             "fresh",
+            "info-mesh.card",
             "info.card",
             "made.card",
+            "net",
+            "nets",
             "one",
             "some"
         ]
@@ -474,8 +531,17 @@ fn json_lines_are_json_objects() {
         ("name --shard 5", 0),
         ("check nothing/0.shard", 3),
     ];
+    let with_mesh_card = [
+        ("check demo/mesh-a demo/mesh-b", 0),
+        ("check demo/copy-a", 1),
+        ("settle demo/mesh-b --out nets", 0),
+        ("same demo/mesh-a demo/mesh-b", 0),
+        ("list demo/mesh-a/0.shard", 0),
+        ("list demo/mesh-a/0.shard --fragments", 0),
+    ];
     let plain = [
         ("card show demo/deposit.card", 0),
+        ("card show demo/mesh.card", 0),
         ("card check demo/deposit.card demo/mesh.manifest", 1),
         ("manifest show demo/mesh.manifest", 0),
         ("manifest show demo/mesh.manifest --nodes", 0),
@@ -486,8 +552,11 @@ fn json_lines_are_json_objects() {
         ("explain 12", 0),
     ];
     let with_card = with_card.map(|(line, status)| (format!("{line} {CARD} --json"), status));
+    let with_mesh_card =
+        with_mesh_card.map(|(line, status)| (format!("{line} {MESH_CARD} --json"), status));
     let plain = plain.map(|(line, status)| (format!("{line} --json"), status));
-    for (line, status) in with_card.into_iter().chain(plain) {
+    let all = with_card.into_iter().chain(with_mesh_card).chain(plain);
+    for (line, status) in all {
         let run = folder.run_line(&line);
         run.expect_status(status);
         assert!(!run.lines().is_empty(), "{run}");

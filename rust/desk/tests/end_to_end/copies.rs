@@ -27,6 +27,7 @@ fn sharding() -> Sharding {
         hash: 0,
         minishard_bits: 1,
         shard_bits: 3,
+        kind: 0,
     }
 }
 

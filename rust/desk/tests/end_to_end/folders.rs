@@ -16,6 +16,7 @@ const SHARDING: Sharding = Sharding {
     hash: 0,
     minishard_bits: 2,
     shard_bits: 8,
+    kind: 0,
 };
 
 /// Shard files by number.

@@ -8,6 +8,7 @@ mod copies;
 mod folders;
 mod json;
 mod memory;
+mod meshes;
 mod minishards;
 mod nothing_lost;
 mod odd_files;

@@ -13,6 +13,7 @@ const SHARDING: Sharding = Sharding {
     hash: 0,
     minishard_bits: 0,
     shard_bits: 0,
+    kind: 0,
 };
 
 /// A shard file of one chunk of this many bytes, most of them a hole.
@@ -70,6 +71,46 @@ fn the_file_its_output_and_64_mib_are_enough() {
         );
     }
     assert_eq!(folder.names("."), ["0.shard", "chunk", "settled"]);
+}
+
+/// A mesh shard of one manifest, the longest one that is allowed: its nodes lie
+/// along x, each with a fragment of one byte.
+fn write_mesh(folder: &Folder, name: &str) -> u64 {
+    let nodes = ((1 << 24) - 28 - 20) / 16u32;
+    let one = 1f32.to_bits();
+    let mut items = vec![one, one, one, 0, 0, 0, 1, 0, 0, 0, 0, nodes];
+    items.extend(0..nodes);
+    items.resize(items.len() + 2 * nodes as usize, 0);
+    items.resize(items.len() + nodes as usize, 1);
+    let manifest: Vec<u8> = items.into_iter().flat_map(u32::to_le_bytes).collect();
+    assert_eq!(manifest.len(), 1 << 24);
+    let (lead, end) = (u64::from(nodes), u64::from(nodes) + (1 << 24));
+    let mut file = [end, end + 24].map(u64::to_le_bytes).concat();
+    file.resize(file.len() + nodes as usize, b'f');
+    file.extend(manifest);
+    file.extend([5, lead, 1 << 24].map(u64::to_le_bytes).concat());
+    folder.write(name, file);
+    lead
+}
+
+/// The numbers of all nodes of a manifest are two and a half times as long as
+/// the manifest itself.
+#[test]
+fn the_longest_manifest_takes_no_more() {
+    let folder = Folder::new();
+    let nodes = write_mesh(&folder, "0.shard");
+    let options = options(&Sharding {
+        kind: 1,
+        ..SHARDING
+    });
+    let file = 40 + nodes + (1 << 24);
+    let limit = limit(file + 64 * MIB);
+    let run = folder.run_after(&limit, &format!("list 0.shard {options}"));
+    let line = format!("5 0 {} {} 16 {nodes}", 16 + nodes, 1 << 24);
+    run.expect_status(0).expect_line(&line);
+    let last = format!("--fragment 0,{}", nodes - 1);
+    let run = folder.run_after(&limit, &format!("get 0.shard 5 {last} {options}"));
+    assert_eq!(run.expect_status(0).text(), "f");
 }
 
 /// The longest shard, whose settled form is as long: both fit a machine of

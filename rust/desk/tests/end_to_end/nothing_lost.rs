@@ -20,6 +20,7 @@ const SHARDING: Sharding = Sharding {
     hash: 0,
     minishard_bits: 1,
     shard_bits: 6,
+    kind: 0,
 };
 
 /// A folder of shards, `deposit`, and the settled forms that they must get.

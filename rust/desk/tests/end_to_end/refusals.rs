@@ -32,8 +32,8 @@ fn told(run: &Run) -> Option<Refusal> {
     })
 }
 
-/// The byte told, where the number is one that has a position. Of other numbers
-/// the desk may tell a byte of its own finding.
+/// The byte told, where the number is one that always has a position. Of other
+/// numbers the desk may tell a byte of its own finding.
 fn position(number: u8, byte: impl FnOnce() -> u64) -> Option<u64> {
     (7..=11).contains(&number).then(byte)
 }
@@ -144,6 +144,9 @@ fn refused_cards() -> Vec<(Vec<u8>, u8)> {
         (card_with(0, &[2]), 14),
         (card_with(1, &[2]), 14),
         (card_with(49, &[0; 12]), 14),
+        ([&sample_card()[..], &[8, 1, 0, 0]].concat(), 14),
+        ([&sample_card()[..46], &[8, 1, 0, 2]].concat(), 14),
+        ([&sample_card()[..46], &[8, 1, 0, 1, 0]].concat(), 14),
         (card_with(3, &[64]), 1),
         (card_with(7, &[2]), 1),
         (card_with(11, &[17]), 1),

@@ -2,9 +2,9 @@
 
 use crate::support::Folder;
 use reference::grid::{key_of, Volume};
-use reference::settle::{settle, settled_form};
+use reference::settle::{content_of, form_of, settle, settled_form, Triple};
 use reference::shard::{check, list, list_minishard};
-use reference::sharding::Sharding;
+use reference::sharding::{Sharding, MESH, VOLUME};
 use reference::{card, info, manifest, Refusal};
 use std::collections::BTreeMap;
 
@@ -13,9 +13,17 @@ const DEPOSIT: Sharding = Sharding {
     hash: 0,
     minishard_bits: 1,
     shard_bits: 3,
+    kind: VOLUME,
 };
 const MURMUR: Sharding = Sharding { hash: 1, ..DEPOSIT };
-const VOLUME: Volume = Volume {
+const NETS: Sharding = Sharding {
+    preshift: 0,
+    hash: 1,
+    minishard_bits: 1,
+    shard_bits: 1,
+    kind: MESH,
+};
+const SCANNED: Volume = Volume {
     size: [300, 260, 200],
     chunk: [64; 3],
     offset: [-64, 0, 0],
@@ -46,7 +54,9 @@ fn content(sharding: &Sharding, shards: &BTreeMap<u64, Vec<u8>>) -> BTreeMap<u64
 #[test]
 fn it_has_the_same_bytes_every_time() {
     let (one, other) = (Folder::with_sample(), Folder::with_sample());
-    for part in ["copy-a", "copy-b", "copy-c", "damaged", "murmur"] {
+    for part in [
+        "copy-a", "copy-b", "copy-c", "damaged", "murmur", "mesh-a", "mesh-b",
+    ] {
         assert_eq!(shards(&one, part), shards(&other, part));
     }
     for file in [
@@ -54,6 +64,7 @@ fn it_has_the_same_bytes_every_time() {
         "demo/murmur.card",
         "demo/info",
         "demo/mesh.manifest",
+        "demo/mesh.card",
     ] {
         assert_eq!(one.read(file), other.read(file));
     }
@@ -62,14 +73,14 @@ fn it_has_the_same_bytes_every_time() {
 #[test]
 fn the_cards_and_the_manifest_are_sound() {
     let folder = Folder::with_sample();
-    for (name, sharding) in [("deposit", DEPOSIT), ("murmur", MURMUR)] {
+    for (name, sharding) in [("deposit", DEPOSIT), ("murmur", MURMUR), ("mesh", NETS)] {
         let card = card::read(&folder.read(format!("demo/{name}.card"))).expect("a card");
-        assert_eq!((card.sharding, card.volume), (sharding, VOLUME));
+        assert_eq!((card.sharding, card.volume), (sharding, SCANNED));
     }
     let text = folder.read("demo/info");
     for (scale, sharding) in [(0, DEPOSIT), (1, MURMUR)] {
         let card = info::read(&text, scale).expect("a scale");
-        assert_eq!((card.sharding, card.volume), (sharding, VOLUME));
+        assert_eq!((card.sharding, card.volume), (sharding, SCANNED));
     }
     assert_eq!(info::read(&text, 2), Err(20));
     let mesh = folder.read("demo/mesh.manifest");
@@ -95,7 +106,7 @@ fn the_copies_hold_the_same_chunks_under_other_bytes() {
             assert_ne!(file[at..at + 8], other[at..at + 8]);
         }
     }
-    let key = |cell| key_of(&VOLUME, cell).expect("a cell of the grid");
+    let key = |cell| key_of(&SCANNED, cell).expect("a cell of the grid");
     assert_eq!(chunks.len(), 96);
     assert_eq!(
         chunks[&key([1, 2, 1])],
@@ -134,6 +145,36 @@ fn the_third_copy_is_in_order_of_arrival() {
         let name = format!("{number:x}.shard");
         assert_eq!(folder.read(format!("settled/{name}")), a[number]);
     }
+}
+
+/// Both copies of the nets list the same manifests with the same fragments. The
+/// first is in settled form, the other lists them in another order.
+#[test]
+fn the_meshes_hold_the_same_nets() {
+    let folder = Folder::with_sample();
+    let (a, b) = (shards(&folder, "mesh-a"), shards(&folder, "mesh-b"));
+    assert_eq!((a.len(), b.len()), (2, 2));
+    let (mut nets, mut bare, mut unsorted) = (0, 0, 0);
+    for (number, file) in &b {
+        let mut content = content_of(&NETS, *number, file).expect("a sound shard");
+        assert_eq!(a[number], form_of(&NETS, &content));
+        for Triple {
+            fragments, chunk, ..
+        } in &content
+        {
+            let length = manifest::fragments_length(chunk).expect("a sound manifest");
+            assert_eq!(fragments.len() as u64, length);
+            bare += usize::from(fragments.is_empty());
+        }
+        nets += content.len();
+        unsorted += usize::from(!content.is_sorted_by_key(|triple| triple.id));
+        content.sort_by_key(|triple| triple.id);
+        let mut other = content_of(&NETS, *number, &a[number]).expect("a sound shard");
+        other.sort_by_key(|triple| triple.id);
+        assert_eq!(content, other);
+    }
+    assert_eq!((nets, bare), (10, 1));
+    assert!(unsorted > 0);
 }
 
 #[test]

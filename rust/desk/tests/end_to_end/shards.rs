@@ -1,6 +1,6 @@
 //! Shards made by hand, and the words in which their specification is given.
 
-use reference::sharding::Sharding;
+use reference::sharding::{Sharding, MESH, VOLUME};
 
 /// The scope's example: two minishards, one shard.
 pub const ONE: Sharding = Sharding {
@@ -8,18 +8,24 @@ pub const ONE: Sharding = Sharding {
     hash: 0,
     minishard_bits: 1,
     shard_bits: 0,
+    kind: VOLUME,
 };
 
-/// The specification as options.
+/// The specification as options. A volume needs none for its kind.
 pub fn options(sharding: &Sharding) -> String {
     let Sharding {
         preshift,
         hash,
         minishard_bits,
         shard_bits,
+        kind,
     } = sharding;
     let hash = ["identity", "murmur"][usize::from(*hash)];
-    format!("--preshift {preshift} --hash {hash} --minishard-bits {minishard_bits} --shard-bits {shard_bits}")
+    let kind = if *kind == MESH { " --kind mesh" } else { "" };
+    format!(
+        "--preshift {preshift} --hash {hash} --minishard-bits {minishard_bits} \
+         --shard-bits {shard_bits}{kind}"
+    )
 }
 
 /// Numbers as the format stores them.

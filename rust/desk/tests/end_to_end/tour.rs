@@ -86,14 +86,14 @@ fn the_tour_shows_what_it_says() {
     run(&steps, &["./coronagamba"]);
 }
 
-/// Each of 7 to 11 is met by a check, and the next dump begins at the byte that
-/// it tells, with as many bytes as the rules give the position.
+/// Each of 7 to 11, 15 to 17 and 21 is met by a check, and the next dump begins at
+/// the byte that it tells, with as many bytes as the rules give the position.
 #[test]
 fn the_dumps_show_what_they_say() {
     let text = fs::read_to_string(POSITIONS).expect("docs/POSITIONS.md");
     let steps = steps(&text);
     run(&steps, &["./coronagamba", "cp", "printf", "od"]);
-    for number in 7..=11 {
+    for number in (7..=11).chain(15..=17).chain([21]) {
         let refused = format!(": refused {number} in minishard ");
         let met = steps.iter().position(|step| step.shown.contains(&refused));
         let at = met.unwrap_or_else(|| panic!("no refusal {number}"));

@@ -4,4 +4,4 @@ use Rattle.locate.proofs.frame.card_length.Statement.{statement}
 use Rattle.locate.proofs.frame.card_length.Tie as tie
 
 pub card-length-spec : {M : Type 1} → statement M
-card-length-spec = tie.close (tie.spec (λ c. search framing) (λ c κs. search framing) (λ c. search framing) (λ c. search framing) (λ c. search framing))
+card-length-spec = tie.close (tie.spec (λ c. search framing) (λ c κs. search framing) (λ c κs. search framing) (λ c. search framing) (λ c. search framing) (λ c. search framing))

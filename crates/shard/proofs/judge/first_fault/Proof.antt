@@ -1,30 +1,30 @@
 -- The first fault of some minishards: each loop keeps what is left to find, each break has found it.
 use Prim.Native.Nat.{_+_, _-_, _≤_}
 use mathlib.Core.Path.{_≡_, refl}
-use mathlib.Core.List.{[], _∷_}
+use mathlib.Core.List.{_∷_}
 use mathlib.Core.Logic.{⊎-elim}
 use native.Mathlib.Omega.{arith}
 use borrow.Author.Needs.{needs}
 use lib.ListN.{length}
 use Rattle.index.specs.Index.{mostShardBytes, idSteps}
 use Rattle.endian.specs.Little.{rowAt}
-use Rattle.shard.specs.Faults.{foreignAt, placeTest, endTest, faultOf, noFault}
+use Rattle.shard.specs.Faults.{foreignAt, placeTest, endTest, meshTests, faultOf, noFault}
 use Rattle.shard.proofs.Split.{index-short}
-use Rattle.shard.proofs.Walks.{Walk, walk-start, walk-end, ours-turn, Span, span-start, span-turn}
-use Rattle.shard.proofs.Loops.{Searching, Testing, search-start, search-end, search-empty, search-next, end-before, end-past, end-ragged, end-twice, test-places, test-next, end-place, end-start, end-size}
+use Rattle.shard.proofs.Walks.{Walk, walk-start, walk-end, ours-turn, Span, span-start, span-turn, span-readable}
+use Rattle.shard.proofs.Loops.{Searching, Testing, search-start, search-end, search-empty, search-next, end-before, end-past, end-ragged, end-twice, test-places, test-next, end-place, end-start, end-size, end-given}
 use Rattle.shard.proofs.judge.first_fault.Statement.{statement}
 use Rattle.shard.proofs.judge.first_fault.Tie as tie
 
 abbrev Inv-places : tie.InvT-places
 Inv-places spec shard index «data» from to base len found₀ m s e p n again own₀ j₀ found own j =
-    (found ≡ noFault) × Testing (faultOf spec shard index «data») from to m (length index + p) n (placeTest spec shard m «data» p ∷ endTest «data» p n ∷ []) × Walk (idSteps «data» p) (foreignAt spec shard m (idSteps «data» p)) n j own × (length «data» ≤ mostShardBytes) × (length index ≤ mostShardBytes)
+    (found ≡ noFault) × Testing (faultOf spec shard index «data») from to m (length index + p) n (placeTest spec shard m «data» p ∷ endTest «data» p n ∷ meshTests spec «data» p n) × Walk (idSteps «data» p) (foreignAt spec shard m (idSteps «data» p)) n j own × (length «data» ≤ mostShardBytes) × (length index ≤ mostShardBytes)
 
 abbrev μ-places : tie.MeasureT-places
 μ-places spec shard index «data» from to base len found₀ m s e p n again own₀ j₀ found own j = n - j
 
 abbrev Inv-ends : tie.InvT-ends
 Inv-ends spec shard index «data» from to base len found₀ m s e p n again own j q t end₀ k₀ found end k =
-    (found ≡ noFault) × Testing (faultOf spec shard index «data») from to m (length index + p) n (endTest «data» p n ∷ []) × Span (rowAt «data» q) (rowAt «data» t) (length «data») n k end × (length «data» ≤ mostShardBytes) × (length index ≤ mostShardBytes)
+    (found ≡ noFault) × Testing (faultOf spec shard index «data») from to m (length index + p) n (endTest «data» p n ∷ meshTests spec «data» p n) × Span (rowAt «data» q) (rowAt «data» t) (length «data») n k end × (length «data» ≤ mostShardBytes) × (length index ≤ mostShardBytes)
 
 abbrev μ-ends : tie.MeasureT-ends
 μ-ends spec shard index «data» from to base len found₀ m s e p n again own j q t end₀ k₀ found end k = n - k
@@ -101,9 +101,16 @@ first-fault-spec =
       start .before .before .ends .inv .3,
       start .before .before .ends .inv .4,
     ))
+    (λ c κs.
+    let v = c .before .ends .inv in
+    span-readable _ _ (omega arith) (v .3) (omega arith) (v .2) (search needs))
     (λ c. omega arith)
     (λ c. omega arith)
-    (λ c. ⊎-elim (λ w. (cc, search search-next, search needs, search needs)) (λ w. (cc, search search-empty, search needs, search needs)) (c .if2 .came))
+    (λ c.
+    ⊎-elim
+    (λ w. let v = w .7 .inv in (cc, search-next (v .1) (v .2) (search needs) (w .9 .ensures) (w .11 .left), search needs, search needs))
+    (λ w. (cc, search search-empty, search needs, search needs))
+    (c .if2 .came))
     (λ c. search search-end)
     (λ c. search end-before)
     (λ c. search end-past)
@@ -125,4 +132,5 @@ first-fault-spec =
     let start = size .before .before in
     let v = start .before .before .ends .inv in
     end-size _ _ _ _ _ refl (c .row-fault4 .ensures) (v .1) (v .2) (omega arith) (start .read-u642 .ensures .0) (size .before .wrapping-add-u642 .ensures) (size .read-u643 .ensures .0)
-    (c .before .before .if7 .left) (c .before .if8 .taken)))
+    (c .before .before .if7 .left) (c .before .if8 .taken))
+    (λ c. search end-given))
