@@ -13,8 +13,15 @@
  * The header is C99 or later and C++. The archive is made for Linux on x86-64;
  * it needs the C library's memory functions and nothing else. A call needs at
  * most 64 KiB of stack, and one that judges a minishard of 1,024 chunks or more
- * whose ids do not rise at most 320 KiB. It takes no memory of its own, and none
- * calls back.
+ * whose ids do not rise at most 320 KiB. One that counts unlisted bytes of a
+ * shard whose chunks and minishard indexes do not stand in the order in which
+ * they are listed needs more, and no call needs more than 512 KiB. It takes no
+ * memory of its own, and none calls back.
+ *
+ * Unlisted bytes. They lie past the shard index in no listed chunk, no fragment
+ * and no nonempty minishard index, and no settled form has any. The calls of
+ * settling refuse a shard that has some with 22, unless they are asked to drop
+ * them by the number 1; no other number asks. coronagamba_unlisted counts them.
  *
  * Answers. Each function takes any numbers and bytes and returns. A function
  * that can refuse returns an answer word:
@@ -33,8 +40,8 @@
  * What names a minishard: coronagamba_check with 7 to 11, 15 to 17 and 21. What
  * names a position: coronagamba_check, coronagamba_lookup,
  * coronagamba_fragment, coronagamba_listed_count, coronagamba_listing,
- * coronagamba_settled_length and coronagamba_settle with 7 to 11, 15 to 17 and
- * 21.
+ * coronagamba_unlisted, coronagamba_settled_length and coronagamba_settle with
+ * 7 to 11, 15 to 17 and 21.
  *
  * A position is a byte of the shard, counted from its start. With 7 and 8 the
  * minishard's entry in the shard index begins there, 16 bytes: start and end.
@@ -84,9 +91,9 @@
  * number, the library that is linked or loaded belongs to another header:
  * structs and answers may differ. */
 #define CORONAGAMBA_VERSION_MAJOR 0
-#define CORONAGAMBA_VERSION_MINOR 4
+#define CORONAGAMBA_VERSION_MINOR 5
 #define CORONAGAMBA_VERSION_PATCH 0
-#define CORONAGAMBA_VERSION_STRING "0.4.0"
+#define CORONAGAMBA_VERSION_STRING "0.5.0"
 #define CORONAGAMBA_VERSION                      \
   ((uint64_t)CORONAGAMBA_VERSION_PATCH +         \
    ((uint64_t)CORONAGAMBA_VERSION_MINOR << 16) + \
@@ -187,6 +194,11 @@
  * index end: the sum of its sizes, taken exactly, exceeds its start relative
  * to the index end */
 #define CORONAGAMBA_REFUSED_FRAGMENTS_BEFORE_DATA 21
+
+/* a byte of a sound shard lies past the shard index in no listed chunk, no
+ * fragment and no nonempty minishard index, and settling was not asked to
+ * drop such bytes; after all that the check refuses and before 13 */
+#define CORONAGAMBA_REFUSED_UNLISTED_BYTES 22
 
 /* ---- other numbers ------------------------------------------------------- */
 
@@ -342,7 +354,7 @@ uint64_t coronagamba_chunk_name(coronagamba_volume volume,
 uint64_t coronagamba_shard_name(coronagamba_sharding sharding, uint64_t shard,
                                 uint8_t *out, size_t count, uint64_t *length);
 
-/* ---- Shards: lookup, fragments, the check, listings, settling ------------ */
+/* ---- Shards: lookup, fragments, the check, listings, unlisted bytes, settling  */
 
 /* Where the chunk of an id lies in the shard's file; in a mesh the chunk is
  * a manifest. Writes where it begins, counted from the file's first byte, to
@@ -392,21 +404,37 @@ uint64_t coronagamba_listing(coronagamba_sharding sharding, uint64_t shard,
                              uint64_t minishard, uint64_t *out,
                              size_t out_count, uint64_t *length);
 
+/* How many bytes of a shard are unlisted: they lie past the shard index in
+ * no listed chunk, no fragment and no nonempty minishard index. Writes the
+ * number to `bytes`. Takes at most 512 KiB of stack, as no call of this
+ * library takes more. Refusals: 1, 5, 6, 7 to 11, 15 to 17 (mesh), 21 (mesh)
+ * of the first faulty minishard with the position */
+uint64_t coronagamba_unlisted(coronagamba_sharding sharding, uint64_t shard,
+                              const uint8_t *file, size_t count,
+                              uint64_t *bytes);
+
 /* How many bytes a shard's settled form has. Writes the number to `length`.
- * Refusals: 1, 5, 6, 7 to 11, 15 to 17 (mesh), 21 (mesh) of the first faulty
- * minishard with the position, 13 where the form would pass 1 GiB */
+ * Unlisted bytes are not in it: a shard with some is refused unless
+ * `drop_unlisted` is 1; no other number asks to drop them. Refusals: 1, 5,
+ * 6, 7 to 11, 15 to 17 (mesh), 21 (mesh) of the first faulty minishard with
+ * the position, 22 where bytes are unlisted and not dropped, 13 where the
+ * form would pass 1 GiB */
 uint64_t coronagamba_settled_length(coronagamba_sharding sharding,
                                     uint64_t shard, const uint8_t *file,
-                                    size_t count, uint64_t *length);
+                                    size_t count, uint8_t drop_unlisted,
+                                    uint64_t *length);
 
 /* A shard's settled form; in a mesh each manifest has its fragments right
  * before it there too. Writes it to the front of `out`, which needs the room
  * that coronagamba_settled_length tells, and its number of bytes to
- * `length`. Refusals: 1, 5, 6, 7 to 11, 15 to 17 (mesh), 21 (mesh) of the
- * first faulty minishard with the position, 13 where `out` is shorter than
- * the form or the form would pass 1 GiB */
+ * `length`. Unlisted bytes are lost: a shard with some is refused unless
+ * `drop_unlisted` is 1; no other number asks to drop them. Refusals: 1, 5,
+ * 6, 7 to 11, 15 to 17 (mesh), 21 (mesh) of the first faulty minishard with
+ * the position, 22 where bytes are unlisted and not dropped, 13 where `out`
+ * is shorter than the form or the form would pass 1 GiB */
 uint64_t coronagamba_settle(coronagamba_sharding sharding, uint64_t shard,
-                            const uint8_t *file, size_t count, uint8_t *out,
+                            const uint8_t *file, size_t count,
+                            uint8_t drop_unlisted, uint8_t *out,
                             size_t out_count, uint64_t *length);
 
 /* ---- Deposit cards ------------------------------------------------------- */

@@ -114,12 +114,13 @@ static void shards(void) {
   coronagamba_sharding sharding = {0, 0, 1, 0, CORONAGAMBA_KIND_VOLUME};
   const uint64_t numbers[4] = {5, 53, 0, 0};
   const uint64_t rows[6] = {4, 6, 0, 0, 2, 3};
-  uint8_t file[85], out[90];
-  uint64_t start = 0, length = 0, chunks = 0, word, listed[6];
+  uint8_t file[86], out[90];
+  uint64_t start = 0, length = 0, chunks = 0, unlisted = 0, word, listed[6];
   size_t i;
   for (i = 0; i < 4; i++) put(file + 8 * i, numbers[i], 8);
   memcpy(file + 32, "abcde", 5);
   for (i = 0; i < 6; i++) put(file + 37 + 8 * i, rows[i], 8);
+  file[85] = '-';
   see(coronagamba_check(sharding, 0, file, 85) == 0, "check");
   see(coronagamba_lookup(sharding, 0, file, 85, 10, &start, &length) == 0 &&
           start == 34 && length == 3,
@@ -134,12 +135,25 @@ static void shards(void) {
   see(coronagamba_listing(sharding, 0, file, 85, 0, listed, 6, &length) == 0 &&
           length == 6 && listed[0] == 4 && listed[3] == 10 && listed[5] == 3,
       "listing");
-  see(coronagamba_settled_length(sharding, 0, file, 85, &length) == 0 &&
+  see(coronagamba_settled_length(sharding, 0, file, 85, 0, &length) == 0 &&
           length == 85,
       "settled_length");
-  see(coronagamba_settle(sharding, 0, file, 85, out, 90, &length) == 0 &&
+  see(coronagamba_settle(sharding, 0, file, 85, 0, out, 90, &length) == 0 &&
           length == 85 && memcmp(out, file, 85) == 0,
       "settle");
+  /* With a byte more, which nothing lists: settling stops unless it is asked
+   * to drop it, and then makes the same form. */
+  see(coronagamba_unlisted(sharding, 0, file, 86, &unlisted) == 0 &&
+          unlisted == 1,
+      "unlisted");
+  length = 7;
+  see(coronagamba_settle(sharding, 0, file, 86, 0, out, 90, &length) ==
+              CORONAGAMBA_REFUSED_UNLISTED_BYTES &&
+          length == 7,
+      "settle, an unlisted byte");
+  see(coronagamba_settle(sharding, 0, file, 86, 1, out, 90, &length) == 0 &&
+          length == 85 && memcmp(out, file, 85) == 0,
+      "settle, an unlisted byte dropped");
   /* The second minishard's entry, now with its start behind its end. The
    * position is where it begins: 16 bytes for each minishard before it. */
   file[16] = 1;
@@ -149,7 +163,7 @@ static void shards(void) {
           CORONAGAMBA_HAS_POSITION(word) && CORONAGAMBA_POSITION(word) == 16,
       "check, a fault in minishard 1");
   /* The others pass the position on, and no minishard. */
-  word = coronagamba_settled_length(sharding, 0, file, 85, &length);
+  word = coronagamba_settled_length(sharding, 0, file, 85, 0, &length);
   see(CORONAGAMBA_NUMBER(word) == CORONAGAMBA_REFUSED_INDEX_ENTRY &&
           !CORONAGAMBA_HAS_MINISHARD(word) && CORONAGAMBA_HAS_POSITION(word) &&
           CORONAGAMBA_POSITION(word) == 16,
@@ -211,10 +225,16 @@ static void meshes(void) {
   see(coronagamba_fragment(volume, 0, file, count, 9, 0, 1, &start, &length) ==
           CORONAGAMBA_REFUSED_NO_SUCH_NODE,
       "fragment, a volume");
-  see(coronagamba_settle(mesh, 0, file, count, out, count, &length) == 0 &&
+  see(coronagamba_settle(mesh, 0, file, count, 0, out, count, &length) == 0 &&
           length == count && memcmp(out, file, count) == 0,
       "settle, a mesh");
-  see(coronagamba_settled_length(volume, 0, file, count, &length) == 0 &&
+  /* To a volume no fragment is listed. */
+  see(coronagamba_unlisted(volume, 0, file, count, &start) == 0 && start == 7,
+      "unlisted, a volume");
+  see(coronagamba_settled_length(volume, 0, file, count, 0, &length) ==
+          CORONAGAMBA_REFUSED_UNLISTED_BYTES,
+      "settled_length, a volume would lose the fragments");
+  see(coronagamba_settled_length(volume, 0, file, count, 1, &length) == 0 &&
           length == count - 7,
       "settled_length, a volume keeps what is listed");
   file[95] = 8;

@@ -9,8 +9,8 @@ import ctypes
 from ctypes import POINTER
 from typing import Any, Dict, Tuple
 
-VERSION = (0, 4, 0)
-__version__ = "0.4.0"
+VERSION = (0, 5, 0)
+__version__ = "0.5.0"
 
 # a sharding's hash that leaves an id as it is
 HASH_IDENTITY = 0
@@ -341,10 +341,13 @@ FUNCTIONS: Dict[str, Tuple[Any, Tuple[Any, ...]]] = {
             POINTER(ctypes.c_uint64),
         ),
     ),
-    # How many bytes a shard's settled form has. Writes the number to `length`.
+    # How many bytes of a shard are unlisted: they lie past the shard index in
+    # no listed chunk, no fragment and no nonempty minishard index. Writes the
+    # number to `bytes`. Takes at most 512 KiB of stack, as no call of this
+    # library takes more.
     # Refusals: 1, 5, 6, 7 to 11, 15 to 17 (mesh), 21 (mesh) of the first
-    # faulty minishard with the position, 13 where the form would pass 1 GiB
-    "coronagamba_settled_length": (
+    # faulty minishard with the position
+    "coronagamba_unlisted": (
         ctypes.c_uint64,
         (
             Sharding,
@@ -354,13 +357,32 @@ FUNCTIONS: Dict[str, Tuple[Any, Tuple[Any, ...]]] = {
             POINTER(ctypes.c_uint64),
         ),
     ),
+    # How many bytes a shard's settled form has. Writes the number to `length`.
+    # Unlisted bytes are not in it: a shard with some is refused unless
+    # `drop_unlisted` is 1; no other number asks to drop them.
+    # Refusals: 1, 5, 6, 7 to 11, 15 to 17 (mesh), 21 (mesh) of the first
+    # faulty minishard with the position, 22 where bytes are unlisted and not
+    # dropped, 13 where the form would pass 1 GiB
+    "coronagamba_settled_length": (
+        ctypes.c_uint64,
+        (
+            Sharding,
+            ctypes.c_uint64,
+            POINTER(ctypes.c_uint8),
+            ctypes.c_size_t,
+            ctypes.c_uint8,
+            POINTER(ctypes.c_uint64),
+        ),
+    ),
     # A shard's settled form; in a mesh each manifest has its fragments right
     # before it there too. Writes it to the front of `out`, which needs the
     # room that coronagamba_settled_length tells, and its number of bytes to
-    # `length`.
+    # `length`. Unlisted bytes are lost: a shard with some is refused unless
+    # `drop_unlisted` is 1; no other number asks to drop them.
     # Refusals: 1, 5, 6, 7 to 11, 15 to 17 (mesh), 21 (mesh) of the first
-    # faulty minishard with the position, 13 where `out` is shorter than the
-    # form or the form would pass 1 GiB
+    # faulty minishard with the position, 22 where bytes are unlisted and not
+    # dropped, 13 where `out` is shorter than the form or the form would pass 1
+    # GiB
     "coronagamba_settle": (
         ctypes.c_uint64,
         (
@@ -368,6 +390,7 @@ FUNCTIONS: Dict[str, Tuple[Any, Tuple[Any, ...]]] = {
             ctypes.c_uint64,
             POINTER(ctypes.c_uint8),
             ctypes.c_size_t,
+            ctypes.c_uint8,
             POINTER(ctypes.c_uint8),
             ctypes.c_size_t,
             POINTER(ctypes.c_uint64),

@@ -45,6 +45,16 @@ def item(name: str, value: Any) -> int:
     return min(u64(name, value), 2**32 - 1)
 
 
+def flag(name: str, value: Any) -> int:
+    """A wish, which is True or False and nothing that merely counts as one:
+    1 where it is asked for, else 0."""
+    if not isinstance(value, bool):
+        raise TypeError(
+            f"{name} must be True or False, not {type(value).__name__}"
+        )
+    return int(value)
+
+
 def i32(name: str, value: Any) -> int:
     """The value as a signed number of 32 bits."""
     return _fitting(name, value, -(2**31), 2**31 - 1)

@@ -92,6 +92,11 @@ class Numbers:
     # relative to the index end
     FRAGMENTS_BEFORE_DATA = 21
 
+    # a byte of a sound shard lies past the shard index in no listed chunk, no
+    # fragment and no nonempty minishard index, and settling was not asked to
+    # drop such bytes; after all that the check refuses and before 13
+    UNLISTED_BYTES = 22
+
 
 # Each number with its sentence, rising.
 SENTENCES: Dict[int, str] = {
@@ -124,5 +129,9 @@ SENTENCES: Dict[int, str] = {
     21: (
         "The fragments of a manifest would start before the end of the shard "
         "index."
+    ),
+    22: (
+        "The shard has bytes that nothing lists, and dropping them was not "
+        "asked for."
     ),
 }

@@ -1,5 +1,5 @@
-"""Shard files: lookup, fragments, the whole-shard check, listings and
-settling."""
+"""Shard files: lookup, fragments, the whole-shard check, listings, unlisted
+bytes and settling."""
 
 from __future__ import annotations
 
@@ -8,7 +8,7 @@ from typing import Any, List, NamedTuple, Tuple
 
 from ._buffers import Held, Lent, ReadableBuffer, WriteableBuffer, own, zeros
 from ._library import library
-from ._numbers import item, u64
+from ._numbers import flag, item, u64
 from .refusal import answer
 from .sharding import Sharding
 
@@ -168,29 +168,48 @@ class Shard(Held):
             for id, start, size in zip(out[::3], out[1::3], out[2::3])
         ]
 
-    def settled_length(self) -> int:
+    def unlisted(self) -> int:
+        """How many bytes of a sound shard are unlisted: they lie past the
+        shard index in no listed chunk, no fragment and no nonempty minishard
+        index. Refusals 1, 5, 6, 7 to 11 and, in a mesh, 15 to 17 and 21 with
+        a position."""
+        count = c_uint64()
+        with self._lent() as lent:
+            answer(
+                library.coronagamba_unlisted(
+                    *self._arguments(lent), byref(count)
+                )
+            )
+        return count.value
+
+    def settled_length(self, *, drop_unlisted: bool = False) -> int:
         """The length of the settled form. Refusals 1, 5, 6, 7 to 11 and, in a
-        mesh, 15 to 17 and 21 with a position, and 13 where it would pass
-        1 GiB."""
+        mesh, 15 to 17 and 21 with a position, 22 where bytes are `unlisted`
+        and not to be dropped, and 13 where the form would pass 1 GiB."""
         length = c_uint64()
         with self._lent() as lent:
             answer(
                 library.coronagamba_settled_length(
-                    *self._arguments(lent), byref(length)
+                    *self._arguments(lent),
+                    flag("drop_unlisted", drop_unlisted),
+                    byref(length),
                 )
             )
         return length.value
 
-    def settled(self) -> bytearray:
+    def settled(self, *, drop_unlisted: bool = False) -> bytearray:
         """The settled form, refused as `settled_length` is."""
-        form = bytearray(self.settled_length())
-        self.settle(form)
+        form = bytearray(self.settled_length(drop_unlisted=drop_unlisted))
+        self.settle(form, drop_unlisted=drop_unlisted)
         return form
 
-    def settle(self, out: WriteableBuffer) -> int:
+    def settle(
+        self, out: WriteableBuffer, *, drop_unlisted: bool = False
+    ) -> int:
         """Writes the settled form to the front of `out` and gives its length.
         Refused as `settled_length` is, and with 13 where `out` is too short.
         `out` and the shard's bytes must have no memory in common."""
+        dropping = flag("drop_unlisted", drop_unlisted)
         length = c_uint64()
         with self._lent() as lent, Lent("out", out, True) as room:
             if room.overlaps(lent):
@@ -198,6 +217,7 @@ class Shard(Held):
             answer(
                 library.coronagamba_settle(
                     *self._arguments(lent),
+                    dropping,
                     room.bytes,
                     room.count,
                     byref(length),

@@ -96,6 +96,30 @@ def scattered(sharding, content, rng, groups=None, leads=None):
     return b"".join(u64s(*entry) for entry in entries) + data
 
 
+def unlisted(sharding, file, leads=None):
+    """How many bytes of a sound shard nothing lists, byte by byte."""
+    leads = leads or {}
+    data = 16 * 2**sharding.minishard_bits
+    held = bytearray(len(file) - data)
+    for number in range(2**sharding.minishard_bits):
+        start, end = struct.unpack_from("<2Q", file, 16 * number)
+        if start == end:
+            continue
+        held[start:end] = bytes([1]) * (end - start)
+        count = (end - start) // 24
+        table = struct.unpack_from(f"<{3 * count}Q", file, data + start)
+        id = place = 0
+        for step, gap, size in zip(
+            table[:count], table[count:2 * count], table[2 * count:]
+        ):
+            id = (id + step) % 2**64
+            place = (place + gap) % 2**64
+            first = place - len(leads.get(id, b""))
+            place += size
+            held[first:place] = bytes([1]) * (place - first)
+    return held.count(0)
+
+
 def one_minishard(table, data=b""):
     """A shard of one minishard: its index at the front of the data."""
     return u64s(0, len(table)) + table + data

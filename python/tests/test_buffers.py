@@ -59,7 +59,7 @@ class Kinds(unittest.TestCase):
                 shard = Shard(SHARDING, 0, data)
                 shard.check()
                 self.assertEqual(bytes(shard.chunk(10)), b"cde")
-                self.assertEqual(shard.settled(), FILE)
+                self.assertEqual(shard.settled(drop_unlisted=True), FILE)
 
     def test_manifests(self):
         for data in kinds(MANIFEST):
@@ -238,6 +238,7 @@ class Released(unittest.TestCase):
             lambda: shard.chunk(4),
             shard.check,
             lambda: shard.listing(0),
+            shard.unlisted,
             shard.settled,
         ):
             with self.assertRaisesRegex(ValueError, "released"):

@@ -26,6 +26,9 @@ SHARD = (ALLOWED, 0, FILE, 32)
 # A shard of a volume that lists id 0.
 LISTING = (c_uint8 * 56).from_buffer_copy(u64s(0, 24, 0, 0, 0, 0, 0))
 LISTED = (ALLOWED, 0, LISTING, 56)
+# One that lists nothing, with a byte behind its shard index.
+MORE = (c_uint8 * 33)()
+UNLISTED = (ALLOWED, 0, MORE, 33)
 NO_SCALES = (c_uint8 * 2).from_buffer_copy(b"{}")
 MANIFEST = (c_uint8 * 28).from_buffer_copy(manifest((1, 1, 1), (0, 0, 0), []))
 CELLS = (c_uint32 * 6)()
@@ -80,8 +83,14 @@ CALLS = [
     (18, "fragment", LISTED + (0, 0, 0), [U64, U64]),
     (SECOND, "listed_count", SHARD + (1,), [U64]),
     (SECOND, "listing", SHARD + (1,), [(c_uint64 * 3, 3), U64]),
-    (SECOND, "settled_length", SHARD, [U64]),
-    (SECOND, "settle", SHARD, [(c_uint8 * 40, 40), U64]),
+    (SECOND, "unlisted", SHARD, [U64]),
+    (SECOND, "settled_length", SHARD + (0,), [U64]),
+    (SECOND, "settled_length", SHARD + (1,), [U64]),
+    (SECOND, "settle", SHARD + (0,), [(c_uint8 * 40, 40), U64]),
+    (SECOND, "settle", SHARD + (1,), [(c_uint8 * 40, 40), U64]),
+    (22, "settled_length", UNLISTED + (0,), [U64]),
+    (22, "settle", UNLISTED + (0,), [(c_uint8 * 31, 31), U64]),
+    (13, "settle", UNLISTED + (1,), [(c_uint8 * 31, 31), U64]),
     (
         14,
         "card_read",

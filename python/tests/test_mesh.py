@@ -85,8 +85,12 @@ class Layouts(unittest.TestCase):
             ):
                 shard = Shard(sharding, number, file)
                 shard.check()
-                self.assertEqual(shard.settled(), form)
-                self.assertEqual(shard.settled_length(), len(form))
+                self.assertEqual(shard.settled(drop_unlisted=True), form)
+                length = shard.settled_length(drop_unlisted=True)
+                self.assertEqual(length, len(form))
+                self.assertEqual(
+                    shard.unlisted(), shards.unlisted(sharding, file, leads)
+                )
                 for id, net in found.items():
                     self.assertEqual(shard.chunk(id), net.manifest)
                     for (level, node), bytes in net.fragments.items():
@@ -122,8 +126,11 @@ class Layouts(unittest.TestCase):
             volume = replace(sharding, kind=VOLUME)
             shard = Shard(volume, number, file)
             shard.check()
+            lost = sum(len(lead) for lead in leads.values())
+            self.assertEqual(shard.unlisted(), lost)
             self.assertEqual(
-                shard.settled(), shards.settled(volume, content)
+                shard.settled(drop_unlisted=True),
+                shards.settled(volume, content),
             )
 
 
@@ -177,6 +184,7 @@ class Fragments(unittest.TestCase):
         shard = Shard(replace(ONE, kind=2), 0, self.file)
         for call in (
             shard.check,
+            shard.unlisted,
             shard.settled_length,
             lambda: shard.lookup(9),
             lambda: shard.fragment(9, 0, 0),
@@ -237,8 +245,10 @@ class Faults(unittest.TestCase):
                     lambda: shard.fragment(4, 0, 0),
                     lambda: shard.listed_count(0),
                     lambda: shard.listing(0),
+                    shard.unlisted,
                     shard.settled_length,
                     lambda: shard.settle(bytearray(999)),
+                    lambda: shard.settled(drop_unlisted=True),
                 ):
                     with self.assertRaises(Refused) as caught:
                         call()

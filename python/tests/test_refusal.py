@@ -81,7 +81,10 @@ CALLS = {
         lambda: shard(u64s(0, 24) + bytes(23)).lookup(0),
         lambda: shard(u64s(0, 2**64 - 1)).listing(0),
     ],
-    8: [lambda: shard(u64s(0, 25) + bytes(25)).settled()],
+    8: [
+        lambda: shard(u64s(0, 25) + bytes(25)).settled(),
+        lambda: shard(u64s(0, 25) + bytes(25)).unlisted(),
+    ],
     9: [
         lambda: shard(one_minishard(u64s(1, 0, 0, 0, 0, 0))).check(),
         lambda: shard(
@@ -167,6 +170,11 @@ CALLS = {
             MESH,
         ).check(),
     ],
+    22: [
+        lambda: shard(bytes(17)).settled_length(),
+        lambda: shard(bytes(17)).settle(bytearray(15)),
+        lambda: shard(bytes(17)).settled(drop_unlisted=False),
+    ],
 }
 
 
@@ -248,9 +256,12 @@ class Places(unittest.TestCase):
                 lambda: shard.chunk(1),
                 lambda: shard.listed_count(1),
                 lambda: shard.listing(1),
+                shard.unlisted,
                 shard.settled_length,
                 shard.settled,
                 lambda: shard.settle(bytearray(200)),
+                lambda: shard.settled_length(drop_unlisted=True),
+                lambda: shard.settle(bytearray(200), drop_unlisted=True),
             ):
                 with self.subTest(number=number, byte=byte):
                     self.assert_refused(call, number, None, byte)
@@ -269,6 +280,9 @@ class Places(unittest.TestCase):
         self.assert_refused(lambda: shard.lookup(3), 12, None, None)
         short = bytearray(31)
         self.assert_refused(lambda: shard.settle(short), 13, None, None)
+        shard = Shard(TWO, 0, bytes(33))
+        self.assert_refused(shard.settled, 22, None, None)
+        self.assert_refused(lambda: shard.settle(short), 22, None, None)
 
 
 class Exceptions(unittest.TestCase):

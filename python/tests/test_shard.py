@@ -1,4 +1,4 @@
-"""Lookup, the check, listings and settling."""
+"""Lookup, the check, listings, unlisted bytes and settling."""
 
 import mmap
 import random
@@ -171,8 +171,9 @@ class Layouts(unittest.TestCase):
             for file in (one, other, expected):
                 shard = Shard(sharding, number, file)
                 shard.check()
-                self.assertEqual(shard.settled(), expected)
-                self.assertEqual(shard.settled_length(), len(expected))
+                self.assertEqual(shard.settled(drop_unlisted=True), expected)
+                length = shard.settled_length(drop_unlisted=True)
+                self.assertEqual(length, len(expected))
                 self.assertEqual(listed(shard), content)
         self.assertGreater(different, 50)
 
@@ -189,7 +190,7 @@ class Layouts(unittest.TestCase):
             forms = [
                 Shard(
                     sharding, number, shards.scattered(sharding, some, rng)
-                ).settled()
+                ).settled(drop_unlisted=True)
                 for some in (content, other)
             ]
             self.assertNotEqual(*forms)
@@ -206,7 +207,8 @@ class Layouts(unittest.TestCase):
                 shards.scattered(sharding, content, rng, groups),
             )
             self.assertEqual(
-                shard.settled(), shards.settled(sharding, content)
+                shard.settled(drop_unlisted=True),
+                shards.settled(sharding, content),
             )
             for id, chunk in content.items():
                 self.assertEqual(bytes(shard.chunk(id)), chunk)
@@ -214,3 +216,76 @@ class Layouts(unittest.TestCase):
                 found = [entry.id for entry in shard.listing(minishard)]
                 self.assertEqual(found, ids)
                 self.assertEqual(shard.listed_count(minishard), len(ids))
+
+
+class Unlisted(unittest.TestCase):
+    """Change requests, order 8."""
+
+    def assert_22(self, call):
+        with self.assertRaises(Refused) as caught:
+            call()
+        self.assertEqual(
+            caught.exception.args, (Refused.UNLISTED_BYTES, None, None)
+        )
+
+    def test_a_settled_form_has_none(self):
+        for _, sharding, number, content in samples(7, 20):
+            form = shards.settled(sharding, content)
+            shard = Shard(sharding, number, form)
+            self.assertEqual(shard.unlisted(), 0)
+            self.assertEqual(shard.settled(), form)
+
+    def test_layouts(self):
+        refused = 0
+        for rng, sharding, number, content in samples(8, 60):
+            file = shards.scattered(sharding, content, rng)
+            shard = Shard(sharding, number, file)
+            count = shards.unlisted(sharding, file)
+            self.assertEqual(shard.unlisted(), count)
+            form = shards.settled(sharding, content)
+            self.assertEqual(shard.settled(drop_unlisted=True), form)
+            if count == 0:
+                self.assertEqual(shard.settled(), form)
+                continue
+            refused += 1
+            self.assert_22(shard.settled)
+            self.assert_22(shard.settled_length)
+            out = bytearray(b"-" * len(form))
+            self.assert_22(lambda: shard.settle(out))
+            self.assertEqual(out, b"-" * len(form))
+            # An output that is too short is told last.
+            self.assert_22(lambda: shard.settle(bytearray()))
+        self.assertGreater(refused, 40)
+
+    def test_either_end(self):
+        for file in (
+            u64s(6, 54, 0, 0) + b"-abcde" + u64s(4, 6, 1, 0, 2, 3),
+            SETTLED + b"-",
+        ):
+            shard = Shard(CASE, 0, file)
+            self.assertEqual(shard.unlisted(), 1)
+            self.assert_22(shard.settled)
+            self.assertEqual(shard.settled(drop_unlisted=True), SETTLED)
+
+    def test_an_entry_of_an_empty_minishard_lists_nothing(self):
+        for at in (0, 1, 4, 2**64 - 1):
+            shard = Shard(CASE, 0, u64s(at, at, 0, 0) + b"abcd")
+            self.assertEqual(shard.unlisted(), 4)
+
+    def test_bytes_listed_twice_count_once(self):
+        rows = u64s(4, 2, 48, -2 % 2**64, 3, 3)
+        shard = Shard(CASE, 0, u64s(0, 48, 0, 0) + rows + b"abcd")
+        self.assertEqual(shard.unlisted(), 0)
+
+    def test_the_wish_is_true_or_false(self):
+        shard = Shard(CASE, 0, SETTLED + b"-")
+        for wish in (1, 0, None, "yes", 256):
+            for call in (
+                lambda: shard.settled(drop_unlisted=wish),
+                lambda: shard.settled_length(drop_unlisted=wish),
+                lambda: shard.settle(bytearray(99), drop_unlisted=wish),
+            ):
+                with self.assertRaisesRegex(TypeError, "^drop_unlisted must"):
+                    call()
+        with self.assertRaises(TypeError):
+            shard.settled(True)

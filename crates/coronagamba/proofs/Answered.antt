@@ -9,10 +9,12 @@ use Rattle.lookup.specs.declared.LookupAnswer.{LookupAnswer}
 use Rattle.lookup.specs.declared.LookupAnswer.the-variants as L
 use Rattle.listing.specs.declared.CountAnswer.{CountAnswer}
 use Rattle.listing.specs.declared.CountAnswer.the-variants as N
+use Rattle.unlisted.specs.declared.UnlistedAnswer.{UnlistedAnswer}
+use Rattle.unlisted.specs.declared.UnlistedAnswer.the-variants as U
 use Rattle.settle.specs.declared.SettleAnswer.{SettleAnswer}
 use Rattle.settle.specs.declared.SettleAnswer.the-variants as S
 use Rattle.coronagamba.specs.Word.{word}
-use Rattle.coronagamba.specs.Shards.{checkWord, lookupWord, startAfter, sizeAfter, countWord, countAfter, settleWord, formAfter}
+use Rattle.coronagamba.specs.Shards.{checkWord, lookupWord, startAfter, sizeAfter, countWord, countAfter, settleWord, formAfter, unlistedWord, unlistedAfter}
 use Rattle.coronagamba.proofs.Told.{told, after}
 
 module _ {a b : CheckAnswer} (e : b ≡ a) where
@@ -91,6 +93,25 @@ module _ {a b : SettleAnswer} (e : b ≡ a) where
   pub form-faulty : (x : ℕ) {k p : ℕ} → b ≡ S.Faulty k p → x ≡ formAfter a x
   form-faulty x h = after formAfter x e h
 
+module _ {a b : UnlistedAnswer} (e : b ≡ a) where
+  pub unlisted-given : {n : ℕ} → b ≡ U.Count n → 0 ≡ unlistedWord a
+  unlisted-given h = told unlistedWord e h
+
+  pub unlisted-refused : {k : ℕ} → b ≡ U.Refused k → k ≡ unlistedWord a
+  unlisted-refused h = told unlistedWord e h
+
+  pub unlisted-faulty : {k p r : ℕ} → r ≡ word k none (some p) → b ≡ U.Faulty k p → r ≡ unlistedWord a
+  unlisted-faulty w h = w ∙ told unlistedWord e h
+
+  pub bytes-given : (x : ℕ) {n : ℕ} → b ≡ U.Count n → n ≡ unlistedAfter a x
+  bytes-given x h = after unlistedAfter x e h
+
+  pub bytes-refused : (x : ℕ) {k : ℕ} → b ≡ U.Refused k → x ≡ unlistedAfter a x
+  bytes-refused x h = after unlistedAfter x e h
+
+  pub bytes-faulty : (x : ℕ) {k p : ℕ} → b ≡ U.Faulty k p → x ≡ unlistedAfter a x
+  bytes-faulty x h = after unlistedAfter x e h
+
 pub ruleset checking = (word-sound, word-unchecked, word-fault, needs)
 
 pub ruleset looking = (lookup-given, lookup-refused, lookup-faulty, start-given, start-refused, start-faulty, size-given, size-refused, size-faulty, needs)
@@ -98,3 +119,5 @@ pub ruleset looking = (lookup-given, lookup-refused, lookup-faulty, start-given,
 pub ruleset counting = (count-given, count-refused, count-faulty, counted-given, counted-refused, counted-faulty, needs)
 
 pub ruleset settling = (settle-given, settle-refused, settle-faulty, form-given, form-refused, form-faulty, needs)
+
+pub ruleset unlisting = (unlisted-given, unlisted-refused, unlisted-faulty, bytes-given, bytes-refused, bytes-faulty, needs)

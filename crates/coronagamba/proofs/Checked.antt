@@ -2,6 +2,7 @@
 -- the file.
 use Prim.Native.Nat.{ℕ, _+_, _<_}
 use mathlib.Core.Path.{_≡_, sym, _∙_}
+use mathlib.Core.Bool.{Bool}
 use mathlib.Core.List.{List}
 use native.Mathlib.Omega.{arith}
 use borrow.Author.Needs.{needs}
@@ -19,11 +20,14 @@ use Rattle.fragment.specs.Fragment.{fragmentAnswer}
 use Rattle.listing.specs.declared.CountAnswer.{CountAnswer}
 use Rattle.listing.specs.declared.CountAnswer.the-variants as N
 use Rattle.listing.specs.Listing.{countAnswer, listingAnswer}
+use Rattle.unlisted.specs.declared.UnlistedAnswer.{UnlistedAnswer}
+use Rattle.unlisted.specs.declared.UnlistedAnswer.the-variants as U
+use Rattle.unlisted.specs.Answers.{unlistedAnswer}
 use Rattle.settle.specs.declared.SettleAnswer.{SettleAnswer}
 use Rattle.settle.specs.declared.SettleAnswer.the-variants as S
 use Rattle.settle.specs.Answers.{lengthAnswer, settleAnswer}
 use Rattle.positions.specs.Points.{PointsAt}
-use Rattle.positions.proofs.Points.{check-points, lookup-points, fragment-points, count-points, listing-points, length-named, settle-named}
+use Rattle.positions.proofs.Points.{check-points, lookup-points, fragment-points, count-points, listing-points, unlisted-named, length-named, settle-named}
 
 pub minishard-fits : (spec : Sharding) (shard : ℕ) (file : List ℕ) {a : CheckAnswer} {k m p : ℕ} → a ≡ checkAnswer spec shard file → a ≡ Faulty k m p → m + 1 < 16777216
 minishard-fits spec shard file {a} {k} {m} {p} e h =
@@ -51,10 +55,13 @@ module _ (spec : Sharding) (shard : ℕ) (file : List ℕ) where
   pub listing-fits : (m : ℕ) (out : List ℕ) {a : CountAnswer} {k p : ℕ} → a ≡ listingAnswer spec shard file m out → a ≡ N.Faulty k p → p + 1 < 4294967296
   listing-fits m out {a} {k} {p} e h = fits m k p (listing-points spec shard file m out k p (sym e ∙ h))
 
-  pub length-fits : {a : SettleAnswer} {k p : ℕ} → a ≡ lengthAnswer spec shard file → a ≡ S.Faulty k p → p + 1 < 4294967296
-  length-fits {a} {k} {p} e h = let t = length-named spec shard file k p (sym e ∙ h) in fits (t .minishard) k p (t .points)
+  pub unlisted-fits : {a : UnlistedAnswer} {k p : ℕ} → a ≡ unlistedAnswer spec shard file → a ≡ U.Faulty k p → p + 1 < 4294967296
+  unlisted-fits {a} {k} {p} e h = let t = unlisted-named spec shard file k p (sym e ∙ h) in fits (t .minishard) k p (t .points)
 
-  pub settle-fits : (out : List ℕ) {a : SettleAnswer} {k p : ℕ} → a ≡ settleAnswer spec shard file out → a ≡ S.Faulty k p → p + 1 < 4294967296
-  settle-fits out {a} {k} {p} e h = let t = settle-named spec shard file out k p (sym e ∙ h) in fits (t .minishard) k p (t .points)
+  pub length-fits : (dropping : Bool) {a : SettleAnswer} {k p : ℕ} → a ≡ lengthAnswer spec shard file dropping → a ≡ S.Faulty k p → p + 1 < 4294967296
+  length-fits dropping {a} {k} {p} e h = let t = length-named spec shard file k p dropping (sym e ∙ h) in fits (t .minishard) k p (t .points)
 
-pub ruleset fitting = (minishard-fits, check-fits, lookup-fits, fragment-fits, count-fits, listing-fits, length-fits, settle-fits, needs)
+  pub settle-fits : (dropping : Bool) (out : List ℕ) {a : SettleAnswer} {k p : ℕ} → a ≡ settleAnswer spec shard file dropping out → a ≡ S.Faulty k p → p + 1 < 4294967296
+  settle-fits dropping out {a} {k} {p} e h = let t = settle-named spec shard file dropping out k p (sym e ∙ h) in fits (t .minishard) k p (t .points)
+
+pub ruleset fitting = (minishard-fits, check-fits, lookup-fits, fragment-fits, count-fits, listing-fits, unlisted-fits, length-fits, settle-fits, needs)

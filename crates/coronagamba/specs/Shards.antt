@@ -1,12 +1,16 @@
 -- Shards across the C border: the answer words, and what the lent numbers hold afterwards.
 use Prim.Native.Nat.{ℕ}
+use mathlib.Core.Bool.{Bool}
 use mathlib.Core.Option.{none, some}
+use lib.Dec.{eqb}
 use Rattle.shard.specs.declared.CheckAnswer.{CheckAnswer}
 use Rattle.shard.specs.declared.CheckAnswer.the-variants.{Sound, Faulty, Refused as CheckRefused}
 use Rattle.lookup.specs.declared.LookupAnswer.{LookupAnswer}
 use Rattle.lookup.specs.declared.LookupAnswer.the-variants.{Found, Refused as NotFound, Faulty as FaultFound}
 use Rattle.listing.specs.declared.CountAnswer.{CountAnswer}
 use Rattle.listing.specs.declared.CountAnswer.the-variants.{Count, Refused as NoCount, Faulty as FaultCounted}
+use Rattle.unlisted.specs.declared.UnlistedAnswer.{UnlistedAnswer}
+use Rattle.unlisted.specs.declared.UnlistedAnswer.the-variants.{Count as Unlisted, Refused as NotCounted, Faulty as FaultUnlisted}
 use Rattle.settle.specs.declared.SettleAnswer.{SettleAnswer}
 use Rattle.settle.specs.declared.SettleAnswer.the-variants.{Length, Refused as NotSettled, Faulty as FaultSettled}
 use Rattle.coronagamba.specs.Word.{word}
@@ -51,3 +55,17 @@ abbrev pub formAfter : SettleAnswer → ℕ → ℕ
 formAfter (Length n) before = n
 formAfter (NotSettled k) before = before
 formAfter (FaultSettled k p) before = before
+
+-- the wish of the caller of settling: 1 asks to drop unlisted bytes, and no other number does (02, order 8)
+abbrev pub asksToDrop : ℕ → Bool
+asksToDrop wish = eqb wish 1
+
+abbrev pub unlistedWord : UnlistedAnswer → ℕ
+unlistedWord (Unlisted n) = 0
+unlistedWord (NotCounted k) = k
+unlistedWord (FaultUnlisted k p) = word k none (some p)
+
+abbrev pub unlistedAfter : UnlistedAnswer → ℕ → ℕ
+unlistedAfter (Unlisted n) before = n
+unlistedAfter (NotCounted k) before = before
+unlistedAfter (FaultUnlisted k p) before = before

@@ -1,4 +1,4 @@
-// Shards: lookup, fragments, the check, listings, settling.
+// Shards: lookup, fragments, the check, listings, unlisted bytes, settling.
 ghost use mathlib.Core.Path.{_≡_};
 ghost use Prim.Native.Nat.{_+_, _<_};
 ghost use mathlib.Core.Option.{none, some};
@@ -6,14 +6,16 @@ ghost use Rattle.shard.specs.File.{checkAnswer};
 ghost use Rattle.lookup.specs.Find.{lookupAnswer};
 ghost use Rattle.fragment.specs.Fragment.{fragmentAnswer};
 ghost use Rattle.listing.specs.Listing.{countAnswer, listingAnswer, listingLeft};
+ghost use Rattle.unlisted.specs.Answers.{unlistedAnswer};
 ghost use Rattle.settle.specs.Answers.{lengthAnswer, settleAnswer, settleLeft};
 ghost use Rattle.coronagamba.specs.Word.{word};
-ghost use Rattle.coronagamba.specs.Shards.{checkWord, lookupWord, startAfter, sizeAfter, countWord, countAfter, settleWord, formAfter};
+ghost use Rattle.coronagamba.specs.Shards.{checkWord, lookupWord, startAfter, sizeAfter, countWord, countAfter, settleWord, formAfter, asksToDrop, unlistedWord, unlistedAfter};
 use listing::CountAnswer;
 use lookup::LookupAnswer;
 use settle::SettleAnswer;
 use shard::CheckAnswer;
 use sharding::Sharding;
+use unlisted::UnlistedAnswer;
 
 // The word has 32 bits for the position and one.
 fn position_word(refusal: u8, position: u64) -> u64
@@ -181,20 +183,50 @@ pub extern "C" fn coronagamba_listing(
     }
 }
 
-// How many bytes a shard's settled form has. Writes the number to `length`.
+// How many bytes of a shard are unlisted: they lie past the shard index in no listed chunk, no
+// fragment and no nonempty minishard index. Writes the number to `bytes`. Takes at most 512 KiB of
+// stack, as no call of this library takes more.
 // Refusals: 1, 5, 6, 7 to 11, 15 to 17 (mesh), 21 (mesh) of the first faulty minishard with the
-// position, 13 where the form would pass 1 GiB
+// position
+#[no_mangle]
+pub extern "C" fn coronagamba_unlisted(
+    sharding: Sharding,
+    shard: u64,
+    file: &[u8],
+    bytes: &mut u64,
+) -> u64
+    ensures answer { λ r. ⌜ r ≡ unlistedWord (unlistedAnswer sharding shard (now (file .entry))) ⌝ }
+    ensures bytes { λ _. ⌜ now (bytes .exit) ≡ unlistedAfter (unlistedAnswer sharding shard (now (file .entry))) (now (bytes .entry)) ⌝ }
+{
+    match unlisted::unlisted_count(sharding, shard, file) {
+        UnlistedAnswer::Count(n) => {
+            *bytes = n;
+            0
+        }
+        UnlistedAnswer::Refused(refusal) => refusal as u64,
+        UnlistedAnswer::Faulty {
+            number: refusal,
+            position,
+        } => position_word(refusal, position),
+    }
+}
+
+// How many bytes a shard's settled form has. Writes the number to `length`. Unlisted bytes are not in
+// it: a shard with some is refused unless `drop_unlisted` is 1; no other number asks to drop them.
+// Refusals: 1, 5, 6, 7 to 11, 15 to 17 (mesh), 21 (mesh) of the first faulty minishard with the
+// position, 22 where bytes are unlisted and not dropped, 13 where the form would pass 1 GiB
 #[no_mangle]
 pub extern "C" fn coronagamba_settled_length(
     sharding: Sharding,
     shard: u64,
     file: &[u8],
+    drop_unlisted: u8,
     length: &mut u64,
 ) -> u64
-    ensures answer { λ r. ⌜ r ≡ settleWord (lengthAnswer sharding shard (now (file .entry))) ⌝ }
-    ensures length { λ _. ⌜ now (length .exit) ≡ formAfter (lengthAnswer sharding shard (now (file .entry))) (now (length .entry)) ⌝ }
+    ensures answer { λ r. ⌜ r ≡ settleWord (lengthAnswer sharding shard (now (file .entry)) (asksToDrop «drop_unlisted»)) ⌝ }
+    ensures length { λ _. ⌜ now (length .exit) ≡ formAfter (lengthAnswer sharding shard (now (file .entry)) (asksToDrop «drop_unlisted»)) (now (length .entry)) ⌝ }
 {
-    match settle::settled_length(sharding, shard, file) {
+    match settle::settled_length(sharding, shard, file, drop_unlisted == 1) {
         SettleAnswer::Length(n) => {
             *length = n as u64;
             0
@@ -209,22 +241,25 @@ pub extern "C" fn coronagamba_settled_length(
 
 // A shard's settled form; in a mesh each manifest has its fragments right before it there too. Writes
 // it to the front of `out`, which needs the room that coronagamba_settled_length tells, and its
-// number of bytes to `length`.
+// number of bytes to `length`. Unlisted bytes are lost: a shard with some is refused unless
+// `drop_unlisted` is 1; no other number asks to drop them.
 // Refusals: 1, 5, 6, 7 to 11, 15 to 17 (mesh), 21 (mesh) of the first faulty minishard with the
-// position, 13 where `out` is shorter than the form or the form would pass 1 GiB
+// position, 22 where bytes are unlisted and not dropped, 13 where `out` is shorter than the form or
+// the form would pass 1 GiB
 #[no_mangle]
 pub extern "C" fn coronagamba_settle(
     sharding: Sharding,
     shard: u64,
     file: &[u8],
+    drop_unlisted: u8,
     out: &mut [u8],
     length: &mut u64,
 ) -> u64
-    ensures answer { λ r. ⌜ r ≡ settleWord (settleAnswer sharding shard (now (file .entry)) (now (out .entry))) ⌝ }
-    ensures out { λ _. ⌜ now (out .exit) ≡ settleLeft sharding shard (now (file .entry)) (now (out .entry)) ⌝ }
-    ensures length { λ _. ⌜ now (length .exit) ≡ formAfter (settleAnswer sharding shard (now (file .entry)) (now (out .entry))) (now (length .entry)) ⌝ }
+    ensures answer { λ r. ⌜ r ≡ settleWord (settleAnswer sharding shard (now (file .entry)) (asksToDrop «drop_unlisted») (now (out .entry))) ⌝ }
+    ensures out { λ _. ⌜ now (out .exit) ≡ settleLeft sharding shard (now (file .entry)) (asksToDrop «drop_unlisted») (now (out .entry)) ⌝ }
+    ensures length { λ _. ⌜ now (length .exit) ≡ formAfter (settleAnswer sharding shard (now (file .entry)) (asksToDrop «drop_unlisted») (now (out .entry))) (now (length .entry)) ⌝ }
 {
-    match settle::settle(sharding, shard, file, out) {
+    match settle::settle(sharding, shard, file, drop_unlisted == 1, out) {
         SettleAnswer::Length(n) => {
             *length = n as u64;
             0

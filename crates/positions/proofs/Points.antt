@@ -35,6 +35,7 @@ use Rattle.shard.specs.File.{indexLength, indexPart, dataPart, fileChecks, chec
 use Rattle.shard.proofs.Judged.{entry-within}
 use Rattle.shard.proofs.Numbers.{file-called}
 use Rattle.shard.proofs.Whole.{check-names}
+use Rattle.shard.proofs.AfterCheck.{afterCheck}
 use Rattle.lookup.specs.declared.LookupAnswer.the-variants as L
 use Rattle.lookup.specs.Find.{unlisted, chosenChecks, lookupChecks, lookupAnswer}
 use Rattle.lookup.proofs.Refused.{lookup-refuses}
@@ -43,9 +44,13 @@ use Rattle.fragment.proofs.Handed.{fragment-faulty}
 use Rattle.listing.specs.declared.CountAnswer.the-variants as N
 use Rattle.listing.specs.Listing.{listingOf, countChecks, countAnswer, listingChecks, listingAnswer}
 use Rattle.listing.proofs.Refused.{count-refuses, listing-refuses}
+use Rattle.ranges.specs.Covered.{fileUnlisted}
+use Rattle.unlisted.specs.declared.UnlistedAnswer.the-variants as U
+use Rattle.unlisted.specs.Answers.{unlistedAnswer}
+use Rattle.unlisted.proofs.Counted.{unlisted-by-check}
 use Rattle.settle.specs.declared.SettleAnswer.the-variants as S
 use Rattle.settle.specs.Answers.{answerOf, lengthIn, settleIn, lengthAnswer, settleAnswer}
-use Rattle.settle.proofs.Answered.{afterCheck, length-by-check, settle-by-check}
+use Rattle.settle.proofs.Answered.{length-by-check, settle-by-check}
 use Rattle.positions.specs.Points.{AtEntry, AtFirst, AtIdStep, AtStartStep, Offending, seven, eight, nine, ten, eleven, fifteen, sixteen, seventeen, twentyone, PointsAt, Named}
 
 -- ---- which check a position is of
@@ -269,6 +274,18 @@ listing-points spec shard file m out k p e =
     let b = before-last (countChecks spec shard file m) (room (listingOf spec file m) out) refl (g .1) in
     counted spec shard file m k p (sym (b .0) ∙ g .0) (b .1)
 
+pub unlisted-named : (spec : Sharding) (shard : ℕ) (file : List ℕ) (k p : ℕ) → unlistedAnswer spec shard file ≡ U.Faulty k p → Named spec shard file k p
+unlisted-named spec shard file k p e = go (checkAnswer spec shard file) refl (sym (unlisted-by-check spec shard file) ∙ e)
+  where
+    go : (c : CheckAnswer) → checkAnswer spec shard file ≡ c → afterCheck U.Refused U.Faulty c (U.Count (fileUnlisted spec file)) ≡ U.Faulty k p → Named spec shard file k p
+    go Sound q e = let z : _≡_ {A = ℕ} 0 1 = cc in absurd (omega arith)
+    go (CheckRefused j) q e = let z : _≡_ {A = ℕ} 0 1 = cc in absurd (omega arith)
+    go (Faulty j m i) q e =
+        let u : j ≡ k = cc in
+        let v : i ≡ p = cc in
+        let t : checkAnswer spec shard file ≡ Faulty k m p = rw (u, v) at q in
+        record { minishard = m; named = t; points = check-points spec shard file k m p t }
+
 module _ (spec : Sharding) (shard : ℕ) (file : List ℕ) (k p : ℕ) where
   named : (c : CheckAnswer) (w : Written) → checkAnswer spec shard file ≡ c → afterCheck S.Refused S.Faulty c (answerOf w) ≡ S.Faulty k p → Named spec shard file k p
   named Sound (Wrote n) q e = let z : _≡_ {A = ℕ} 0 1 = cc in absurd (omega arith)
@@ -280,9 +297,9 @@ module _ (spec : Sharding) (shard : ℕ) (file : List ℕ) (k p : ℕ) where
       let t : checkAnswer spec shard file ≡ Faulty k m p = rw (u, v) at q in
       record { minishard = m; named = t; points = check-points spec shard file k m p t }
 
-  pub length-named : lengthAnswer spec shard file ≡ S.Faulty k p → Named spec shard file k p
-  length-named e = named (checkAnswer spec shard file) (lengthIn spec (indexPart spec file) (dataPart spec file)) refl (sym (length-by-check spec shard file) ∙ e)
+  pub length-named : (dropping : Bool) → lengthAnswer spec shard file dropping ≡ S.Faulty k p → Named spec shard file k p
+  length-named dropping e = named (checkAnswer spec shard file) (lengthIn spec (indexPart spec file) (dataPart spec file) dropping) refl (sym (length-by-check spec shard file dropping) ∙ e)
 
-pub settle-named : (spec : Sharding) (shard : ℕ) (file out : List ℕ) (k p : ℕ) → settleAnswer spec shard file out ≡ S.Faulty k p → Named spec shard file k p
-settle-named spec shard file out k p e =
-    named spec shard file k p (checkAnswer spec shard file) (settleIn spec (indexPart spec file) (dataPart spec file) out) refl (sym (settle-by-check spec shard file out) ∙ e)
+pub settle-named : (spec : Sharding) (shard : ℕ) (file : List ℕ) (dropping : Bool) (out : List ℕ) (k p : ℕ) → settleAnswer spec shard file dropping out ≡ S.Faulty k p → Named spec shard file k p
+settle-named spec shard file dropping out k p e =
+    named spec shard file k p (checkAnswer spec shard file) (settleIn spec (indexPart spec file) (dataPart spec file) dropping out) refl (sym (settle-by-check spec shard file dropping out) ∙ e)

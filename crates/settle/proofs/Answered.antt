@@ -1,7 +1,7 @@
 -- What settling answers and leaves: by what the check said, and of a sound shard by the two cases, that the form is too long or that it is written.
 use Prim.Native.Nat.{ℕ, zero, suc, _≤_, _<_}
 use mathlib.Core.Path.{_≡_, refl, sym, _∙_}
-use mathlib.Core.Bool.{Bool, true, false, or-true}
+use mathlib.Core.Bool.{Bool, true, false, not, or-true, and-false}
 use mathlib.Core.Logic.{_⊎_, inl, inr}
 use mathlib.Core.List.{List, [], _∷_}
 use mathlib.Core.Option.{Option, none, some}
@@ -16,7 +16,7 @@ use Rattle.refusal.specs.declared.Written.{Written}
 use Rattle.refusal.specs.declared.Written.the-variants.{Length as Wrote, Refused as NotWritten}
 use Rattle.refusal.proofs.Picks.{by-picks}
 use Rattle.refusal.proofs.Refusing.{answered-both}
-use Rattle.refusal.proofs.Positions.{at-both, at-plain}
+use Rattle.refusal.proofs.Positions.{Plain, at-both, at-plain}
 use Rattle.sharding.specs.declared.Sharding.{Sharding}
 use Rattle.sharding.specs.Specification.{noSuchShard}
 use Rattle.shard.specs.declared.CheckAnswer.{CheckAnswer}
@@ -27,10 +27,12 @@ use Rattle.shard.specs.File.{indexPart, dataPart, fileChecks, shardChecks, chec
 use Rattle.shard.specs.Sound.{SoundShard}
 use Rattle.shard.proofs.Numbers.{shard-in, shard-answer}
 use Rattle.shard.proofs.Whole.{sound-passes-check}
+use Rattle.shard.proofs.AfterCheck.{afterCheck, by-check}
+use Rattle.ranges.specs.Covered.{unlistedBytes, fileUnlisted}
 use Rattle.form.specs.Content.{formOf, formLength, fileForm, fileFormLength}
 use Rattle.form.proofs.Demand3.{file-form-length}
 use Rattle.settle.specs.declared.SettleAnswer.the-variants.{Length, Refused, Faulty}
-use Rattle.settle.specs.Answers.{answerOf, lengthCheck, lengthIn, tooLong, settleCheck, settleIn, leftIn, lengthChecks, lengthAnswer, settleChecks, settleAnswer, settleLeft}
+use Rattle.settle.specs.Answers.{answerOf, losesBytes, unlistedCheck, lengthCheck, lengthIn, tooLong, settleCheck, settleIn, leftIn, lengthChecks, lengthAnswer, settleChecks, settleAnswer, settleLeft}
 
 -- ---- 13
 
@@ -59,39 +61,35 @@ unfolding tooLong
 not-long n out h g = rw (le-ltb (length out) n h, le-ltb mostShardBytes n g)
 
 -- a shard of two parts
-module _ (spec : Sharding) (index d : List ℕ) where
-  pub length-in : lengthIn spec index d ≡ pick (ltb mostShardBytes (formLength spec index d)) (NotWritten 13) (Wrote (formLength spec index d))
-  unfolding lengthIn lengthCheck
-  length-in = by-picks NotWritten (lengthCheck spec index d ∷ []) (Wrote (formLength spec index d)) refl
+module _ (spec : Sharding) (index d : List ℕ) (dropping : Bool) where
+  pub length-in : lengthIn spec index d dropping
+      ≡ pick (losesBytes spec index d dropping) (NotWritten 22) (pick (ltb mostShardBytes (formLength spec index d)) (NotWritten 13) (Wrote (formLength spec index d)))
+  unfolding lengthIn unlistedCheck lengthCheck
+  length-in = by-picks NotWritten (unlistedCheck spec index d dropping ∷ lengthCheck spec index d ∷ []) (Wrote (formLength spec index d)) refl
 
-  pub settle-in : (out : List ℕ) → settleIn spec index d out ≡ pick (tooLong (formLength spec index d) out) (NotWritten 13) (Wrote (formLength spec index d))
-  unfolding settleIn settleCheck
-  settle-in out = by-picks NotWritten (settleCheck spec index d out ∷ []) (Wrote (formLength spec index d)) refl
+  pub settle-in : (out : List ℕ) → settleIn spec index d dropping out
+      ≡ pick (losesBytes spec index d dropping) (NotWritten 22) (pick (tooLong (formLength spec index d) out) (NotWritten 13) (Wrote (formLength spec index d)))
+  unfolding settleIn unlistedCheck settleCheck
+  settle-in out = by-picks NotWritten (unlistedCheck spec index d dropping ∷ settleCheck spec index d out ∷ []) (Wrote (formLength spec index d)) refl
 
-  pub left-in : (out : List ℕ) → leftIn spec index d out ≡ pick (tooLong (formLength spec index d) out) out (over (formOf spec index d) out)
-  unfolding leftIn settleCheck
-  left-in out = by-picks (λ k. out) (settleCheck spec index d out ∷ []) (over (formOf spec index d) out) refl
+  pub left-in : (out : List ℕ) → leftIn spec index d dropping out
+      ≡ pick (losesBytes spec index d dropping) out (pick (tooLong (formLength spec index d) out) out (over (formOf spec index d) out))
+  unfolding leftIn unlistedCheck settleCheck
+  left-in out = by-picks (λ k. out) (unlistedCheck spec index d dropping ∷ settleCheck spec index d out ∷ []) (over (formOf spec index d) out) refl
+
+-- ---- 22
+
+-- no byte is lost where the caller asks to drop them, or where there is none
+pub none-lost : (spec : Sharding) (index d : List ℕ) {dropping : Bool} → (dropping ≡ true) ⊎ (unlistedBytes spec index d ≡ 0) → losesBytes spec index d dropping ≡ false
+unfolding losesBytes
+none-lost spec index d (inl e) = rw e
+none-lost spec index d {dropping} (inr e) = rw e (and-false (not dropping))
+
+pub some-lost : (spec : Sharding) (index d : List ℕ) → 0 < unlistedBytes spec index d → losesBytes spec index d false ≡ true
+unfolding losesBytes
+some-lost spec index d l = lt-ltb 0 (unlistedBytes spec index d) l
 
 -- ---- after the check
-
--- what a call answers that goes on where the check passes: the refusal of the check, without the minishard, or else a
-abbrev pub afterCheck : {A : Type 0} → (ℕ → A) → (ℕ → ℕ → A) → CheckAnswer → A → A
-afterCheck r at Sound a = a
-afterCheck r at (CheckRefused k) a = r k
-afterCheck r at (CheckFaulty k m p) a = at k p
-
-module _ {A : Type 0} (r : ℕ → A) (at : ℕ → ℕ → A) (a : A) where
-  after-of : (n k m p : ℕ) → unless r n (unless (λ j. at j p) k a) ≡ afterCheck r at (unless CheckRefused n (unless (λ j. CheckFaulty j m p) k Sound)) a
-  unfolding unless
-  after-of zero zero m p = refl
-  after-of zero (suc k) m p = refl
-  after-of (suc n) k m p = refl
-
-  by-check : (spec : Sharding) (shard : ℕ) (file : List ℕ) → answeredAt r at (shardChecks spec shard file) a ≡ afterCheck r at (checkAnswer spec shard file) a
-  unfolding checkAnswer
-  by-check spec shard file =
-      let f = shardFault spec shard (indexPart spec file) (dataPart spec file) in
-      shard-answer spec shard file r at a ∙ after-of (firstNumber (fileChecks spec (noSuchShard spec shard) file)) (f .number) (f .minishard) (f .position)
 
 -- what is left is the same, with a position or without
 left-at : {B : Type 0} (checks : List Check) (after before : B) → left checks after before ≡ answeredAt (λ k. before) (λ k p. before) checks after
@@ -101,38 +99,46 @@ left-at checks after before = go (firstPosition checks)
     go none = refl
     go (some p) = refl
 
--- 13, which has none
+-- 22 and 13, which have none
 answer-unless : (k : ℕ) (w : Written) → unless Refused k (answerOf w) ≡ answerOf (unless NotWritten k w)
 unfolding unless
 answer-unless zero w = refl
 answer-unless (suc k) w = refl
 
-last-answer : (c : Check) (n : ℕ) → c .position ≡ none → answeredAt Refused Faulty (c ∷ []) (Length n) ≡ answerOf (answered NotWritten (c ∷ []) (Wrote n))
-last-answer c n e = at-plain Refused Faulty (c ∷ []) (Length n) (e, tt) ∙ answer-unless (firstNumber (c ∷ [])) (Wrote n)
+last-answer : (cs : List Check) (n : ℕ) → Plain cs → answeredAt Refused Faulty cs (Length n) ≡ answerOf (answered NotWritten cs (Wrote n))
+last-answer cs n e = at-plain Refused Faulty cs (Length n) e ∙ answer-unless (firstNumber cs) (Wrote n)
 
-module _ (spec : Sharding) (shard : ℕ) (file : List ℕ) where
-  pub length-by-check : lengthAnswer spec shard file ≡ afterCheck Refused Faulty (checkAnswer spec shard file) (answerOf (lengthIn spec (indexPart spec file) (dataPart spec file)))
-  unfolding lengthAnswer lengthChecks lengthIn lengthCheck
+module _ (spec : Sharding) (shard : ℕ) (file : List ℕ) (dropping : Bool) where
+  pub length-by-check : lengthAnswer spec shard file dropping
+      ≡ afterCheck Refused Faulty (checkAnswer spec shard file) (answerOf (lengthIn spec (indexPart spec file) (dataPart spec file) dropping))
+  unfolding lengthAnswer lengthChecks lengthIn unlistedCheck lengthCheck
   length-by-check =
-      let c = lengthCheck spec (indexPart spec file) (dataPart spec file) in
-      at-both Refused Faulty (shardChecks spec shard file) (c ∷ []) _ (shard-in spec shard file)
-      ∙ rw (last-answer c (fileFormLength spec file) refl) (by-check Refused Faulty _ spec shard file)
+      let cs = unlistedCheck spec (indexPart spec file) (dataPart spec file) dropping ∷ lengthCheck spec (indexPart spec file) (dataPart spec file) ∷ [] in
+      at-both Refused Faulty (shardChecks spec shard file) cs _ (shard-in spec shard file)
+      ∙ rw (last-answer cs (fileFormLength spec file) (refl, (refl, tt))) (by-check Refused Faulty _ spec shard file)
 
-  pub settle-by-check : (out : List ℕ) → settleAnswer spec shard file out ≡ afterCheck Refused Faulty (checkAnswer spec shard file) (answerOf (settleIn spec (indexPart spec file) (dataPart spec file) out))
-  unfolding settleAnswer settleChecks settleIn settleCheck
+  pub settle-by-check : (out : List ℕ) → settleAnswer spec shard file dropping out
+      ≡ afterCheck Refused Faulty (checkAnswer spec shard file) (answerOf (settleIn spec (indexPart spec file) (dataPart spec file) dropping out))
+  unfolding settleAnswer settleChecks settleIn unlistedCheck settleCheck
   settle-by-check out =
-      let c = settleCheck spec (indexPart spec file) (dataPart spec file) out in
-      at-both Refused Faulty (shardChecks spec shard file) (c ∷ []) _ (shard-in spec shard file)
-      ∙ rw (last-answer c (fileFormLength spec file) refl) (by-check Refused Faulty _ spec shard file)
+      let cs = unlistedCheck spec (indexPart spec file) (dataPart spec file) dropping ∷ settleCheck spec (indexPart spec file) (dataPart spec file) out ∷ [] in
+      at-both Refused Faulty (shardChecks spec shard file) cs _ (shard-in spec shard file)
+      ∙ rw (last-answer cs (fileFormLength spec file) (refl, (refl, tt))) (by-check Refused Faulty _ spec shard file)
 
-  pub left-by-check : (out : List ℕ) → settleLeft spec shard file out ≡ afterCheck (λ k. out) (λ k p. out) (checkAnswer spec shard file) (leftIn spec (indexPart spec file) (dataPart spec file) out)
+  pub left-by-check : (out : List ℕ) → settleLeft spec shard file dropping out
+      ≡ afterCheck (λ k. out) (λ k p. out) (checkAnswer spec shard file) (leftIn spec (indexPart spec file) (dataPart spec file) dropping out)
   unfolding settleLeft settleChecks leftIn
   left-by-check out =
-      answered-both (λ k. out) (shardChecks spec shard file) (settleCheck spec (indexPart spec file) (dataPart spec file) out ∷ []) _ (shard-in spec shard file)
+      let cs = unlistedCheck spec (indexPart spec file) (dataPart spec file) dropping ∷ settleCheck spec (indexPart spec file) (dataPart spec file) out ∷ [] in
+      answered-both (λ k. out) (shardChecks spec shard file) cs _ (shard-in spec shard file)
       ∙ left-at (shardChecks spec shard file) _ out
       ∙ by-check (λ k. out) (λ k p. out) _ spec shard file
 
 -- ---- a sound shard
+
+-- settling does not refuse it for its unlisted bytes
+abbrev pub Ready : Sharding → List ℕ → Bool → Type 0
+Ready spec file dropping = (dropping ≡ true) ⊎ (fileUnlisted spec file ≡ 0)
 
 module _ {spec : Sharding} {shard : ℕ} {file : List ℕ} (sound : SoundShard spec shard file) where
   goes-on : {A : Type 0} (r : ℕ → A) (at : ℕ → ℕ → A) (a : A) → afterCheck r at (checkAnswer spec shard file) a ≡ a
@@ -142,60 +148,72 @@ module _ {spec : Sharding} {shard : ℕ} {file : List ℕ} (sound : SoundShard s
   pick-answer true n = refl
   pick-answer false n = refl
 
-  length-sound : lengthAnswer spec shard file ≡ pick (ltb mostShardBytes (fileFormLength spec file)) (Refused 13) (Length (fileFormLength spec file))
-  length-sound = length-by-check spec shard file ∙ goes-on Refused Faulty _ ∙ rw (length-in spec (indexPart spec file) (dataPart spec file)) (pick-answer (ltb mostShardBytes (fileFormLength spec file)) (fileFormLength spec file))
+  -- 22
+  module _ (l : 0 < fileUnlisted spec file) where
+    pub length-lost : lengthAnswer spec shard file false ≡ Refused 22
+    length-lost = length-by-check spec shard file false ∙ goes-on Refused Faulty _ ∙ rw (length-in spec (indexPart spec file) (dataPart spec file) false, some-lost spec (indexPart spec file) (dataPart spec file) l)
 
-  answer-sound : (out : List ℕ) → settleAnswer spec shard file out ≡ pick (tooLong (fileFormLength spec file) out) (Refused 13) (Length (fileFormLength spec file))
-  answer-sound out = settle-by-check spec shard file out ∙ goes-on Refused Faulty _ ∙ rw (settle-in spec (indexPart spec file) (dataPart spec file) out) (pick-answer (tooLong (fileFormLength spec file) out) (fileFormLength spec file))
+    pub answer-lost : (out : List ℕ) → settleAnswer spec shard file false out ≡ Refused 22
+    answer-lost out = settle-by-check spec shard file false out ∙ goes-on Refused Faulty _ ∙ rw (settle-in spec (indexPart spec file) (dataPart spec file) false out, some-lost spec (indexPart spec file) (dataPart spec file) l)
 
-  left-sound : (out : List ℕ) → settleLeft spec shard file out ≡ pick (tooLong (fileFormLength spec file) out) out (over (fileForm spec file) out)
-  left-sound out = left-by-check spec shard file out ∙ goes-on (λ k. out) (λ k p. out) _ ∙ left-in spec (indexPart spec file) (dataPart spec file) out
+    pub left-lost : (out : List ℕ) → settleLeft spec shard file false out ≡ out
+    left-lost out = left-by-check spec shard file false out ∙ goes-on (λ k. out) (λ k p. out) _ ∙ left-in spec (indexPart spec file) (dataPart spec file) false out ∙ rw (some-lost spec (indexPart spec file) (dataPart spec file) l)
 
-  -- its settled length
-  pub length-long : mostShardBytes < length (fileForm spec file) → lengthAnswer spec shard file ≡ Refused 13
-  length-long h = let n = file-form-length spec file in length-sound ∙ rw (lt-ltb mostShardBytes (fileFormLength spec file) (omega arith))
+  module _ {dropping : Bool} (ready : Ready spec file dropping) where
+    length-sound : lengthAnswer spec shard file dropping ≡ pick (ltb mostShardBytes (fileFormLength spec file)) (Refused 13) (Length (fileFormLength spec file))
+    length-sound = length-by-check spec shard file dropping ∙ goes-on Refused Faulty _ ∙ rw (length-in spec (indexPart spec file) (dataPart spec file) dropping, none-lost spec (indexPart spec file) (dataPart spec file) ready) (pick-answer (ltb mostShardBytes (fileFormLength spec file)) (fileFormLength spec file))
 
-  pub length-fits : length (fileForm spec file) ≤ mostShardBytes → lengthAnswer spec shard file ≡ Length (length (fileForm spec file))
-  length-fits h = let n = file-form-length spec file in length-sound ∙ rw (le-ltb mostShardBytes (fileFormLength spec file) (omega arith), n)
+    answer-sound : (out : List ℕ) → settleAnswer spec shard file dropping out ≡ pick (tooLong (fileFormLength spec file) out) (Refused 13) (Length (fileFormLength spec file))
+    answer-sound out = settle-by-check spec shard file dropping out ∙ goes-on Refused Faulty _ ∙ rw (settle-in spec (indexPart spec file) (dataPart spec file) dropping out, none-lost spec (indexPart spec file) (dataPart spec file) ready) (pick-answer (tooLong (fileFormLength spec file) out) (fileFormLength spec file))
 
-  module _ (out : List ℕ) where
-    -- the form is too long
-    pub answer-long : (length out < length (fileForm spec file)) ⊎ (mostShardBytes < length (fileForm spec file)) → settleAnswer spec shard file out ≡ Refused 13
-    answer-long h = answer-sound out ∙ rw (too-long (fileFormLength spec file) out (rw (file-form-length spec file) at h))
+    left-sound : (out : List ℕ) → settleLeft spec shard file dropping out ≡ pick (tooLong (fileFormLength spec file) out) out (over (fileForm spec file) out)
+    left-sound out = left-by-check spec shard file dropping out ∙ goes-on (λ k. out) (λ k p. out) _ ∙ left-in spec (indexPart spec file) (dataPart spec file) dropping out ∙ rw (none-lost spec (indexPart spec file) (dataPart spec file) ready)
 
-    pub left-long : (length out < length (fileForm spec file)) ⊎ (mostShardBytes < length (fileForm spec file)) → settleLeft spec shard file out ≡ out
-    left-long h = left-sound out ∙ rw (too-long (fileFormLength spec file) out (rw (file-form-length spec file) at h))
+    -- its settled length
+    pub length-long : mostShardBytes < length (fileForm spec file) → lengthAnswer spec shard file dropping ≡ Refused 13
+    length-long h = let n = file-form-length spec file in length-sound ∙ rw (lt-ltb mostShardBytes (fileFormLength spec file) (omega arith))
 
-    -- it is not
-    pub answer-fits : length (fileForm spec file) ≤ length out → length (fileForm spec file) ≤ mostShardBytes → settleAnswer spec shard file out ≡ Length (length (fileForm spec file))
-    answer-fits h g =
-        let n = file-form-length spec file in
-        answer-sound out ∙ rw (not-long (fileFormLength spec file) out (omega arith) (omega arith), n)
+    pub length-fits : length (fileForm spec file) ≤ mostShardBytes → lengthAnswer spec shard file dropping ≡ Length (length (fileForm spec file))
+    length-fits h = let n = file-form-length spec file in length-sound ∙ rw (le-ltb mostShardBytes (fileFormLength spec file) (omega arith), n)
 
-    pub left-fits : length (fileForm spec file) ≤ length out → length (fileForm spec file) ≤ mostShardBytes → settleLeft spec shard file out ≡ over (fileForm spec file) out
-    left-fits h g =
-        let n = file-form-length spec file in
-        left-sound out ∙ rw (not-long (fileFormLength spec file) out (omega arith) (omega arith))
+    module _ (out : List ℕ) where
+      -- the form is too long
+      pub answer-long : (length out < length (fileForm spec file)) ⊎ (mostShardBytes < length (fileForm spec file)) → settleAnswer spec shard file dropping out ≡ Refused 13
+      answer-long h = answer-sound out ∙ rw (too-long (fileFormLength spec file) out (rw (file-form-length spec file) at h))
 
-    -- a refusal tells that the form is too long
-    pub refused-long : (number : ℕ) (p : Option ℕ) → settleAnswer spec shard file out ≡ refusal Refused Faulty number p
-        → (number ≡ 13) × (p ≡ none) × ((length out < length (fileForm spec file)) ⊎ (mostShardBytes < length (fileForm spec file)))
-    refused-long number p e = rw (file-form-length spec file) (by-test (tooLong (fileFormLength spec file) out) p refl e)
-      where
-        by-test : (b : Bool) (q : Option ℕ) → tooLong (fileFormLength spec file) out ≡ b → settleAnswer spec shard file out ≡ refusal Refused Faulty number q
-            → (number ≡ 13) × (q ≡ none) × ((length out < fileFormLength spec file) ⊎ (mostShardBytes < fileFormLength spec file))
-        by-test true none t e =
-            let f : Refused 13 ≡ Refused number = rw t at (sym (answer-sound out) ∙ e) in
-            (cc, refl, long-cases (fileFormLength spec file) out t)
-        by-test true (some q) t e =
-            let f : Refused 13 ≡ Faulty number q = rw t at (sym (answer-sound out) ∙ e) in
-            let z : _≡_ {A = ℕ} 0 1 = cc in
-            absurd (omega arith)
-        by-test false none t e =
-            let f : Length (fileFormLength spec file) ≡ Refused number = rw t at (sym (answer-sound out) ∙ e) in
-            let z : _≡_ {A = ℕ} 0 1 = cc in
-            absurd (omega arith)
-        by-test false (some q) t e =
-            let f : Length (fileFormLength spec file) ≡ Faulty number q = rw t at (sym (answer-sound out) ∙ e) in
-            let z : _≡_ {A = ℕ} 0 1 = cc in
-            absurd (omega arith)
+      pub left-long : (length out < length (fileForm spec file)) ⊎ (mostShardBytes < length (fileForm spec file)) → settleLeft spec shard file dropping out ≡ out
+      left-long h = left-sound out ∙ rw (too-long (fileFormLength spec file) out (rw (file-form-length spec file) at h))
+
+      -- it is not
+      pub answer-fits : length (fileForm spec file) ≤ length out → length (fileForm spec file) ≤ mostShardBytes → settleAnswer spec shard file dropping out ≡ Length (length (fileForm spec file))
+      answer-fits h g =
+          let n = file-form-length spec file in
+          answer-sound out ∙ rw (not-long (fileFormLength spec file) out (omega arith) (omega arith), n)
+
+      pub left-fits : length (fileForm spec file) ≤ length out → length (fileForm spec file) ≤ mostShardBytes → settleLeft spec shard file dropping out ≡ over (fileForm spec file) out
+      left-fits h g =
+          let n = file-form-length spec file in
+          left-sound out ∙ rw (not-long (fileFormLength spec file) out (omega arith) (omega arith))
+
+      -- a refusal tells that the form is too long
+      pub refused-long : (number : ℕ) (p : Option ℕ) → settleAnswer spec shard file dropping out ≡ refusal Refused Faulty number p
+          → (number ≡ 13) × (p ≡ none) × ((length out < length (fileForm spec file)) ⊎ (mostShardBytes < length (fileForm spec file)))
+      refused-long number p e = rw (file-form-length spec file) (by-test (tooLong (fileFormLength spec file) out) p refl e)
+        where
+          by-test : (b : Bool) (q : Option ℕ) → tooLong (fileFormLength spec file) out ≡ b → settleAnswer spec shard file dropping out ≡ refusal Refused Faulty number q
+              → (number ≡ 13) × (q ≡ none) × ((length out < fileFormLength spec file) ⊎ (mostShardBytes < fileFormLength spec file))
+          by-test true none t e =
+              let f : Refused 13 ≡ Refused number = rw t at (sym (answer-sound out) ∙ e) in
+              (cc, refl, long-cases (fileFormLength spec file) out t)
+          by-test true (some q) t e =
+              let f : Refused 13 ≡ Faulty number q = rw t at (sym (answer-sound out) ∙ e) in
+              let z : _≡_ {A = ℕ} 0 1 = cc in
+              absurd (omega arith)
+          by-test false none t e =
+              let f : Length (fileFormLength spec file) ≡ Refused number = rw t at (sym (answer-sound out) ∙ e) in
+              let z : _≡_ {A = ℕ} 0 1 = cc in
+              absurd (omega arith)
+          by-test false (some q) t e =
+              let f : Length (fileFormLength spec file) ≡ Faulty number q = rw t at (sym (answer-sound out) ∙ e) in
+              let z : _≡_ {A = ℕ} 0 1 = cc in
+              absurd (omega arith)

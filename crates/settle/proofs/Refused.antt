@@ -1,6 +1,7 @@
 -- Settling refuses by its checks, and then leaves the output as it was.
 use Prim.Native.Nat.{ℕ}
 use mathlib.Core.Path.{_≡_}
+use mathlib.Core.Bool.{Bool}
 use mathlib.Core.List.{List}
 use mathlib.Core.Option.{Option}
 use native.Mathlib.Omega.{arith}
@@ -11,26 +12,26 @@ use Rattle.sharding.specs.declared.Sharding.{Sharding}
 use Rattle.shard.specs.File.{shardChecks}
 use Rattle.shard.proofs.Numbers.{shard-in}
 use Rattle.settle.specs.declared.SettleAnswer.the-variants.{Refused, Faulty}
-use Rattle.settle.specs.Answers.{lengthCheck, settleCheck, lengthChecks, lengthAnswer, settleChecks, settleAnswer, settleLeft}
+use Rattle.settle.specs.Answers.{unlistedCheck, lengthCheck, settleCheck, lengthChecks, lengthAnswer, settleChecks, settleAnswer, settleLeft}
 
-module _ (spec : Sharding) (shard : ℕ) (file : List ℕ) where
-  lengths-in : AllIn (lengthChecks spec shard file)
-  unfolding lengthChecks lengthCheck
-  lengths-in = all-in-both (shardChecks spec shard file) _ (shard-in spec shard file) ((omega arith, omega arith), tt)
+module _ (spec : Sharding) (shard : ℕ) (file : List ℕ) (dropping : Bool) where
+  lengths-in : AllIn (lengthChecks spec shard file dropping)
+  unfolding lengthChecks unlistedCheck lengthCheck
+  lengths-in = all-in-both (shardChecks spec shard file) _ (shard-in spec shard file) ((omega arith, omega arith), ((omega arith, omega arith), tt))
 
-  pub length-refuses : RefusesAt (lengthAnswer spec shard file) Refused Faulty (lengthChecks spec shard file)
+  pub length-refuses : RefusesAt (lengthAnswer spec shard file dropping) Refused Faulty (lengthChecks spec shard file dropping)
   unfolding lengthAnswer
-  length-refuses = refusing-at Refused Faulty (λ j k e. cc) (λ j k p q e. (cc, cc)) (λ j k p e. cc) (lengthChecks spec shard file) _ (λ k e. cc) (λ k p e. cc) lengths-in
+  length-refuses = refusing-at Refused Faulty (λ j k e. cc) (λ j k p q e. (cc, cc)) (λ j k p e. cc) (lengthChecks spec shard file dropping) _ (λ k e. cc) (λ k p e. cc) lengths-in
 
   module _ (out : List ℕ) where
-    settles-in : AllIn (settleChecks spec shard file out)
-    unfolding settleChecks settleCheck
-    settles-in = all-in-both (shardChecks spec shard file) _ (shard-in spec shard file) ((omega arith, omega arith), tt)
+    settles-in : AllIn (settleChecks spec shard file dropping out)
+    unfolding settleChecks unlistedCheck settleCheck
+    settles-in = all-in-both (shardChecks spec shard file) _ (shard-in spec shard file) ((omega arith, omega arith), ((omega arith, omega arith), tt))
 
-    pub settle-refuses : RefusesAt (settleAnswer spec shard file out) Refused Faulty (settleChecks spec shard file out)
+    pub settle-refuses : RefusesAt (settleAnswer spec shard file dropping out) Refused Faulty (settleChecks spec shard file dropping out)
     unfolding settleAnswer
-    settle-refuses = refusing-at Refused Faulty (λ j k e. cc) (λ j k p q e. (cc, cc)) (λ j k p e. cc) (settleChecks spec shard file out) _ (λ k e. cc) (λ k p e. cc) settles-in
+    settle-refuses = refusing-at Refused Faulty (λ j k e. cc) (λ j k p q e. (cc, cc)) (λ j k p e. cc) (settleChecks spec shard file dropping out) _ (λ k e. cc) (λ k p e. cc) settles-in
 
-    pub settle-kept : (k : ℕ) (p : Option ℕ) → settleAnswer spec shard file out ≡ refusal Refused Faulty k p → settleLeft spec shard file out ≡ out
+    pub settle-kept : (k : ℕ) (p : Option ℕ) → settleAnswer spec shard file dropping out ≡ refusal Refused Faulty k p → settleLeft spec shard file dropping out ≡ out
     unfolding settleAnswer settleLeft
-    settle-kept k p e = keeping-at Refused Faulty (λ j k e. cc) (λ j k p q e. (cc, cc)) (λ j k p e. cc) (settleChecks spec shard file out) _ (λ k e. cc) (λ k p e. cc) _ out k p e
+    settle-kept k p e = keeping-at Refused Faulty (λ j k e. cc) (λ j k p q e. (cc, cc)) (λ j k p e. cc) (settleChecks spec shard file dropping out) _ (λ k e. cc) (λ k p e. cc) _ out k p e

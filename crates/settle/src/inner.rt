@@ -7,10 +7,11 @@ ghost use Rattle.refusal.specs.Buffer.{over};
 ghost use Rattle.endian.specs.Little.{row};
 ghost use Rattle.endian.specs.Place.{paste};
 ghost use Rattle.index.specs.Index.{mostShardBytes};
+ghost use Rattle.unlisted.specs.Reading.{RangedShard};
 ghost use Rattle.form.specs.Form.{partOf, settled};
 ghost use Rattle.form.specs.Content.{itemsOf, byId, contentFrom, formOf, formLength};
 ghost use Rattle.minishard.specs.Writing.{capped};
-ghost use Rattle.settle.specs.Answers.{lengthIn, settleIn, leftIn};
+ghost use Rattle.settle.specs.Answers.{losesBytes, lengthIn, settleIn, leftIn};
 ghost use Rattle.settle.specs.Writing.{SettleableIn, SettleableParts, SettleableShard, oneLength, wholeLength, entryBytes};
 use endian::inner::put_u64;
 use endian::inner::read_u64;
@@ -21,6 +22,7 @@ use refusal::Written;
 use shard::inner::MOST_SHARD_BYTES;
 use sharding::Sharding;
 use sharding::inner::minishard_count;
+use unlisted::inner::unlisted;
 
 // ---- one minishard
 
@@ -133,11 +135,25 @@ fn form_length(spec: Sharding, index: &[u8], data: &[u8]) -> usize
 
 // ---- a shard of two parts that passed the check
 
-// The length of its settled form, or refusal 13.
-pub fn length_answer(spec: Sharding, index: &[u8], data: &[u8]) -> Written
-    requires { ⌜ SettleableShard spec (now index) (now «data») ⌝ }
-    ensures { λ r. ⌜ r ≡ lengthIn spec (now (index .entry)) (now («data» .entry)) ⌝ }
+// Whether bytes would be lost that the caller does not ask to drop. They are counted only then.
+fn loses_bytes(spec: Sharding, index: &[u8], data: &[u8], dropping: bool) -> bool
+    requires { ⌜ RangedShard spec (now index) (now «data») ⌝ }
+    ensures { λ r. ⌜ r ≡ losesBytes spec (now (index .entry)) (now («data» .entry)) dropping ⌝ }
 {
+    if dropping {
+        return false;
+    }
+    0 < unlisted(spec, index, data)
+}
+
+// The length of its settled form, or refusal 22 or 13.
+pub fn length_answer(spec: Sharding, index: &[u8], data: &[u8], dropping: bool) -> Written
+    requires { ⌜ SettleableShard spec (now index) (now «data») × RangedShard spec (now index) (now «data») ⌝ }
+    ensures { λ r. ⌜ r ≡ lengthIn spec (now (index .entry)) (now («data» .entry)) dropping ⌝ }
+{
+    if loses_bytes(spec, index, data, dropping) {
+        return Written::Refused(22);
+    }
     let len = form_length(spec, index, data);
     if MOST_SHARD_BYTES < len {
         return Written::Refused(13);
@@ -145,12 +161,21 @@ pub fn length_answer(spec: Sharding, index: &[u8], data: &[u8]) -> Written
     Written::Length(len)
 }
 
-// Its settled form at the front of `out`, or refusal 13, decided before the first byte is written.
-pub fn settle_answer(spec: Sharding, index: &[u8], data: &[u8], out: &mut [u8]) -> Written
-    requires { ⌜ SettleableShard spec (now index) (now «data») ⌝ }
-    ensures { λ r. ⌜ r ≡ settleIn spec (now (index .entry)) (now («data» .entry)) (now (out .entry)) ⌝ }
-    ensures { λ _. ⌜ now (out .exit) ≡ leftIn spec (now (index .entry)) (now («data» .entry)) (now (out .entry)) ⌝ }
+// Its settled form at the front of `out`, or refusal 22 or 13, decided before the first byte is written.
+pub fn settle_answer(
+    spec: Sharding,
+    index: &[u8],
+    data: &[u8],
+    dropping: bool,
+    out: &mut [u8],
+) -> Written
+    requires { ⌜ SettleableShard spec (now index) (now «data») × RangedShard spec (now index) (now «data») ⌝ }
+    ensures { λ r. ⌜ r ≡ settleIn spec (now (index .entry)) (now («data» .entry)) dropping (now (out .entry)) ⌝ }
+    ensures { λ _. ⌜ now (out .exit) ≡ leftIn spec (now (index .entry)) (now («data» .entry)) dropping (now (out .entry)) ⌝ }
 {
+    if loses_bytes(spec, index, data, dropping) {
+        return Written::Refused(22);
+    }
     let len = form_length(spec, index, data);
     if MOST_SHARD_BYTES < len {
         return Written::Refused(13);

@@ -9,8 +9,8 @@ use shard::check::check;
 use shard::inner::index_length;
 use sharding::Sharding;
 
-// What settling answers: the length of the settled form, or the refusal. 7 to 11, for a mesh also 15 to 17 and 21, come
-// with the byte position of what is wrong, counted from the beginning of the shard.
+// What settling answers: the length of the settled form, or the refusal. The faults of a minishard come with the byte position of
+// what is wrong, counted from the beginning of the shard.
 pub enum SettleAnswer {
     Length(usize),
     Refused(u8),
@@ -26,14 +26,14 @@ fn answer_of(written: Written) -> SettleAnswer
     }
 }
 
-// The length of the settled form of a sound shard, or the refusal.
-pub fn settled_length(spec: Sharding, shard: u64, file: &[u8]) -> SettleAnswer
-    ensures answer { λ r. ⌜ r ≡ lengthAnswer spec shard (now (file .entry)) ⌝ }
+// The length of the settled form of a sound shard, or the refusal. Unlisted bytes are refused unless the caller asks for `dropping` them.
+pub fn settled_length(spec: Sharding, shard: u64, file: &[u8], dropping: bool) -> SettleAnswer
+    ensures answer { λ r. ⌜ r ≡ lengthAnswer spec shard (now (file .entry)) dropping ⌝ }
 {
     match check(spec, shard, file) {
         CheckAnswer::Sound => {
             let n = index_length(spec);
-            answer_of(inner::length_answer(spec, &file[..n], &file[n..]))
+            answer_of(inner::length_answer(spec, &file[..n], &file[n..], dropping))
         }
         CheckAnswer::Refused(number) => SettleAnswer::Refused(number),
         CheckAnswer::Faulty {
@@ -44,15 +44,22 @@ pub fn settled_length(spec: Sharding, shard: u64, file: &[u8]) -> SettleAnswer
     }
 }
 
-// Writes the settled form of a sound shard to the front of `out`. A refusal leaves `out` as it was.
-pub fn settle(spec: Sharding, shard: u64, file: &[u8], out: &mut [u8]) -> SettleAnswer
-    ensures answer { λ r. ⌜ r ≡ settleAnswer spec shard (now (file .entry)) (now (out .entry)) ⌝ }
-    ensures out { λ _. ⌜ now (out .exit) ≡ settleLeft spec shard (now (file .entry)) (now (out .entry)) ⌝ }
+// Writes the settled form of a sound shard to the front of `out`; what is unlisted is refused, or dropped where the caller asks for it.
+// A refusal leaves `out` as it was.
+pub fn settle(
+    spec: Sharding,
+    shard: u64,
+    file: &[u8],
+    dropping: bool,
+    out: &mut [u8],
+) -> SettleAnswer
+    ensures answer { λ r. ⌜ r ≡ settleAnswer spec shard (now (file .entry)) dropping (now (out .entry)) ⌝ }
+    ensures out { λ _. ⌜ now (out .exit) ≡ settleLeft spec shard (now (file .entry)) dropping (now (out .entry)) ⌝ }
 {
     match check(spec, shard, file) {
         CheckAnswer::Sound => {
             let n = index_length(spec);
-            answer_of(inner::settle_answer(spec, &file[..n], &file[n..], out))
+            answer_of(inner::settle_answer(spec, &file[..n], &file[n..], dropping, out))
         }
         CheckAnswer::Refused(number) => SettleAnswer::Refused(number),
         CheckAnswer::Faulty {

@@ -13,3 +13,4 @@ pub mod Leads
 pub mod Items
 pub mod Chunks
 pub mod Earlier
+pub mod AfterCheck

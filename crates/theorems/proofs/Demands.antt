@@ -1,11 +1,19 @@
 -- The demands hold: each from the laws of the crates' definitions.
-use mathlib.Core.Path.{ap, _∙_}
-use mathlib.Core.Logic.{inl, inr}
+use mathlib.Core.Path.{_≡_, ap, _∙_}
+use mathlib.Core.Bool.{Bool, true}
+use mathlib.Core.Logic.{_⊎_, inl, inr}
+use mathlib.Core.List.{List}
+use Prim.Native.Nat.{ℕ}
 use native.Mathlib.Omega.{arith, by-contra}
 use Rattle.grid.proofs.Laws.{keyed, cell-gives-key-gives-cell, accepted-key}
+use Rattle.sharding.specs.declared.Sharding.{Sharding}
+use Rattle.shard.specs.File.{indexPart, dataPart}
 use Rattle.shard.proofs.Leads.{volume-leads}
 use Rattle.shard.proofs.Chunks.{same-listing-is-same-chunks}
 use Rattle.shard.proofs.Whole.{check-number, check-refuses, check-passes-sound, sound-passes-check, check-passes, check-names}
+use Rattle.ranges.specs.Covered.{fileUnlisted}
+use Rattle.ranges.proofs.Meaning.{none-unlisted}
+use Rattle.unlisted.proofs.Counted.{unlisted-refuses}
 use Rattle.lookup.proofs.Refused.{lookup-refuses}
 use Rattle.lookup.proofs.Retrieval.{listed-chunk-is-handed-out, twelve-means-not-listed}
 use Rattle.lookup.proofs.Depends.{lookup-depends-only-on-these}
@@ -22,7 +30,7 @@ use Rattle.settle.proofs.Demand3.{demand-3-form-settles, demand-3-length, deman
 use Rattle.card.proofs.Meaning.{one-meaning-one-card}
 use Rattle.document.proofs.Meaning.{meaning}
 use Rattle.nodes.proofs.Each.{node-numbers}
-use Rattle.theorems.specs.Demands.{Demand1, Demand2, Demand3}
+use Rattle.theorems.specs.Demands.{Demand1, Demand2, Ready, Demand3}
 use Rattle.theorems.proofs.Calls.{grid-refuses, key-refuses, keys-refuses, keys-kept, cover-refuses, cover-kept, cell-refuses, bounds-refuses, chunk-name-refuses, chunk-name-kept, place-refuses, places-refuses, places-kept, shard-name-refuses, shard-name-kept, card-read-refuses, card-write-refuses, card-kept, manifest-refuses, header-refuses, field-refuses, node-refuses, nodes-refuses, nodes-kept, corners-refuses}
 
 pub demand-1 : Demand1
@@ -48,6 +56,7 @@ demand-1 =
       named = check-names;
       formLength = length-refuses;
       settle = settle-refuses;
+      unlisted = unlisted-refuses;
       cardRead = card-read-refuses;
       cardWritten = card-write-refuses;
       infoRead = meaning .refused;
@@ -87,6 +96,11 @@ demand-2 =
       info = meaning;
     }
 
+-- as the laws of settling take it
+ready : (spec : Sharding) (a : List ℕ) {dropping : Bool} → Ready spec a dropping → (dropping ≡ true) ⊎ (fileUnlisted spec a ≡ 0)
+ready spec a (inl e) = inl e
+ready spec a (inr h) = inr (none-unlisted spec (indexPart spec a) (dataPart spec a) .1 h)
+
 pub demand-3 : Demand3
 demand-3 =
     record {
@@ -96,10 +110,10 @@ demand-3 =
       one = λ spec shard a b. demand-3-one-form;
       passes = λ spec shard a. demand-3-form-passes;
       lists = λ spec shard a. demand-3-form-lists;
-      again = λ spec shard a out f s. demand-3-form-settles f s out;
-      refused = λ spec shard a out f. demand-3-refused f out;
-      written = λ spec shard a out f n. demand-3-written f out (by-contra _ _ (λ l. n (inl l))) (by-contra _ _ (λ l. n (inr l)));
+      again = λ spec shard a dropping out f s. demand-3-form-settles f s dropping out;
+      refused = λ spec shard a dropping out f r. demand-3-refused f (ready spec a r) out;
+      written = λ spec shard a dropping out f r n. demand-3-written f (ready spec a r) out (by-contra _ _ (λ l. n (inl l))) (by-contra _ _ (λ l. n (inr l)));
       long = file-form-length;
-      measured = λ spec shard a f l. demand-3-length f l ∙ ap Length (file-form-length spec a);
-      unmeasured = λ spec shard a f l. demand-3-length-refused f (omega (arith, file-form-length spec a));
+      measured = λ spec shard a dropping f r l. demand-3-length f (ready spec a r) l ∙ ap Length (file-form-length spec a);
+      unmeasured = λ spec shard a dropping f r l. demand-3-length-refused f (ready spec a r) (omega (arith, file-form-length spec a));
     }

@@ -24,9 +24,9 @@ use Rattle.fragment.specs.Fragment.{fragmentBefore, noNode, fragmentChecks, fra
 use Rattle.form.specs.Sorted.{notAbove, insertBy, sortBy}
 use Rattle.form.specs.Form.{chunksOf, chunksLength, idRow, startRow, sizeRow, indexOf, partOf, partLength, partsFrom, partsLength, entryBegin, entryFinish, entriesFrom, settled, settledLength}
 use Rattle.form.specs.Content.{itemsFrom, itemsAt, byId, contentFrom, contentOf, formOf, formLength}
-use Rattle.settle.specs.Answers.{lengthCheck, lengthChecks, lengthAnswer}
+use Rattle.settle.specs.Answers.{losesBytes, unlistedCheck, lengthCheck, lengthChecks, lengthAnswer}
 use Rattle.theorems.specs.MeshCases.{meshAnswered, meshTable, words, oneLevel, oneNode, twoNodes, meshContent, settledMesh, otherMesh, shortMesh}
 
 pub mesh-cases-hold : map meshAnswered meshTable ≡ meshTable
-unfolding meshAnswered meshTable words oneLevel oneNode twoNodes meshContent settledMesh otherMesh shortMesh firstNumber firstPosition unless le leAt row sumTo every anyBelow first allowed hashedId shardOf minishardOf repeats idAt startAt firstOf zDigit zFrom wordAt isReal countOf sizeAt finiteBits aboveZero rightLength realFits realsFit inOrder levelRises riseAt nodesRise hasNode levelBytes fragmentStart fragmentsLength wrongLength badReal unorderedNodes fragmentsOutside manifestTests badEntry badLength foreign foreignAt outside entryTests faultAt faultOf orLater firstFault shardFault entryChecks minishardChecks minishardsChecks badFileLength fileChecks shardChecks checkAnswer leadLength itemOf itemAt isId chunkOf chosenChecks chosenChunk lookupChecks lookupAnswer fragmentBefore noNode fragmentChecks fragmentAnswer notAbove insertBy sortBy chunksOf chunksLength idRow startRow sizeRow indexOf partOf partLength partsFrom partsLength entryBegin entryFinish entriesFrom settled settledLength itemsFrom itemsAt byId contentFrom contentOf formOf formLength lengthCheck lengthChecks lengthAnswer
+unfolding meshAnswered meshTable words oneLevel oneNode twoNodes meshContent settledMesh otherMesh shortMesh firstNumber firstPosition unless le leAt row sumTo every anyBelow first allowed hashedId shardOf minishardOf repeats idAt startAt firstOf zDigit zFrom wordAt isReal countOf sizeAt finiteBits aboveZero rightLength realFits realsFit inOrder levelRises riseAt nodesRise hasNode levelBytes fragmentStart fragmentsLength wrongLength badReal unorderedNodes fragmentsOutside manifestTests badEntry badLength foreign foreignAt outside entryTests faultAt faultOf orLater firstFault shardFault entryChecks minishardChecks minishardsChecks badFileLength fileChecks shardChecks checkAnswer leadLength itemOf itemAt isId chunkOf chosenChecks chosenChunk lookupChecks lookupAnswer fragmentBefore noNode fragmentChecks fragmentAnswer notAbove insertBy sortBy chunksOf chunksLength idRow startRow sizeRow indexOf partOf partLength partsFrom partsLength entryBegin entryFinish entriesFrom settled settledLength itemsFrom itemsAt byId contentFrom contentOf formOf formLength losesBytes unlistedCheck lengthCheck lengthChecks lengthAnswer
 mesh-cases-hold = refl

@@ -2,11 +2,11 @@
 use Prim.Native.Nat.{ℕ, _<_}
 use mathlib.Core.Path.{_≡_, refl, sym, _∙_}
 use mathlib.Core.Bool.{Bool, true, false, not}
-use mathlib.Core.Logic.{⊎-elim}
+use mathlib.Core.Logic.{⊎-elim, inl}
 use mathlib.Core.List.{List, [], _∷_, _++_, append-assoc}
 use native.Mathlib.Omega.{arith}
 use lib.ListN.{length, take, getD}
-use Rattle.refusal.specs.Checks.{check}
+use Rattle.refusal.specs.Checks.{Check, check, firstNumber, firstPosition}
 use Rattle.refusal.specs.Buffer.{room}
 use Rattle.endian.specs.Little.{le}
 use Rattle.sharding.specs.declared.Sharding.{Sharding}
@@ -17,7 +17,7 @@ use Rattle.sharding.specs.Before.{allowedBefore}
 use Rattle.sharding.proofs.Allowed.{allowed-within}
 use Rattle.sharding.proofs.Before.{same-before}
 use Rattle.names.specs.Shards.{shardName, shardNameChecks}
-use Rattle.shard.specs.File.{badFileLength, fileChecks}
+use Rattle.shard.specs.File.{indexPart, dataPart, badFileLength, fileChecks, shardChecks}
 use Rattle.card.specs.declared.Card.{Card}
 use Rattle.card.specs.declared.CardAnswer.the-variants.{Says, Refused}
 use Rattle.card.specs.Layout.{head, field, oneByte, shardingBytes, volumeBytes, kindBytes, cardBytes}
@@ -30,10 +30,15 @@ use Rattle.shard.specs.Faults.{entryTests}
 use Rattle.shard.proofs.Leads.{volume-leads, mesh-leads}
 use Rattle.shard.proofs.Earlier.{earlier-sound, earlier-passes}
 use Rattle.form.proofs.Earlier.{earlier-form, volume-form}
+use Rattle.ranges.proofs.Meaning.{none-unlisted}
+use Rattle.unlisted.proofs.Counted.{unlisted-sound}
+use Rattle.shortest.proofs.Listed.{form-listed}
+use Rattle.settle.specs.Answers.{losesBytes, unlistedCheck, settleCheck, settleChecks, settleAnswer, settleLeft}
+use Rattle.settle.proofs.Answered.{length-lost, answer-lost, left-lost}
 use Rattle.settle.proofs.Demand3.{demand-3-written}
 use Rattle.cover.proofs.Laws.{listed-is, cell-listed, keys-rise, reversed-lists-none, outside-lists-none, keys-written}
-use Rattle.positions.proofs.Points.{check-points, lookup-points, fragment-points, count-points, listing-points, length-named, settle-named}
-use Rattle.theorems.specs.Orders.{Order2, Order4, Order5, Order6, Order7}
+use Rattle.positions.proofs.Points.{check-points, lookup-points, fragment-points, count-points, listing-points, unlisted-named, length-named, settle-named}
+use Rattle.theorems.specs.Orders.{Order2, Order4, Order5, Order6, Order7, settleChecksBefore, Order8}
 
 pub order-2 : Order2
 order-2 = record {
@@ -41,7 +46,7 @@ order-2 = record {
   form = earlier-form;
   settles = λ spec shard a out z h g.
       let e = earlier-form spec shard a z in
-      rw e at (demand-3-written (earlier-sound spec shard a z) out (rw e h) (rw e g));
+      rw e at (demand-3-written (earlier-sound spec shard a z) (inl refl) out (rw e h) (rw e g));
 }
 
 module _ (spec : Sharding) (e : allowedBefore spec ≡ true) where
@@ -99,7 +104,7 @@ order-5 = record {
 }
 
 pub order-6 : Order6
-order-6 = record { check = check-points; lookup = lookup-points; fragment = fragment-points; count = count-points; listing = listing-points; formLength = length-named; settle = settle-named }
+order-6 = record { check = check-points; lookup = lookup-points; fragment = fragment-points; count = count-points; listing = listing-points; unlisted = unlisted-named; formLength = λ spec shard file k p dropping. length-named spec shard file k p dropping; settle = settle-named }
 
 tag-8 : (spec : Sharding) → spec .kind ≡ mesh → kindBytes spec ≡ 8 ∷ 1 ∷ 0 ∷ 1 ∷ []
 unfolding kindBytes oneByte field head le
@@ -130,4 +135,23 @@ order-7 = record {
   meshBytes = mesh-bytes;
   kinds = no-third;
   info = meaning .kind;
+}
+
+-- 22, where it does not hold, is no check
+past-22 : (cs : List Check) (c : Check)
+    → (firstNumber (cs ++ (check 22 false ∷ c ∷ [])) ≡ firstNumber (cs ++ (c ∷ []))) × (firstPosition (cs ++ (check 22 false ∷ c ∷ [])) ≡ firstPosition (cs ++ (c ∷ [])))
+unfolding firstNumber firstPosition
+past-22 [] c = (refl, refl)
+past-22 (x ∷ cs) c = let e = past-22 cs c in rw (e .0, e .1) (refl, refl)
+
+pub order-8 : Order8
+order-8 = record {
+  counted = unlisted-sound;
+  none = λ spec a. none-unlisted spec (indexPart spec a) (dataPart spec a);
+  refused = λ spec shard a out s l. (answer-lost s l out, left-lost s l out);
+  unmeasured = λ spec shard a s l. length-lost s l;
+  asked = λ spec shard a out.
+      let e = past-22 (shardChecks spec shard a) (settleCheck spec (indexPart spec a) (dataPart spec a) out) in
+      unfold settleAnswer settleLeft settleChecks settleChecksBefore unlistedCheck losesBytes in rw (e .0, e .1) (refl, refl);
+  form = λ spec shard a. form-listed;
 }

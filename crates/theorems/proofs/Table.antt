@@ -25,11 +25,13 @@ use Rattle.shard.specs.Faults.{badEntry, badLength, foreign, foreignAt, outside
 use Rattle.shard.specs.Checks.{entryChecks, minishardChecks, minishardsChecks}
 use Rattle.shard.specs.File.{badFileLength, fileChecks, shardChecks}
 use Rattle.shard.specs.Items.{leadLength, itemOf, itemAt}
+use Rattle.bitmap.specs.Positions.{within, miss}
+use Rattle.ranges.specs.Covered.{itemStart, inItem, inItems, inMinishard, coveredBy, coveredIn, coveredAt, unlistedBytes}
 use Rattle.lookup.specs.Find.{isId, chunkOf, chosenChecks, chosenChunk, lookupChecks, lookupAnswer}
 use Rattle.form.specs.Sorted.{notAbove, insertBy, sortBy}
 use Rattle.form.specs.Form.{chunksOf, chunksLength, idRow, startRow, sizeRow, indexOf, partOf, partLength, partsFrom, partsLength, entryBegin, entryFinish, entriesFrom, settled, settledLength}
 use Rattle.form.specs.Content.{itemsFrom, itemsAt, byId, contentFrom, contentOf, formOf, formLength}
-use Rattle.settle.specs.Answers.{tooLong, settleCheck, settleChecks, settleAnswer, settleLeft}
+use Rattle.settle.specs.Answers.{losesBytes, unlistedCheck, tooLong, settleCheck, settleChecks, settleAnswer, settleLeft}
 use Rattle.zorder.specs.Order.{zDigit, zFrom}
 use Rattle.layout.specs.Layout.{itemAt as wordAt, isReal, countOf, sizeAt}
 use Rattle.layout.specs.Bits.{finiteBits, aboveZero, realAt}
@@ -49,5 +51,5 @@ others [] = []
 others (x ∷ xs) = xs
 
 pub cases-hold : map answered table ≡ table
-unfolding others answered table voxels shifted buffer content settledFile otherFile zeros real items manifest ofBits toBits add mul ofInt firstNumber firstPosition unless le leAt row sumTo every anyBelow first gridSize gridOf hasZero zeroExtent inGrid bitOf used count step steps keyOf keyBits tooManyBits into stepBack stepsBack cellOf isKey beginOf endOf beginPoint endPoint boundsOf noCell gridChecks gridAnswer keyChecks keyAnswer cellChecks cellAnswer boundsChecks boundsAnswer allowed hashedId shardOf minishardOf placeChecks placeAnswer digitByte digits shardDigits shardName shardNameChecks shardNameAnswer shardNameLeft idAt startAt badEntry badLength repeats foreign foreignAt outside entryTests entryChecks minishardChecks minishardsChecks badFileLength fileChecks shardChecks leadLength itemOf itemAt isId chunkOf chosenChecks chosenChunk lookupChecks lookupAnswer notAbove insertBy sortBy chunksOf chunksLength idRow startRow sizeRow indexOf partOf partLength partsFrom partsLength entryBegin entryFinish entriesFrom settled settledLength itemsFrom itemsAt byId contentFrom contentOf formOf formLength tooLong settleCheck settleChecks settleAnswer settleLeft zDigit zFrom wordAt isReal countOf sizeAt finiteBits aboveZero realAt rightLength realFits realsFit inOrder levelRises riseAt nodesRise manifestChecks headerAt hasNode levelBytes fragmentStart nodeIn nodeAt nodeChecks finite nearOf farOf nearCorner farCorner boxOf placed finiteCorner boxChecks cornersChecks cornersAnswer
+unfolding others answered table voxels shifted buffer content settledFile otherFile zeros real items manifest ofBits toBits add mul ofInt firstNumber firstPosition unless le leAt row sumTo every anyBelow first gridSize gridOf hasZero zeroExtent inGrid bitOf used count step steps keyOf keyBits tooManyBits into stepBack stepsBack cellOf isKey beginOf endOf beginPoint endPoint boundsOf noCell gridChecks gridAnswer keyChecks keyAnswer cellChecks cellAnswer boundsChecks boundsAnswer allowed hashedId shardOf minishardOf placeChecks placeAnswer digitByte digits shardDigits shardName shardNameChecks shardNameAnswer shardNameLeft idAt startAt badEntry badLength repeats foreign foreignAt outside entryTests entryChecks minishardChecks minishardsChecks badFileLength fileChecks shardChecks leadLength itemOf itemAt isId chunkOf chosenChecks chosenChunk lookupChecks lookupAnswer notAbove insertBy sortBy chunksOf chunksLength idRow startRow sizeRow indexOf partOf partLength partsFrom partsLength entryBegin entryFinish entriesFrom settled settledLength itemsFrom itemsAt byId contentFrom contentOf formOf formLength within miss itemStart inItem inItems inMinishard coveredBy coveredIn coveredAt unlistedBytes losesBytes unlistedCheck tooLong settleCheck settleChecks settleAnswer settleLeft zDigit zFrom wordAt isReal countOf sizeAt finiteBits aboveZero realAt rightLength realFits realsFit inOrder levelRises riseAt nodesRise manifestChecks headerAt hasNode levelBytes fragmentStart nodeIn nodeAt nodeChecks finite nearOf farOf nearCorner farCorner boxOf placed finiteCorner boxChecks cornersChecks cornersAnswer
 cases-hold = λ i. cells (voxels 1 1 1) (λ k. only k i) ∷ others table

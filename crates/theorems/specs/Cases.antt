@@ -1,5 +1,6 @@
 -- The cases that 01, 'Cases on each side', marks P, as one table: what is asked, and the answer that 01 gives.
 use Prim.Native.Nat.{ℕ, zero, suc, _-_, _^_}
+use mathlib.Core.Bool.{Bool, true, false}
 use mathlib.Core.List.{List, [], _∷_, _++_}
 use lib.Dec.{eqb}
 use lib.IntN.{ℤ, pos, negsuc}
@@ -57,10 +58,10 @@ pub data Case : Type 0 where
   place : Sharding → ℕ → PlaceAnswer → Case
   name : Sharding → ℕ → List ℕ → Written → List ℕ → Case
   -- of a specification and a shard's file: what it lists, minishard by minishard; its settled form and that form's length;
-  -- settling it as that shard number into a lent output, and the output then; the lookup of an id
+  -- settling it as that shard number, dropping what is unlisted or not, into a lent output, and the output then; the lookup of an id
   lists : Sharding → List ℕ → List (List Item) → Case
   form : Sharding → List ℕ → List ℕ → ℕ → Case
-  settles : Sharding → ℕ → List ℕ → List ℕ → SettleAnswer → List ℕ → Case
+  settles : Sharding → ℕ → List ℕ → Bool → List ℕ → SettleAnswer → List ℕ → Case
   lookup : Sharding → ℕ → List ℕ → ℕ → LookupAnswer → Case
   -- of a manifest: the corners of a level's node
   corners : List ℕ → ℕ → ℕ → CornersAnswer → Case
@@ -77,7 +78,7 @@ answered (place spec id a) = place spec id (placeAnswer spec id)
 answered (name spec shard out a left) = name spec shard out (shardNameAnswer spec shard out) (shardNameLeft spec shard out)
 answered (lists spec file l) = lists spec file (fileContent spec file)
 answered (form spec file s n) = form spec file (fileForm spec file) (fileFormLength spec file)
-answered (settles spec shard file out a left) = settles spec shard file out (settleAnswer spec shard file out) (settleLeft spec shard file out)
+answered (settles spec shard file dropping out a left) = settles spec shard file dropping out (settleAnswer spec shard file dropping out) (settleLeft spec shard file dropping out)
 answered (lookup spec shard file id a) = lookup spec shard file id (lookupAnswer spec shard file id)
 answered (corners s l i a) = corners s l i (cornersAnswer s l i)
 
@@ -199,8 +200,8 @@ table =
     ∷ lists (plain 0 1 0) settledFile content
     ∷ form (plain 0 1 0) otherFile settledFile 85
     ∷ form (plain 0 1 0) settledFile settledFile 85
-    ∷ settles (plain 0 1 0) 0 otherFile (zeros 87) (SettledLength 85) (settledFile ++ 0 ∷ 0 ∷ [])
-    ∷ settles (plain 0 1 0) 0 settledFile (zeros 85) (SettledLength 85) settledFile
+    ∷ settles (plain 0 1 0) 0 otherFile true (zeros 87) (SettledLength 85) (settledFile ++ 0 ∷ 0 ∷ [])
+    ∷ settles (plain 0 1 0) 0 settledFile false (zeros 85) (SettledLength 85) settledFile
     -- id 10 is bytes 34 up to 37, end excluded; ids 6 and 7 give 12
     ∷ lookup (plain 0 1 0) 0 settledFile 10 (Found 34 3)
     ∷ lookup (plain 0 1 0) 0 settledFile 6 (NotFound 12)

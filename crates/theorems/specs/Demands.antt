@@ -1,7 +1,7 @@
 -- The three demands, sentence by sentence, of the definitions that the entry points' contracts cite. Proved in proofs/Demands.antt.
 use Prim.Native.Nat.{ℕ, _*_, _≤_, _<_}
 use mathlib.Core.Path.{_≡_}
-use mathlib.Core.Bool.{true, false}
+use mathlib.Core.Bool.{Bool, true, false}
 use mathlib.Core.Logic.{_↔_, _⊎_}
 use mathlib.Core.List.{List, _++_}
 use mathlib.Core.Option.{Option, none}
@@ -36,6 +36,9 @@ use Rattle.shard.specs.File.{indexLength, indexPart, dataPart, fileChecks, shar
 use Rattle.shard.specs.Sound.{SoundMinishard, SoundShard, FirstFaultIs}
 use Rattle.shard.specs.Items.{Item}
 use Rattle.shard.specs.Lists.{ListsAt, ListsIn, ListsItem, SameListing, SameChunks}
+use Rattle.ranges.specs.Ranges.{Unlisted}
+use Rattle.unlisted.specs.declared.UnlistedAnswer.the-variants as U
+use Rattle.unlisted.specs.Answers.{unlistedAnswer}
 use Rattle.lookup.specs.declared.LookupAnswer.the-variants as L
 use Rattle.lookup.specs.Find.{lookupChecks, lookupAnswer}
 use Rattle.lookup.specs.Lookups.{Asked, HandsOut, AgreeFor, SameAnswer}
@@ -90,8 +93,9 @@ pub record Demand1 : Type 0 where
   pub checked : (spec : Sharding) (shard : ℕ) (file : List ℕ) → checkNumber (checkAnswer spec shard file) ≡ firstNumber (shardChecks spec shard file)
   pub passed : (spec : Sharding) (shard : ℕ) (file : List ℕ) → (checkAnswer spec shard file ≡ Sound) ↔ (firstNumber (shardChecks spec shard file) ≡ 0)
   pub named : (spec : Sharding) (shard : ℕ) (file : List ℕ) (k m p : ℕ) → (checkAnswer spec shard file ≡ Faulty k m p) ↔ FirstFaultIs spec shard file k m p
-  pub formLength : (spec : Sharding) (shard : ℕ) (file : List ℕ) → RefusesAt (lengthAnswer spec shard file) S.Refused S.Faulty (lengthChecks spec shard file)
-  pub settle : (spec : Sharding) (shard : ℕ) (file out : List ℕ) → RefusesAt (settleAnswer spec shard file out) S.Refused S.Faulty (settleChecks spec shard file out)
+  pub formLength : (spec : Sharding) (shard : ℕ) (file : List ℕ) (dropping : Bool) → RefusesAt (lengthAnswer spec shard file dropping) S.Refused S.Faulty (lengthChecks spec shard file dropping)
+  pub settle : (spec : Sharding) (shard : ℕ) (file : List ℕ) (dropping : Bool) (out : List ℕ) → RefusesAt (settleAnswer spec shard file dropping out) S.Refused S.Faulty (settleChecks spec shard file dropping out)
+  pub unlisted : (spec : Sharding) (shard : ℕ) (file : List ℕ) → RefusesAt (unlistedAnswer spec shard file) U.Refused U.Faulty (shardChecks spec shard file)
   pub cardRead : (s : List ℕ) → Refuses (readAnswer s) D.Refused (readChecks s)
   pub cardWritten : (c : Card) (out : List ℕ) → Refuses (writeAnswer c out) Refused (writeChecks c out)
   pub infoRead : (s : List ℕ) (k : ℕ) → Refuses (infoAnswer s k) D.Refused (infoChecks s k)
@@ -109,7 +113,7 @@ pub record Demand1 : Type 0 where
   pub chunkNameKept : (v : Volume) (c : Cell) (out : List ℕ) (k : ℕ) → chunkNameAnswer v c out ≡ Refused k → chunkNameLeft v c out ≡ out
   pub shardNameKept : (spec : Sharding) (shard : ℕ) (out : List ℕ) (k : ℕ) → shardNameAnswer spec shard out ≡ Refused k → shardNameLeft spec shard out ≡ out
   pub listingKept : (spec : Sharding) (shard : ℕ) (file : List ℕ) (m : ℕ) (out : List ℕ) (k : ℕ) (p : Option ℕ) → listingAnswer spec shard file m out ≡ refusal N.Refused N.Faulty k p → listingLeft spec shard file m out ≡ out
-  pub settleKept : (spec : Sharding) (shard : ℕ) (file out : List ℕ) (k : ℕ) (p : Option ℕ) → settleAnswer spec shard file out ≡ refusal S.Refused S.Faulty k p → settleLeft spec shard file out ≡ out
+  pub settleKept : (spec : Sharding) (shard : ℕ) (file : List ℕ) (dropping : Bool) (out : List ℕ) (k : ℕ) (p : Option ℕ) → settleAnswer spec shard file dropping out ≡ refusal S.Refused S.Faulty k p → settleLeft spec shard file dropping out ≡ out
   pub cardKept : (c : Card) (out : List ℕ) (k : ℕ) → writeAnswer c out ≡ Refused k → writeLeft c out ≡ out
   pub nodesKept : (s : List ℕ) (l : ℕ) (out : List ℕ) (k : ℕ) → nodesAnswer s l out ≡ Refused k → nodesLeft s l out ≡ out
 
@@ -187,8 +191,12 @@ abbrev pub TooLong : Sharding → List ℕ → List ℕ → Type 0
 TooLong spec a out = (length out < length (fileForm spec a)) ⊎ (mostShardBytes < length (fileForm spec a))
 
 -- settling `a` into `out` reports the length of `form` and writes exactly it: past it the output is as it was
-abbrev pub Settles : Sharding → ℕ → List ℕ → List ℕ → List ℕ → Type 0
-Settles spec shard a form out = (settleAnswer spec shard a out ≡ S.Length (length form)) × (settleLeft spec shard a out ≡ over form out)
+abbrev pub Settles : Sharding → ℕ → List ℕ → Bool → List ℕ → List ℕ → Type 0
+Settles spec shard a dropping form out = (settleAnswer spec shard a dropping out ≡ S.Length (length form)) × (settleLeft spec shard a dropping out ≡ over form out)
+
+-- "Demand 3 holds as before when dropping is asked, and otherwise for shards with no unlisted byte." (order 8)
+abbrev pub Ready : Sharding → List ℕ → Bool → Type 0
+Ready spec a dropping = (dropping ≡ true) ⊎ ((p : ℕ) → Unlisted spec (indexPart spec a) (dataPart spec a) p → ⊥)
 
 pub record Demand3 : Type 0 where
   -- To pass the check is to be sound.
@@ -205,17 +213,17 @@ pub record Demand3 : Type 0 where
   pub passes : (spec : Sharding) (shard : ℕ) (a : List ℕ) → SoundShard spec shard a → Short spec a → Passes spec shard (fileForm spec a)
   -- lists exactly what its original lists,
   pub lists : (spec : Sharding) (shard : ℕ) (a : List ℕ) → SoundShard spec shard a → Short spec a → SameListing spec a (fileForm spec a)
-  -- and settles to itself in every output that is long enough for it.
-  pub again : (spec : Sharding) (shard : ℕ) (a out : List ℕ) → SoundShard spec shard a → Short spec a
-      → length (fileForm spec a) ≤ length out → Settles spec shard (fileForm spec a) (fileForm spec a) out
+  -- and settles to itself in every output that is long enough for it, whatever is asked.
+  pub again : (spec : Sharding) (shard : ℕ) (a : List ℕ) (dropping : Bool) (out : List ℕ) → SoundShard spec shard a → Short spec a
+      → length (fileForm spec a) ≤ length out → Settles spec shard (fileForm spec a) dropping (fileForm spec a) out
   -- Settling a sound shard is refused exactly when its form is longer than the output or than 1 GiB, and then with 13, which has no position;
-  pub refused : (spec : Sharding) (shard : ℕ) (a out : List ℕ) → SoundShard spec shard a
-      → (number : ℕ) (p : Option ℕ) → (settleAnswer spec shard a out ≡ refusal S.Refused S.Faulty number p) ↔ ((number ≡ 13) × (p ≡ none) × TooLong spec a out)
+  pub refused : (spec : Sharding) (shard : ℕ) (a : List ℕ) (dropping : Bool) (out : List ℕ) → SoundShard spec shard a → Ready spec a dropping
+      → (number : ℕ) (p : Option ℕ) → (settleAnswer spec shard a dropping out ≡ refusal S.Refused S.Faulty number p) ↔ ((number ≡ 13) × (p ≡ none) × TooLong spec a out)
   -- otherwise it writes exactly that form and reports its length.
-  pub written : (spec : Sharding) (shard : ℕ) (a out : List ℕ) → SoundShard spec shard a
-      → (TooLong spec a out → ⊥) → Settles spec shard a (fileForm spec a) out
+  pub written : (spec : Sharding) (shard : ℕ) (a : List ℕ) (dropping : Bool) (out : List ℕ) → SoundShard spec shard a → Ready spec a dropping
+      → (TooLong spec a out → ⊥) → Settles spec shard a dropping (fileForm spec a) out
   -- The form is as long as its length, a whole number of any size, says; the settled length of a sound shard is answered with it, or
   -- with 13 where it is above 1 GiB.
   pub long : (spec : Sharding) (a : List ℕ) → length (fileForm spec a) ≡ fileFormLength spec a
-  pub measured : (spec : Sharding) (shard : ℕ) (a : List ℕ) → SoundShard spec shard a → Short spec a → lengthAnswer spec shard a ≡ S.Length (fileFormLength spec a)
-  pub unmeasured : (spec : Sharding) (shard : ℕ) (a : List ℕ) → SoundShard spec shard a → mostShardBytes < fileFormLength spec a → lengthAnswer spec shard a ≡ S.Refused 13
+  pub measured : (spec : Sharding) (shard : ℕ) (a : List ℕ) (dropping : Bool) → SoundShard spec shard a → Ready spec a dropping → Short spec a → lengthAnswer spec shard a dropping ≡ S.Length (fileFormLength spec a)
+  pub unmeasured : (spec : Sharding) (shard : ℕ) (a : List ℕ) (dropping : Bool) → SoundShard spec shard a → Ready spec a dropping → mostShardBytes < fileFormLength spec a → lengthAnswer spec shard a dropping ≡ S.Refused 13

@@ -1,5 +1,6 @@
 -- Worked cases of mesh shards (02, order 7), in one table.
 use Prim.Native.Nat.{ℕ, _-_, _^_}
+use mathlib.Core.Bool.{true}
 use mathlib.Core.List.{List, [], _∷_, _++_}
 use Rattle.endian.specs.Little.{le, row}
 use Rattle.sharding.specs.declared.Sharding.{Sharding}
@@ -20,7 +21,7 @@ use Rattle.settle.specs.Answers.{lengthAnswer}
 -- ---- what a case asks and what it expects
 
 -- of a specification and a file: what it lists, minishard by minishard; its settled form; as that shard number: the verdict, the length of its settled
--- form, the lookup of an id, and the fragment of a level's node in the manifest of an id
+-- form, what is unlisted dropped, the lookup of an id, and the fragment of a level's node in the manifest of an id
 pub data MeshCase : Type 0 where
   listing : Sharding → List ℕ → List (List Item) → MeshCase
   settled : Sharding → List ℕ → List ℕ → MeshCase
@@ -34,7 +35,7 @@ unfoldable pub meshAnswered : MeshCase → MeshCase
 meshAnswered (listing spec file l) = listing spec file (fileContent spec file)
 meshAnswered (settled spec file s) = settled spec file (fileForm spec file)
 meshAnswered (check spec shard file a) = check spec shard file (checkAnswer spec shard file)
-meshAnswered (long spec shard file a) = long spec shard file (lengthAnswer spec shard file)
+meshAnswered (long spec shard file a) = long spec shard file (lengthAnswer spec shard file true)
 meshAnswered (find spec shard file id a) = find spec shard file id (lookupAnswer spec shard file id)
 meshAnswered (fragment spec shard file id level node a) = fragment spec shard file id level node (fragmentAnswer spec shard file id level node)
 

@@ -5,7 +5,7 @@ use mathlib.Core.Bool.{Bool, true, false, not}
 use mathlib.Core.Logic.{_↔_}
 use mathlib.Core.List.{List, [], _∷_, _++_, List·Memᴰ}
 use lib.ListN.{length, take, getD}
-use Rattle.refusal.specs.Checks.{check}
+use Rattle.refusal.specs.Checks.{Check, check, left, answeredAt}
 use Rattle.refusal.specs.Buffer.{over, room}
 use Rattle.refusal.specs.declared.Written.the-variants.{Length}
 use Rattle.grid.specs.declared.Cell.{Cell}
@@ -30,17 +30,22 @@ use Rattle.index.specs.Tests.{entryTest}
 use Rattle.manifests.specs.Mesh.{wrongLength, badReal, unorderedNodes, fragmentsOutside}
 use Rattle.shard.specs.Faults.{idTest, placeTest, endTest, entryTests}
 use Rattle.shard.specs.Items.{leadLength}
-use Rattle.shard.specs.File.{badFileLength, fileChecks, checkAnswer}
+use Rattle.shard.specs.File.{indexPart, dataPart, badFileLength, fileChecks, shardChecks, checkAnswer}
 use Rattle.shard.specs.Before.{PassedBefore}
+use Rattle.shard.specs.Sound.{SoundShard}
+use Rattle.ranges.specs.Ranges.{Unlisted}
+use Rattle.ranges.specs.Covered.{fileUnlisted}
+use Rattle.unlisted.specs.declared.UnlistedAnswer.the-variants as U
+use Rattle.unlisted.specs.Answers.{unlistedAnswer}
 use Rattle.lookup.specs.declared.LookupAnswer.the-variants as L
 use Rattle.lookup.specs.Find.{lookupAnswer}
 use Rattle.fragment.specs.Fragment.{fragmentAnswer}
 use Rattle.listing.specs.declared.CountAnswer.the-variants as N
 use Rattle.listing.specs.Listing.{countAnswer, listingAnswer}
-use Rattle.form.specs.Content.{fileForm}
+use Rattle.form.specs.Content.{fileForm, fileFormLength}
 use Rattle.form.specs.Before.{fileFormBefore, fileFormBeforeMesh}
 use Rattle.settle.specs.declared.SettleAnswer.the-variants as S
-use Rattle.settle.specs.Answers.{lengthAnswer, settleAnswer, settleLeft}
+use Rattle.settle.specs.Answers.{settleCheck, lengthAnswer, settleAnswer, settleLeft}
 use Rattle.positions.specs.Points.{PointsAt, Named}
 use Rattle.card.specs.declared.Card.{Card}
 use Rattle.card.specs.declared.CardAnswer.the-variants.{Says, Refused}
@@ -55,9 +60,9 @@ pub record Order2 : Type 0 where
   pub passes : (spec : Sharding) (shard : ℕ) (a : List ℕ) → PassedBefore spec shard a → checkAnswer spec shard a ≡ Sound
   -- its settled form is what it was,
   pub form : (spec : Sharding) (shard : ℕ) (a : List ℕ) → PassedBefore spec shard a → fileForm spec a ≡ fileFormBefore spec a
-  -- and where that has room, settling writes these bytes and reports their length.
+  -- and where that has room, settling, asked to drop what is unlisted as it always did, writes these bytes and reports their length.
   pub settles : (spec : Sharding) (shard : ℕ) (a out : List ℕ) → PassedBefore spec shard a → length (fileFormBefore spec a) ≤ length out → length (fileFormBefore spec a) ≤ mostShardBytes
-      → (settleAnswer spec shard a out ≡ S.Length (length (fileFormBefore spec a))) × (settleLeft spec shard a out ≡ over (fileFormBefore spec a) out)
+      → (settleAnswer spec shard a true out ≡ S.Length (length (fileFormBefore spec a))) × (settleLeft spec shard a true out ≡ over (fileFormBefore spec a) out)
 
 -- Order 4: "Existing shards and cards keep their bytes and meaning." Since order 7 it "speaks of volume cards".
 pub record Order4 : Type 0 where
@@ -115,9 +120,10 @@ pub record Order6 : Type 0 where
   -- of the minishard that is listed.
   pub count : (spec : Sharding) (shard : ℕ) (file : List ℕ) (m k p : ℕ) → countAnswer spec shard file m ≡ N.Faulty k p → PointsAt spec shard file m k p
   pub listing : (spec : Sharding) (shard : ℕ) (file : List ℕ) (m : ℕ) (out : List ℕ) (k p : ℕ) → listingAnswer spec shard file m out ≡ N.Faulty k p → PointsAt spec shard file m k p
-  -- Settling gives what the check gives, without the minishard.
-  pub formLength : (spec : Sharding) (shard : ℕ) (file : List ℕ) (k p : ℕ) → lengthAnswer spec shard file ≡ S.Faulty k p → Named spec shard file k p
-  pub settle : (spec : Sharding) (shard : ℕ) (file out : List ℕ) (k p : ℕ) → settleAnswer spec shard file out ≡ S.Faulty k p → Named spec shard file k p
+  -- Settling, and the count of unlisted bytes, give what the check gives, without the minishard.
+  pub unlisted : (spec : Sharding) (shard : ℕ) (file : List ℕ) (k p : ℕ) → unlistedAnswer spec shard file ≡ U.Faulty k p → Named spec shard file k p
+  pub formLength : (spec : Sharding) (shard : ℕ) (file : List ℕ) (k p : ℕ) (dropping : Bool) → lengthAnswer spec shard file dropping ≡ S.Faulty k p → Named spec shard file k p
+  pub settle : (spec : Sharding) (shard : ℕ) (file : List ℕ) (dropping : Bool) (out : List ℕ) (k p : ℕ) → settleAnswer spec shard file dropping out ≡ S.Faulty k p → Named spec shard file k p
 
 -- Order 7: "In a mesh shard each chunk must be a sound manifest, and its fragments are the bytes before it, as many as the sum of its sizes." The
 -- demands say it of both kinds. "card tag 8, one byte of 1, means mesh and is absent for volume, so a mesh card has 50 or 65 bytes. Readers from before answer it
@@ -148,3 +154,24 @@ pub record Order7 : Type 0 where
   pub kinds : (spec : Sharding) → mesh < spec .kind → allowed spec ≡ false
   -- "the info reader yields volume".
   pub info : (s : List ℕ) (k : ℕ) (c : Card) → infoAnswer s k ≡ Says c → c .sharding .kind ≡ volume
+
+-- the checks of settling before order 8: those of the check, then 13
+unfoldable pub settleChecksBefore : Sharding → ℕ → List ℕ → List ℕ → List Check
+settleChecksBefore spec shard file out = shardChecks spec shard file ++ (settleCheck spec (indexPart spec file) (dataPart spec file) out ∷ [])
+
+-- Order 8: "Settling now refuses such a shard unless the caller asks to drop them."
+pub record Order8 : Type 0 where
+  -- The count of unlisted bytes, which a sound shard is answered with, is above 0 exactly when there is one: "An unlisted byte lies past the shard
+  -- index in no listed chunk, no fragment and no nonempty minishard index."
+  pub counted : (spec : Sharding) (shard : ℕ) (a : List ℕ) → SoundShard spec shard a → unlistedAnswer spec shard a ≡ U.Count (fileUnlisted spec a)
+  pub none : (spec : Sharding) (a : List ℕ) → (fileUnlisted spec a ≡ 0) ↔ ((p : ℕ) → Unlisted spec (indexPart spec a) (dataPart spec a) p → ⊥)
+  -- A sound shard that has some is refused with 22, whatever the output's length, and the output is as it was;
+  pub refused : (spec : Sharding) (shard : ℕ) (a out : List ℕ) → SoundShard spec shard a → 0 < fileUnlisted spec a
+      → (settleAnswer spec shard a false out ≡ S.Refused 22) × (settleLeft spec shard a false out ≡ out)
+  pub unmeasured : (spec : Sharding) (shard : ℕ) (a : List ℕ) → SoundShard spec shard a → 0 < fileUnlisted spec a → lengthAnswer spec shard a false ≡ S.Refused 22
+  -- asked to drop them, settling answers and writes what it did before there was a choice: the check's refusals, then 13.
+  pub asked : (spec : Sharding) (shard : ℕ) (a out : List ℕ)
+      → (settleAnswer spec shard a true out ≡ answeredAt S.Refused S.Faulty (settleChecksBefore spec shard a out) (S.Length (fileFormLength spec a)))
+      × (settleLeft spec shard a true out ≡ left (settleChecksBefore spec shard a out) (over (fileForm spec a) out) out)
+  -- A settled form has none.
+  pub form : (spec : Sharding) (shard : ℕ) (a : List ℕ) → SoundShard spec shard a → length (fileForm spec a) ≤ mostShardBytes → fileUnlisted spec (fileForm spec a) ≡ 0

@@ -2,7 +2,7 @@
 
 use crate::runner::{bytes, numbers, pass, touched, Measure};
 use bench::plain::meshes as plain;
-use coronagamba::{Shard, Sharding};
+use coronagamba::{Shard, Sharding, Unlisted};
 use reference::settle::{form_of, Triple};
 use std::hint::black_box;
 
@@ -114,6 +114,20 @@ fn checks(sample: &Sample) {
     );
 }
 
+/// The count of unlisted bytes, which begins with the check, beside the library's
+/// own check; timed by manifest. There are none.
+fn counting(sample: &Sample) {
+    Measure {
+        name: "mesh unlisted, in file order, beside the check",
+        operations: MANIFESTS,
+        bar: Some(1.2),
+    }
+    .run(
+        || sample.open().unlisted().unwrap_or(u64::MAX),
+        || u64::from(sample.open().check().is_err()),
+    );
+}
+
 /// Settling, timed by KiB of output; the limit copies the file.
 fn settling(sample: &Sample) {
     let name = "mesh settling, 256 MiB in 2^16 manifests, a KiB";
@@ -125,7 +139,12 @@ fn settling(sample: &Sample) {
         bar: Some(1.3),
     };
     measure.run_beside(
-        || sample.open().settle(black_box(&mut ours)).unwrap_or(0) as u64,
+        || {
+            sample
+                .open()
+                .settle(Unlisted::Drop, black_box(&mut ours))
+                .unwrap_or(0) as u64
+        },
         || {
             let file = black_box(&sample.file);
             plain::settle(&sample.sharding, 0, file, black_box(&mut theirs)).unwrap_or(0) as u64
@@ -168,6 +187,7 @@ fn fragments(sample: &Sample) {
 pub fn run() {
     let sample = sample();
     checks(&sample);
+    counting(&sample);
     settling(&sample);
     fragments(&sample);
 }

@@ -1,8 +1,8 @@
-//! Lookup, the whole-shard check and settling.
+//! Lookup, the whole-shard check, the count of unlisted bytes and settling.
 
 use crate::runner::{bytes, numbers, pass, touched, Measure};
 use bench::plain::shards as plain;
-use coronagamba::{Shard, Sharding};
+use coronagamba::{Shard, Sharding, Unlisted};
 use reference::settle::settled_form;
 use std::hint::black_box;
 
@@ -54,6 +54,39 @@ fn arrival(chunks: usize, length: usize) -> Sample {
     Sample {
         form: Some(sample.file),
         file,
+        ..sample
+    }
+}
+
+/// The same chunks and minishards, the chunks at random places of the data.
+fn scattered(sample: Sample, length: usize) -> Sample {
+    let chunks = sample.ids.len();
+    let mut places: Vec<(u64, u64)> = numbers(chunks).into_iter().zip(0..).collect();
+    places.sort_unstable();
+    let mut places = places.into_iter().map(|(_, place)| place * length as u64);
+    let data = (chunks * length) as u64;
+    let (mut index, mut tables) = (Vec::new(), Vec::new());
+    for table in sample.indexes() {
+        let row = table.len() / 3;
+        let begin = data + tables.len() as u64;
+        index.extend(
+            [begin, begin + table.len() as u64]
+                .map(u64::to_le_bytes)
+                .concat(),
+        );
+        tables.extend(&table[..row]);
+        let mut end = 0u64;
+        for start in places.by_ref().take(row / 8) {
+            tables.extend(start.wrapping_sub(end).to_le_bytes());
+            end = start + length as u64;
+        }
+        tables.extend(&table[2 * row..]);
+    }
+    // All chunks have the same bytes.
+    let body = bytes(length).repeat(chunks);
+    Sample {
+        file: [index, body, tables].concat(),
+        form: Some(sample.file),
         ..sample
     }
 }
@@ -137,6 +170,20 @@ fn checks_by(name: &str, sample: &Sample, operations: usize, bar: Option<f64>) {
     );
 }
 
+/// The count of unlisted bytes, which begins with the check, beside the library's
+/// own check; timed by chunk. There are none.
+fn counting(name: &str, sample: &Sample, bar: Option<f64>) {
+    let measure = Measure {
+        name,
+        operations: sample.ids.len(),
+        bar,
+    };
+    measure.run(
+        || sample.open().unlisted().unwrap_or(u64::MAX),
+        || u64::from(sample.open().check().is_err()),
+    );
+}
+
 /// Settling, timed by KiB of output; the limit copies the file.
 fn settling(name: &str, sample: &Sample, bar: Option<f64>) {
     let length = sample.settled().len();
@@ -148,7 +195,12 @@ fn settling(name: &str, sample: &Sample, bar: Option<f64>) {
     };
     let mut copied = touched(length);
     measure.run_beside(
-        || sample.open().settle(black_box(&mut ours)).unwrap_or(0) as u64,
+        || {
+            sample
+                .open()
+                .settle(Unlisted::Drop, black_box(&mut ours))
+                .unwrap_or(0) as u64
+        },
         || {
             let file = black_box(&sample.file);
             plain::settle(&sample.sharding, 0, file, black_box(&mut theirs)).unwrap_or(0) as u64
@@ -171,6 +223,12 @@ fn small_shards() {
     let long = sample(0, 0, 1 << 15, 64);
     lookups("lookup, identity, 32768 chunks", &long, 10, None);
     checks("check, identity, a chunk", &long, None);
+    counting(
+        "unlisted, 64 in a minishard, beside the check",
+        &short,
+        Some(1.2),
+    );
+    counting("unlisted, identity, beside the check", &long, Some(1.2));
 }
 
 /// 256 MiB in a million chunks.
@@ -183,7 +241,17 @@ fn many_chunks() {
         Some(1.3),
     );
     checks("check, 2^20 chunks, a chunk", &many, Some(1.3));
+    counting(
+        "unlisted, 2^20 in file order, beside the check",
+        &many,
+        Some(1.2),
+    );
     settling("settling, 2^20 of 256 bytes, a KiB", &many, Some(1.5));
+    counting(
+        "unlisted, 2^20 in random order, beside the check",
+        &scattered(many, 256),
+        Some(20.0),
+    );
 }
 
 /// 512 MiB in chunks of 64 KiB.
@@ -205,6 +273,11 @@ fn arrivals() {
         "settling, 2^16 in order of arrival, a KiB",
         &short,
         Some(3.0),
+    );
+    counting(
+        "unlisted, 2^16 in order of arrival, beside the check",
+        &short,
+        Some(1.2),
     );
     let long = arrival(1 << 20, 64);
     checks(

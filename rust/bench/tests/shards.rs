@@ -3,7 +3,7 @@
 
 use bench::plain;
 use compare::sides;
-use coronagamba::{Refusal, Shard, Sharding, Span};
+use coronagamba::{Refusal, Shard, Sharding, Span, Unlisted};
 use std::collections::BTreeSet;
 use testkit::shards::{self, Sample};
 use testkit::{meshes, Rng};
@@ -20,7 +20,9 @@ fn answered_alike(sample: &Sample, (id, level, node): (u64, u64, u64)) -> u8 {
     let Sample { number, file, .. } = sample;
     let sharding = sides::sharding(&sample.sharding);
     let shard = Shard::open(sharding, *number, file);
-    let form = shard.settled().map_err(|refusal| refusal.number);
+    let form = shard
+        .settled(Unlisted::Drop)
+        .map_err(|refusal| refusal.number);
     let mut out = vec![0; form.as_ref().map_or(1 << 16, Vec::len)];
     let (checked, found, settled) = if sharding.kind == Sharding::MESH {
         (

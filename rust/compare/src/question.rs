@@ -5,7 +5,8 @@
 //! meant: as it stands, or as a choice among what the other numbers or the file
 //! allow, so that any bytes ask deep questions as well. With that byte, a
 //! specification takes 5 bytes, one of any kind 6, a volume 37, a cell 13, a
-//! corner of a box 25, a number 9 and the length of an output 3.
+//! corner of a box 25, a number 9 and the length of an output 3. A wish to drop
+//! unlisted bytes is a byte, odd where it is one.
 
 use reference::grid::{grid_size, key_bits, key_of, Cell, Volume};
 use reference::sharding::{Sharding, MESH, MOST_MINISHARD_BITS, VOLUME};
@@ -112,6 +113,11 @@ impl<'a> Reader<'a> {
             kind: self.byte(),
             number: u16::from_le_bytes(self.take()),
         }
+    }
+
+    /// Whether unlisted bytes are to be dropped.
+    pub fn dropping(&mut self) -> bool {
+        self.byte() % 2 == 1
     }
 
     /// What is left.

@@ -2,7 +2,7 @@
 //! from here.
 
 use coronagamba::manifest::Node;
-use coronagamba::{Card, Cell, Extents, Place, Point, Refusal, Sharding, Volume};
+use coronagamba::{Card, Cell, Extents, Place, Point, Refusal, Sharding, Unlisted, Volume};
 
 /// A volume.
 pub fn volume(volume: &reference::grid::Volume) -> Volume {
@@ -32,6 +32,15 @@ pub fn sharding(sharding: &reference::sharding::Sharding) -> Sharding {
         minishard_bits: sharding.minishard_bits,
         shard_bits: sharding.shard_bits,
         kind: sharding.kind,
+    }
+}
+
+/// What is to become of unlisted bytes.
+pub fn unlisted(dropping: bool) -> Unlisted {
+    if dropping {
+        Unlisted::Drop
+    } else {
+        Unlisted::Refuse
     }
 }
 

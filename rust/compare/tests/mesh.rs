@@ -4,7 +4,7 @@
 
 use compare::sides::{answer, refusal, sharding};
 use coronagamba::manifest::Manifest;
-use coronagamba::{Refusal, Shard, Span};
+use coronagamba::{Refusal, Shard, Span, Unlisted};
 use reference::endian::read_u64;
 use reference::settle::{self, content_of, form_of};
 use reference::shard::{self, Entry};
@@ -102,9 +102,15 @@ fn told(file: &[u8], first: Verdict, second: Verdict) {
         assert_eq!(answer(looked_up.map(|_| 0)), absent);
     }
     let fault = first.err().or(second.err());
-    assert_eq!(opened.settled_length().err(), fault);
-    assert_eq!(opened.settle(&mut []).err(), fault.or(Some(refusal(13))));
-    assert_eq!(settle::length_of(&TWO, 0, file).err().map(refusal), fault);
+    assert_eq!(opened.settled_length(Unlisted::Drop).err(), fault);
+    assert_eq!(
+        opened.settle(Unlisted::Drop, &mut []).err(),
+        fault.or(Some(refusal(13)))
+    );
+    assert_eq!(
+        settle::length_of(&TWO, 0, file, true).err().map(refusal),
+        fault
+    );
     let faulty = fault.map(|fault| Refusal {
         minishard: Some(u64::from(first.is_ok())),
         ..fault
@@ -170,9 +176,9 @@ fn the_example() {
         assert_eq!(refused, Err(refusal(number)), "{id} {level} {node}");
     }
     // It is settled, and a volume's form has no fragments.
-    assert!(shard.settled().as_ref() == Ok(&file));
+    assert!(shard.settled(Unlisted::Drop).as_ref() == Ok(&file));
     let volume = Shard::open(sharding(&meshes::as_volume(&TWO)), 0, &file);
-    assert_eq!(volume.settled_length(), Ok(312));
+    assert_eq!(volume.settled_length(Unlisted::Drop), Ok(312));
     assert_eq!(volume.fragment(4, 0, 0), Err(refusal(18)));
     assert_eq!(volume.fragment(6, 0, 0), Err(refusal(12)));
 }
@@ -256,7 +262,7 @@ fn overlapping_fragments_by_hand() {
         manifest(&[]),
         row(&[5, 359, 28]),
     ];
-    assert_eq!(shard.settled(), Ok(expected.concat()));
+    assert_eq!(shard.settled(Unlisted::Drop), Ok(expected.concat()));
 }
 
 // ---- nets known by construction
@@ -275,7 +281,7 @@ fn nets(rng: &mut Rng) -> (Sharding, u64, Nets) {
 /// The library's settled form of a layout, which is sound.
 fn form(specification: &Sharding, number: u64, layout: &[u8]) -> Vec<u8> {
     Shard::open(sharding(specification), number, layout)
-        .settled()
+        .settled(Unlisted::Drop)
         .expect("a layout is sound")
 }
 
@@ -290,7 +296,7 @@ fn assert_settled(specification: &Sharding, number: u64, form: &[u8], nets: &Net
     let mut listed: Vec<u64> = listed.collect();
     listed.sort_unstable();
     assert!(listed.iter().eq(nets.keys()));
-    assert!(settled.settled().as_deref() == Ok(form));
+    assert!(settled.settled(Unlisted::Drop).as_deref() == Ok(form));
 }
 
 /// A shard lists this net under this id: its manifest, and its fragments right
@@ -401,9 +407,12 @@ fn outputs_of_every_length() {
             number,
             file,
         } = &sample;
-        let needed = settle::length_of(sharding, *number, file);
+        let needed = settle::length_of(sharding, *number, file, true);
         let needed = needed.expect("the sample is sound") as usize;
-        assert_eq!(open(&sample).settled_length(), Ok(needed as u64));
+        assert_eq!(
+            open(&sample).settled_length(Unlisted::Drop),
+            Ok(needed as u64)
+        );
         if !(100..=700).contains(&needed) {
             continue;
         }
@@ -412,8 +421,8 @@ fn outputs_of_every_length() {
             let expected = if room < needed { Err(13) } else { Ok(needed) };
             let settled = same_writing(
                 &Lent::new(&mut rng, room),
-                |out| open(&sample).settle(out),
-                |out| answer(settle::settle(sharding, *number, file, out)),
+                |out| open(&sample).settle(Unlisted::Drop, out),
+                |out| answer(settle::settle(sharding, *number, file, true, out)),
             );
             assert_eq!(settled, answer(expected));
         }
@@ -432,13 +441,17 @@ fn forms_around_a_gibibyte() {
         let sample = meshes::brimming(&mut rng);
         let shard = open(&sample);
         assert_eq!(shard.check(), Ok(()));
-        let length = shard.settled_length().map_err(|refusal| refusal.number);
+        let length = shard
+            .settled_length(Unlisted::Drop)
+            .map_err(|refusal| refusal.number);
         if met.contains(&length) {
             continue;
         }
         met.push(length);
         out.fill(7);
-        let settled = shard.settle(&mut out).map_err(|refusal| refusal.number);
+        let settled = shard
+            .settle(Unlisted::Drop, &mut out)
+            .map_err(|refusal| refusal.number);
         assert_eq!(settled.map(|length| length as u64), length);
         let written = settled.unwrap_or(0);
         assert!(out[written..].iter().all(|byte| *byte == 7));
@@ -479,7 +492,7 @@ fn the_longest_manifests() {
         let fault = reference::Refusal::at(number, 32 + length + 8).in_minishard(0);
         assert_eq!(expected.err(), (number > 0).then_some(fault));
         if number == 0 {
-            assert!(shard.settled().as_ref() == Ok(&file));
+            assert!(shard.settled(Unlisted::Drop).as_ref() == Ok(&file));
             let last = shard.lookup_fragment(4, 0, u64::from(nodes) - 1);
             let empty = Span {
                 start: 32,
@@ -535,9 +548,10 @@ fn many_manifests_in_order_of_arrival() {
         let sound = file(&ids);
         let shard = Shard::open(sharding(&ALL), 0, &sound);
         assert_eq!(shard.check(), Ok(()));
-        let mut expected = vec![0; settle::length_of(&ALL, 0, &sound).expect("sound") as usize];
-        settle::settle(&ALL, 0, &sound, &mut expected).expect("it has room");
-        assert!(shard.settled().as_ref() == Ok(&expected));
+        let mut expected =
+            vec![0; settle::length_of(&ALL, 0, &sound, true).expect("sound") as usize];
+        settle::settle(&ALL, 0, &sound, true, &mut expected).expect("it has room");
+        assert!(shard.settled(Unlisted::Drop).as_ref() == Ok(&expected));
         assert_eq!(
             shard.fragment(ids[count as usize / 2], 0, 9),
             Err(refusal(18))
@@ -673,7 +687,7 @@ fn the_calls_agree() {
             minishard: None,
             ..refusal
         });
-        assert_eq!(opened.settled_length().map(|_| ()), passed_on);
+        assert_eq!(opened.settled_length(Unlisted::Drop).map(|_| ()), passed_on);
         let (id, level, node) = meshes::question(&mut rng, &sample);
         let place = sample.sharding.place(id);
         if place.shard == sample.number && checked.map_or_else(|r| r.number != 6, |()| true) {
@@ -715,8 +729,8 @@ fn every_number_of_a_kind() {
             refused(shard.lookup(4).map(|_| ())),
             refused(shard.listed_count(0).map(|_| ())),
             refused(shard.write_listing(0, &mut [0; 6]).map(|_| ())),
-            refused(shard.settled_length().map(|_| ())),
-            refused(shard.settle(&mut vec![0; 400]).map(|_| ())),
+            refused(shard.settled_length(Unlisted::Drop).map(|_| ())),
+            refused(shard.settle(Unlisted::Drop, &mut vec![0; 400]).map(|_| ())),
             refused(shard.fragment(4, 0, 0).map(|_| ())),
         ];
         let (all, fragment) = match kind {
@@ -760,7 +774,7 @@ fn a_volume_lists_the_same_chunks() {
         let entries = shard::list(&sample.sharding, sample.number, &sample.file);
         let entries = entries.expect("it is sound");
         let fragments: u64 = entries.iter().map(|entry| entry.fragments).sum();
-        let lengths = [mesh, volume].map(|shard| shard.settled_length());
+        let lengths = [mesh, volume].map(|shard| shard.settled_length(Unlisted::Drop));
         assert_eq!(lengths[0], lengths[1].map(|length| length + fragments));
     }
 }

@@ -2,7 +2,7 @@
 //! and faults in the last minishard.
 
 use compare::sides::{answer, refusal, sharding};
-use coronagamba::{Listed, Shard, Span};
+use coronagamba::{Listed, Shard, Span, Unlisted};
 use reference::endian::put_u64;
 use reference::sharding::{Sharding, MOST_MINISHARD_BITS};
 use reference::{settle, shard};
@@ -93,10 +93,10 @@ fn sound_shards_are_read_and_settled() {
                 .collect();
             let form = settle::settled_form(&specification, &listed);
             assert!(form.len() > 16 << bits);
-            assert_eq!(opened.settled_length(), Ok(form.len() as u64));
-            assert!(opened.settled().as_ref() == Ok(&form));
+            assert_eq!(opened.settled_length(Unlisted::Drop), Ok(form.len() as u64));
+            assert!(opened.settled(Unlisted::Drop).as_ref() == Ok(&form));
             let settled = Shard::open(sharding(&specification), 0, &form);
-            assert!(settled.settled().as_ref() == Ok(&form));
+            assert!(settled.settled(Unlisted::Drop).as_ref() == Ok(&form));
         }
     }
 }
@@ -144,7 +144,7 @@ fn faults_in_the_last_minishard_are_named() {
             assert_eq!(asked.err().unwrap_or(0), number);
             assert_eq!(same_lookup(&specification, &file, 0), Err(12));
             same_listing(&specification, &file, last);
-            let settled = opened.settled().map(|_| ());
+            let settled = opened.settled(Unlisted::Drop).map(|_| ());
             assert_eq!(settled.map_err(|refusal| refusal.number), asked);
         }
     }

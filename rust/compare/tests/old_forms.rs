@@ -2,7 +2,7 @@
 //! for byte as it did (change requests, order 2).
 
 use compare::sides;
-use coronagamba::Shard;
+use coronagamba::{Shard, Unlisted};
 use reference::settle;
 use reference::sharding::Sharding;
 
@@ -37,11 +37,11 @@ fn old_shards_settle_as_they_did() {
         let number = words[4].parse().expect("a shard number");
         let (file, form) = (bytes(words[5]), bytes(words[6]));
         let mut ours = vec![0; form.len()];
-        let told = settle::settle(&sharding, number, &file, &mut ours);
+        let told = settle::settle(&sharding, number, &file, true, &mut ours);
         assert_eq!((told, &ours), (Ok(form.len()), &form), "{line}");
         let opened = Shard::open(sides::sharding(&sharding), number, &file);
         assert_eq!(opened.check(), Ok(()), "{line}");
-        assert_eq!(opened.settled().as_ref(), Ok(&form), "{line}");
+        assert_eq!(opened.settled(Unlisted::Drop).as_ref(), Ok(&form), "{line}");
         shards += 1;
         settled_before += usize::from(file == form);
     }

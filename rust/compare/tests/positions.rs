@@ -3,7 +3,7 @@
 //! call passes on one and the same position.
 
 use compare::sides::{answer, refusal, sharding};
-use coronagamba::{Refusal, Shard};
+use coronagamba::{Refusal, Shard, Unlisted};
 use reference::sharding::Sharding;
 use reference::{settle, shard};
 use testkit::shards::{self, Sample};
@@ -52,10 +52,16 @@ fn told(file: &[u8], first: Result<u64, Refusal>, second: Result<u64, Refusal>) 
         }
     }
     let fault = first.err().or(second.err());
-    let settled = opened.settled_length().err();
+    let settled = opened.settled_length(Unlisted::Drop).err();
     assert_eq!(settled, fault);
-    assert_eq!(opened.settle(&mut []).err(), fault.or(Some(refusal(13))));
-    assert_eq!(settle::length_of(&TWO, 0, file).err().map(refusal), fault);
+    assert_eq!(
+        opened.settle(Unlisted::Drop, &mut []).err(),
+        fault.or(Some(refusal(13)))
+    );
+    assert_eq!(
+        settle::length_of(&TWO, 0, file, true).err().map(refusal),
+        fault
+    );
     let faulty = fault.map(|fault| Refusal {
         minishard: Some(u64::from(first.is_ok())),
         ..fault
@@ -173,9 +179,12 @@ fn the_calls_agree() {
             minishard: None,
             ..refusal
         });
-        assert_eq!(opened.settled_length().map(|_| ()), passed_on);
+        assert_eq!(opened.settled_length(Unlisted::Drop).map(|_| ()), passed_on);
         let Err(fault) = checked else { continue };
-        assert_eq!(opened.settle(&mut []).map(|_| ()), passed_on);
+        assert_eq!(
+            opened.settle(Unlisted::Drop, &mut []).map(|_| ()),
+            passed_on
+        );
         let Some(minishard) = fault.minishard else {
             assert_eq!((fault.number, fault.position), (6, None));
             continue;

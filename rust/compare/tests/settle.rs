@@ -2,7 +2,7 @@
 //! around the limit, and the case of the paper.
 
 use compare::sides::{answer, sharding};
-use coronagamba::{Refusal, Shard};
+use coronagamba::{Refusal, Shard, Unlisted};
 use reference::settle;
 use reference::sharding::Sharding;
 use testkit::shards::{self, Content, Difference, Sample};
@@ -20,8 +20,8 @@ fn same_settling(rng: &mut Rng, sample: &Sample, room: usize) -> Result<usize, R
     } = sample;
     same_writing(
         &Lent::new(rng, room),
-        |out| Shard::open(sharding(specification), *number, file).settle(out),
-        |out| answer(settle::settle(specification, *number, file, out)),
+        |out| Shard::open(sharding(specification), *number, file).settle(Unlisted::Drop, out),
+        |out| answer(settle::settle(specification, *number, file, true, out)),
     )
 }
 
@@ -32,16 +32,16 @@ fn same_length(sample: &Sample) -> Result<u64, Refusal> {
         number,
         file,
     } = sample;
-    let expected = answer(settle::length_of(specification, *number, file));
+    let expected = answer(settle::length_of(specification, *number, file, true));
     let shard = Shard::open(sharding(specification), *number, file);
-    assert_eq!(shard.settled_length(), expected, "{sample:?}");
+    assert_eq!(shard.settled_length(Unlisted::Drop), expected, "{sample:?}");
     expected
 }
 
 /// The library's settled form of a layout, which is sound.
 fn form(specification: &Sharding, number: u64, layout: &[u8]) -> Vec<u8> {
     Shard::open(sharding(specification), number, layout)
-        .settled()
+        .settled(Unlisted::Drop)
         .expect("a layout is sound")
 }
 
@@ -61,7 +61,7 @@ fn assert_settled(specification: &Sharding, number: u64, form: &[u8], content: &
     for (id, bytes) in content {
         assert_eq!(settled.chunk(*id), Ok(&bytes[..]));
     }
-    assert!(settled.settled().as_deref() == Ok(form));
+    assert!(settled.settled(Unlisted::Drop).as_deref() == Ok(form));
 }
 
 #[test]
@@ -168,12 +168,18 @@ fn forms_around_a_gibibyte() {
         assert_eq!(shard.check(), Ok(()));
         let mut out = vec![0; gibibyte as usize + 100];
         if fits {
-            assert_eq!(shard.settled_length(), Ok(gibibyte));
-            assert_eq!(shard.settle(&mut out), Ok(gibibyte as usize));
+            assert_eq!(shard.settled_length(Unlisted::Drop), Ok(gibibyte));
+            assert_eq!(
+                shard.settle(Unlisted::Drop, &mut out),
+                Ok(gibibyte as usize)
+            );
             assert!(out[gibibyte as usize..].iter().all(|byte| *byte == 0));
         } else {
-            assert_eq!(shard.settled_length().unwrap_err().number, 13);
-            assert_eq!(shard.settle(&mut out).unwrap_err().number, 13);
+            assert_eq!(shard.settled_length(Unlisted::Drop).unwrap_err().number, 13);
+            assert_eq!(
+                shard.settle(Unlisted::Drop, &mut out).unwrap_err().number,
+                13
+            );
             assert!(out.iter().all(|byte| *byte == 0));
         }
     }
@@ -192,7 +198,7 @@ fn the_case_of_the_paper() {
     let content = [(4, b"ab".to_vec()), (10, b"cde".to_vec())].into();
     let file = shards::lay_out(&mut rng, &specification, &content);
     let shard = Shard::open(sharding(&specification), 0, &file);
-    let form = shard.settled().expect("a layout is sound");
+    let form = shard.settled(Unlisted::Drop).expect("a layout is sound");
     let row = |numbers: &[u64]| -> Vec<u8> {
         let bytes = numbers.iter().flat_map(|number| number.to_le_bytes());
         bytes.collect()

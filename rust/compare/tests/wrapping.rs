@@ -2,7 +2,7 @@
 //! 2): named cases by hand, and minishards of many entries.
 
 use compare::sides::{answer, refusal, sharding};
-use coronagamba::{Listed, Shard, Span};
+use coronagamba::{Listed, Shard, Span, Unlisted};
 use reference::murmur::murmur3_x86_128;
 use reference::sharding::Sharding;
 use reference::{settle, shard, Refusal};
@@ -76,11 +76,14 @@ fn same_answers(file: &[u8], ids: &[u64]) -> Result<(), Refusal> {
         let bytes = expected.map(|entry| entry.bytes(file));
         assert_eq!(opened.chunk(*id), answer(bytes));
     }
-    let length = settle::length_of(&ALL, 0, file);
-    assert_eq!(opened.settled_length(), answer(length));
+    let length = settle::length_of(&ALL, 0, file, true);
+    assert_eq!(opened.settled_length(Unlisted::Drop), answer(length));
     let mut form = vec![0; length.unwrap_or(0) as usize];
-    let settled = settle::settle(&ALL, 0, file, &mut form).map(|_| form);
-    assert!(opened.settled() == answer(settled), "the settled form");
+    let settled = settle::settle(&ALL, 0, file, true, &mut form).map(|_| form);
+    assert!(
+        opened.settled(Unlisted::Drop) == answer(settled),
+        "the settled form"
+    );
     expected
 }
 

@@ -40,7 +40,16 @@ mod tests {
         unsafe {
             assert_eq!(coronagamba_manifest_check(null(), 0), 15);
             assert_eq!(
-                coronagamba_settle(NO_BITS, 0, [0; 16].as_ptr(), 16, null_mut(), 0, &mut length),
+                coronagamba_settle(
+                    NO_BITS,
+                    0,
+                    [0; 16].as_ptr(),
+                    16,
+                    0,
+                    null_mut(),
+                    0,
+                    &mut length
+                ),
                 13
             );
             assert_eq!(length, 9);
@@ -100,11 +109,35 @@ mod tests {
             assert_eq!(told, word);
             let told = coronagamba_listing(NO_BITS, 0, bytes, 16, 0, null_mut(), 0, first);
             assert_eq!(told, word);
-            let told = coronagamba_settled_length(NO_BITS, 0, bytes, 16, first);
+            let told = coronagamba_unlisted(NO_BITS, 0, bytes, 16, first);
             assert_eq!(told, word);
-            let told = coronagamba_settle(NO_BITS, 0, bytes, 16, null_mut(), 0, first);
-            assert_eq!(told, word);
+            for wish in [0, 1] {
+                let told = coronagamba_settled_length(NO_BITS, 0, bytes, 16, wish, first);
+                assert_eq!(told, word);
+                let told = coronagamba_settle(NO_BITS, 0, bytes, 16, wish, null_mut(), 0, first);
+                assert_eq!(told, word);
+            }
         }
         assert_eq!(result, [9; 2]);
+    }
+
+    /// 1 asks to drop unlisted bytes, and no other number does.
+    #[test]
+    fn one_number_asks_to_drop() {
+        let (file, mut length, mut out) = ([0; 20], 9, [7; 16]);
+        let bytes = file.as_ptr();
+        for wish in 0..=u8::MAX {
+            let expected = if wish == 1 { 0 } else { 22 };
+            // SAFETY: each pointer and count are those of one array, and the
+            // result goes to a live value.
+            unsafe {
+                let told = coronagamba_settled_length(NO_BITS, 0, bytes, 20, wish, &mut length);
+                assert_eq!(told, expected);
+                let (to, room) = (out.as_mut_ptr(), out.len());
+                let told = coronagamba_settle(NO_BITS, 0, bytes, 20, wish, to, room, &mut length);
+                assert_eq!(told, expected);
+            }
+        }
+        assert_eq!((length, out), (16, [0; 16]));
     }
 }

@@ -27,6 +27,7 @@ pub use cover::Cover;
 pub use grid::{Bounds, Cell, Extents, Offset, Point, Volume};
 pub use manifest::Manifest;
 pub use refusal::Refusal;
+pub use settle::Unlisted;
 pub use shard::{Chunk, Chunks, Listed, Shard, Span};
 pub use sharding::{Place, Sharding};
 pub use version::version;

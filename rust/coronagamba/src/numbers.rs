@@ -5,7 +5,7 @@
 use crate::refusal::Refusal;
 
 /// The version that these declarations belong to: major, minor, patch.
-pub const VERSION: [u64; 3] = [0, 4, 0];
+pub const VERSION: [u64; 3] = [0, 5, 0];
 
 /// A sharding's hash that leaves an id as it is.
 pub const HASH_IDENTITY: u8 = 0;
@@ -99,6 +99,11 @@ impl Refusal {
     /// In a mesh shard, the fragments of a listed manifest would start before the index end: the
     /// sum of its sizes, taken exactly, exceeds its start relative to the index end.
     pub const FRAGMENTS_BEFORE_DATA: u8 = 21;
+
+    /// A byte of a sound shard lies past the shard index in no listed chunk, no fragment and no
+    /// nonempty minishard index, and settling was not asked to drop such bytes; after all that the
+    /// check refuses and before 13.
+    pub const UNLISTED_BYTES: u8 = 22;
 }
 
 /// Each number with its sentence, rising.
@@ -159,5 +164,9 @@ pub(crate) const SENTENCES: &[(u8, &str)] = &[
     (
         21,
         "The fragments of a manifest would start before the end of the shard index.",
+    ),
+    (
+        22,
+        "The shard has bytes that nothing lists, and dropping them was not asked for.",
     ),
 ];

@@ -1,6 +1,6 @@
 //! Each refusal of the table, met by a call, with its sentence.
 
-use coronagamba::{Card, Manifest, Refusal, Shard, Sharding, Span, Volume};
+use coronagamba::{Card, Manifest, Refusal, Shard, Sharding, Span, Unlisted, Volume};
 use std::error::Error;
 
 /// Two minishards, one shard.
@@ -105,7 +105,7 @@ fn refused(number: u8) -> Refusal {
         7..=11 | 21 => faulty_shard(number, &faulty(number).0).check(),
         12 => Shard::open(TWO, 0, &[0; 32]).chunk(6).map(|_| ()),
         13 => Shard::open(TWO, 0, &[0; 32])
-            .settle(&mut [0; 31])
+            .settle(Unlisted::Refuse, &mut [0; 31])
             .map(|_| ()),
         14 => Card::read(&[]).map(|_| ()),
         15 => Manifest::open(&[0; 27]).check(),
@@ -116,6 +116,9 @@ fn refused(number: u8) -> Refusal {
             .map(|_| ()),
         19 => Card::read_info(b"{", 0).map(|_| ()),
         20 => Card::read_info(b"{}", 0).map(|_| ()),
+        22 => Shard::open(TWO, 0, &[0; 33])
+            .settled_length(Unlisted::Refuse)
+            .map(|_| ()),
         _ => panic!("no call of these tests gives {number}"),
     };
     answer.expect_err("the call refuses")
@@ -195,7 +198,8 @@ fn fragments() {
     }
     assert_eq!(shard.fragment(7, 0, 0).unwrap_err().number, 12);
     assert_eq!(shard.fragment(4, 9, 9).unwrap_err().number, 12);
-    assert_eq!(shard.settled().map(|form| form == file), Ok(true));
+    let form = shard.settled(Unlisted::Refuse);
+    assert_eq!(form.map(|form| form == file), Ok(true));
 }
 
 /// All calls that read a shard pass the position on; the check alone names the
@@ -223,9 +227,12 @@ fn each_call_passes_the_position_on() {
         assert_eq!(shard.listed_count(1), Err(told));
         assert_eq!(shard.write_listing(1, &mut []), Err(told));
         assert_eq!(shard.listing(1), Err(told));
-        assert_eq!(shard.settled_length(), Err(told));
-        assert_eq!(shard.settle(&mut []), Err(told));
-        assert_eq!(shard.settled(), Err(told));
+        assert_eq!(shard.unlisted(), Err(told));
+        for unlisted in [Unlisted::Refuse, Unlisted::Drop] {
+            assert_eq!(shard.settled_length(unlisted), Err(told));
+            assert_eq!(shard.settle(unlisted, &mut []), Err(told));
+            assert_eq!(shard.settled(unlisted), Err(told));
+        }
         let shown = format!("The fault is at byte {position}.");
         assert!(told.to_string().ends_with(&shown));
         // The first minishard is sound, and empty.

@@ -1,6 +1,6 @@
 //! How much stack a call needs: what the header says is enough.
 
-use coronagamba::{Bounds, Card, Manifest, Shard, Sharding, Volume};
+use coronagamba::{Bounds, Card, Manifest, Shard, Sharding, Unlisted, Volume};
 use std::thread;
 
 /// The bytes that coronagamba.h names; the thread's own needs come out of them
@@ -9,6 +9,11 @@ const STACK: usize = 64 * 1024;
 /// Those for a call that judges a minishard of 1,024 chunks or more whose ids do
 /// not rise.
 const ARRIVAL_STACK: usize = 320 * 1024;
+
+/// What no call passes: those that count unlisted bytes by windows come near it.
+const MOST_STACK: usize = 512 * 1024;
+/// What the thread itself needs, and the crate around a call.
+const OWN: usize = 8 * 1024;
 
 const SHARDING: Sharding = Sharding {
     preshift: 0,
@@ -68,7 +73,7 @@ fn judging_calls(chunks: u64) {
     assert_eq!(shard.check(), Ok(()));
     assert_eq!(shard.chunk(1), Ok(&[][..]));
     assert_eq!(shard.listed_count(0), Ok(chunks));
-    let form = shard.settled().expect("the shard is sound");
+    let form = shard.settled(Unlisted::Drop).expect("the shard is sound");
     assert!(form != file && form.len() == file.len());
 }
 
@@ -81,7 +86,7 @@ fn shard_calls() {
     assert_eq!(shard.check(), Ok(()));
     assert_eq!(shard.chunk(id), Ok(&b"ab"[..]));
     assert_eq!(shard.listing(0).map(|listed| listed.len()), Ok(1));
-    assert!(shard.settled().is_ok_and(|form| form == file));
+    assert!(shard.settled(Unlisted::Drop).is_ok_and(|form| form == file));
 }
 
 /// The calls that read a mesh shard, of one whose 1,000 ids fall.
@@ -106,8 +111,45 @@ fn mesh_calls() {
     let shard = Shard::open(mesh, 0, &file);
     assert_eq!(shard.check(), Ok(()));
     assert_eq!(shard.fragment(1, 0, 0), Ok(&b"---------"[..]));
-    let form = shard.settled().expect("the shard is sound");
+    let form = shard.settled(Unlisted::Drop).expect("the shard is sound");
     assert!(form != file && form.len() == file.len());
+}
+
+/// A mesh shard of 1 GiB with one byte that nothing lists, the last. Its first
+/// manifest lies behind the second, so that its bytes are counted by windows; the
+/// pages that no call looks at are never made.
+fn longest_mesh() -> Vec<u8> {
+    let manifest = manifest();
+    let length = manifest.len() as u64;
+    let lead = (1 << 30) - 16 - 48 - 1 - 2 * length - 9;
+    let mut large = manifest.clone();
+    large[60..].copy_from_slice(&(lead as u32).to_le_bytes());
+    let (first, second) = (lead, lead + length + 9);
+    let end = second + length;
+    let mut file = vec![0; 1 << 30];
+    let mut put = |at: u64, bytes: &[u8]| {
+        file[16 + at as usize..][..bytes.len()].copy_from_slice(bytes);
+    };
+    put(first, &large);
+    put(second, &manifest);
+    let back = first.wrapping_sub(end);
+    put(end, &row(&[1, 1, second, back, length, length]));
+    file[..16].copy_from_slice(&row(&[end, end + 48]));
+    file
+}
+
+/// The calls that count unlisted bytes, by as many windows as there may be and
+/// behind the longest search for ids that stand twice.
+fn counting_calls(sharding: Sharding, file: &[u8], unlisted: u64) {
+    let shard = Shard::open(sharding, 0, file);
+    assert_eq!(shard.unlisted(), Ok(unlisted));
+    let (length, settled) = (
+        shard.settled_length(Unlisted::Refuse),
+        shard.settle(Unlisted::Refuse, &mut []),
+    );
+    let expected = if unlisted > 0 { 22 } else { 13 };
+    assert_eq!(length.is_err(), unlisted > 0);
+    assert_eq!(settled.unwrap_err().number, expected);
 }
 
 /// A call of each kind but those. One that passes the stack ends the program.
@@ -162,4 +204,36 @@ fn a_small_stack_is_enough() {
 fn ids_in_order_of_arrival_take_more() {
     within(ARRIVAL_STACK, || judging_calls(50_000));
     within(ARRIVAL_STACK, || judging_calls(70_000));
+}
+
+/// In all calls the windows' map is on the stack by itself.
+#[test]
+fn no_call_takes_more_than_the_windows() {
+    let mesh = Sharding {
+        hash: Sharding::IDENTITY,
+        minishard_bits: 0,
+        kind: Sharding::MESH,
+        ..SHARDING
+    };
+    within(MOST_STACK + OWN, move || {
+        counting_calls(mesh, &longest_mesh(), 1);
+    });
+    // Ids fall, and the chunks lie in another order than they are listed in.
+    let volume = Sharding {
+        kind: Sharding::VOLUME,
+        ..mesh
+    };
+    let chunks = 70_000;
+    let mut file = falling(chunks);
+    let (starts, sizes) = (16 + 8 * chunks as usize, 16 + 16 * chunks as usize);
+    let ends = 24 * chunks + 2;
+    file.extend(b"abc");
+    // The first chunk is the last byte but one, the second the one before.
+    file[starts..][..8].copy_from_slice(&(ends - 1).to_le_bytes());
+    file[starts + 8..][..8].copy_from_slice(&2u64.wrapping_neg().to_le_bytes());
+    for chunk in [0, 1] {
+        file[sizes + 8 * chunk..][..8].copy_from_slice(&1u64.to_le_bytes());
+    }
+    within(MOST_STACK + OWN, move || counting_calls(volume, &file, 1));
+    within(MOST_STACK + OWN, || judging_calls(70_000));
 }

@@ -190,6 +190,7 @@ fn fragments(spans: [Span; 2], forms: [&[u8]; 2]) -> Option<Kind> {
 #[cfg(test)]
 mod tests {
     use super::*;
+    use coronagamba::Unlisted;
 
     /// Identity, two minishards: even ids in 0, odd ids in 1.
     const SHARDING: Sharding = Sharding {
@@ -231,7 +232,11 @@ mod tests {
         }
         index.extend(data);
         let shard = Shard::open(sharding, 0, &index);
-        assert_eq!(shard.settled().as_ref(), Ok(&index), "a settled form");
+        assert_eq!(
+            shard.settled(Unlisted::Drop).as_ref(),
+            Ok(&index),
+            "a settled form"
+        );
         index
     }
 

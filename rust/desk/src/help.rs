@@ -117,6 +117,9 @@ may belong to them. Who closes the output, as 'head' does, ends the run.
     kind!(),
     "
 options:
+  --unlisted          also tell how many bytes past the shard index lie in no
+                      listed chunk, no fragment and no nonempty minishard index,
+                      and where the first gaps are; that is no fault
 ",
     shard!(),
     "  --jobs N            how many shards are checked at once; all cores otherwise\n",
@@ -129,6 +132,7 @@ example:
   coronagamba check demo/copy-a --card demo/deposit.card
   coronagamba check demo/damaged --card demo/deposit.card
   coronagamba check demo/mesh-b --card demo/mesh.card
+  coronagamba check demo/copy-b --unlisted --card demo/deposit.card
 ",
 );
 
@@ -138,8 +142,13 @@ pub const SETTLE: &str = concat!(
 Writes settled forms: the one layout that what a shard lists has, in rising id
 order within each minishard. Two sound shards hold the same chunks exactly when
 their settled forms are the same bytes. In a mesh the fragments of a manifest
-stay right before it; settled as a volume it would lose them, like all bytes
-that nothing lists.
+stay right before it.
+
+A settled form has no unlisted bytes: those past the shard index in no listed
+chunk, no fragment and no nonempty minishard index. A shard that has some is
+refused, with their number and the places of the first gaps; --drop-unlisted
+settles it without them. A mesh that is read as a volume is refused likewise:
+nothing lists its fragments then.
 
 usage: coronagamba settle FILE --out FILE2 [OPTIONS]
        coronagamba settle DIR --out DIR2 [OPTIONS]
@@ -158,6 +167,8 @@ the run: shards that were not begun are not settled then.
     "
 options:
   --out PATH          the output file or folder; a missing folder is made
+  --drop-unlisted     settle without the bytes that nothing lists; they are not
+                      in the output
   --force             overwrite existing files that hold other bytes
 ",
     shard!(),
@@ -169,7 +180,8 @@ shard's name, or a folder has no shards; 2 wrong use, or an output exists
 with other bytes; 3 one cannot be read or written.
 
 example:
-  coronagamba settle demo/copy-b --out settled --card demo/deposit.card
+  coronagamba settle demo/copy-a --out settled --card demo/deposit.card
+  coronagamba settle demo/copy-b --out settled --drop-unlisted --card demo/deposit.card
 ",
 );
 
@@ -191,8 +203,8 @@ whole. Bytes of a chunk or fragment are counted from 0. A sound shard that
 only one side has is a difference where it lists chunks, and none where it
 lists no chunk. Something that is refused, cannot be read or has no shard's
 name leaves the answer open, unless another shard differs: a misnamed file may
-be the shard that its side lacks. Who closes the output, as 'head' does, ends
-the run.
+be the shard that its side lacks. Bytes that nothing lists do not count.
+Who closes the output, as 'head' does, ends the run.
 
 ",
     sharding!(),

@@ -270,10 +270,18 @@ pub fn refused(
     Refused::file(path, refusal, diagnosis).into()
 }
 
-/// Reads a shard and checks it; gives how many chunks a sound one lists.
-pub fn check(sharding: &Sharding, number: u64, path: &Path, room: &mut Room) -> Result<u64, Fault> {
+/// Reads a shard and checks it; gives how many chunks a sound one lists. Where a
+/// bit for each of its bytes is asked for, there is memory for these too.
+pub fn check(
+    sharding: &Sharding,
+    number: u64,
+    path: &Path,
+    bits: bool,
+    room: &mut Room,
+) -> Result<u64, Fault> {
     let check = |room: &mut Room| {
-        room.wait_for([length_to_read(path), 0, 0]);
+        let length = length_to_read(path);
+        room.wait_for([length, u64::from(bits) * length.div_ceil(8), 0]);
         read_into(path, &mut room.file)?;
         let shard = Shard::open(*sharding, number, &room.file);
         let counted = shard.check().and_then(|()| chunk_count(sharding, &shard));

@@ -18,6 +18,7 @@ pub mod names;
 pub mod settle;
 pub mod shard;
 pub mod sharding;
+pub mod unlisted;
 pub mod vectors;
 
 /// The most bytes that a shard or a settled form may have: 1 GiB.

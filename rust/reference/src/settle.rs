@@ -1,9 +1,10 @@
 //! The settled form of what a shard lists (document 01, "Settled form";
-//! document 02, order 7).
+//! document 02, orders 7 and 8).
 
 use crate::endian::write_front;
 use crate::shard::{list, Entry};
 use crate::sharding::Sharding;
+use crate::unlisted::unlisted;
 use crate::{Refusal, MOST_SHARD_BYTES};
 
 /// A chunk that a volume shard lists: its id and its bytes.
@@ -119,10 +120,31 @@ pub fn content_of<'a>(
     Ok(entries.iter().map(triple).collect())
 }
 
+/// What a sound shard lists: where unlisted bytes are not to be dropped, 22 comes
+/// behind the refusals of [`content_of`].
+fn kept<'a>(
+    sharding: &Sharding,
+    number: u64,
+    file: &'a [u8],
+    dropping: bool,
+) -> Result<Vec<Triple<'a>>, Refusal> {
+    let content = content_of(sharding, number, file)?;
+    if !dropping && unlisted(sharding, number, file)? > 0 {
+        return Err(Refusal::bare(22));
+    }
+    Ok(content)
+}
+
 /// The length of a shard's settled form, or 1, 5, 6, then the faults of the
-/// check by minishard, then 13 where the form would exceed 1 GiB.
-pub fn length_of(sharding: &Sharding, number: u64, file: &[u8]) -> Result<u64, Refusal> {
-    let length = exact_length(sharding, &content_of(sharding, number, file)?);
+/// check by minishard, then 22 where bytes are unlisted and not to be dropped,
+/// then 13 where the form would exceed 1 GiB.
+pub fn length_of(
+    sharding: &Sharding,
+    number: u64,
+    file: &[u8],
+    dropping: bool,
+) -> Result<u64, Refusal> {
+    let length = exact_length(sharding, &kept(sharding, number, file, dropping)?);
     if length > u128::from(MOST_SHARD_BYTES) {
         return Err(Refusal::bare(13));
     }
@@ -130,14 +152,16 @@ pub fn length_of(sharding: &Sharding, number: u64, file: &[u8]) -> Result<u64, R
 }
 
 /// Settles a shard: writes its settled form to the front of `out` and gives
-/// its length, or 1, 5, 6, then the faults of the check by minishard, then 13.
+/// its length, or 1, 5, 6, then the faults of the check by minishard, then 22
+/// where bytes are unlisted and not to be dropped, then 13.
 pub fn settle(
     sharding: &Sharding,
     number: u64,
     file: &[u8],
+    dropping: bool,
     out: &mut [u8],
 ) -> Result<usize, Refusal> {
-    let content = content_of(sharding, number, file)?;
+    let content = kept(sharding, number, file, dropping)?;
     let length = exact_length(sharding, &content);
     if length > out.len() as u128 || length > u128::from(MOST_SHARD_BYTES) {
         return Err(Refusal::bare(13));
@@ -170,7 +194,7 @@ mod tests {
     fn the_example() {
         let form = settled_form(&ONE, &[(10, b"cde"), (4, b"ab")]);
         assert_eq!(form.len(), 85);
-        assert_eq!(length_of(&ONE, 0, &form), Ok(85));
+        assert_eq!(length_of(&ONE, 0, &form, true), Ok(85));
         assert_eq!(numbers(&form[..32]), [5, 53, 0, 0]);
         assert_eq!(&form[32..37], b"abcde");
         assert_eq!(numbers(&form[37..]), [4, 6, 0, 0, 2, 3]);
@@ -185,7 +209,7 @@ mod tests {
         let form = settled_form(&ONE, &[(0, b""), (2, b"xyz"), (3, b"q"), (9, b"")]);
         assert_eq!(check(&ONE, 0, &form), Ok(()));
         let mut out = vec![0xa5; form.len() + 3];
-        assert_eq!(settle(&ONE, 0, &form, &mut out), Ok(form.len()));
+        assert_eq!(settle(&ONE, 0, &form, true, &mut out), Ok(form.len()));
         assert_eq!(out[..form.len()], form);
         assert_eq!(out[form.len()..], [0xa5; 3]);
     }
@@ -201,7 +225,7 @@ mod tests {
         file.extend(b"abc");
         file.extend(rows.iter().flat_map(|n| n.to_le_bytes()));
         let mut out = vec![0; 84];
-        assert_eq!(settle(&ONE, 0, &file, &mut out), Ok(84));
+        assert_eq!(settle(&ONE, 0, &file, true, &mut out), Ok(84));
         assert_eq!(out, settled_form(&ONE, &[(4, b"bc"), (10, b"ab")]));
     }
 
@@ -214,8 +238,8 @@ mod tests {
         form[62 + 8] = 0;
         let refusal = Refusal::at(9, 70);
         assert_eq!(check(&ONE, 0, &form), Err(refusal.in_minishard(1)));
-        assert_eq!(length_of(&ONE, 0, &form), Err(refusal));
-        assert_eq!(settle(&ONE, 0, &form, &mut []), Err(refusal));
+        assert_eq!(length_of(&ONE, 0, &form, true), Err(refusal));
+        assert_eq!(settle(&ONE, 0, &form, true, &mut []), Err(refusal));
     }
 
     #[test]
@@ -229,8 +253,25 @@ mod tests {
     fn a_short_output_stays_as_it_was() {
         let form = settled_form(&ONE, &[(4, b"ab")]);
         let mut out = vec![7; form.len() - 1];
-        let told = settle(&ONE, 0, &form, &mut out);
+        let told = settle(&ONE, 0, &form, true, &mut out);
         assert_eq!(told, Err(Refusal::bare(13)));
         assert!(out.iter().all(|byte| *byte == 7));
+    }
+
+    #[test]
+    fn unlisted_bytes_are_refused_before_13() {
+        let form = settled_form(&ONE, &[(4, b"ab"), (5, b"c")]);
+        let file = [&form[..], b"-"].concat();
+        let refusal = Refusal::bare(22);
+        for room in [0, form.len()] {
+            let mut out = vec![7; room];
+            assert_eq!(settle(&ONE, 0, &file, false, &mut out), Err(refusal));
+            assert!(out.iter().all(|byte| *byte == 7));
+        }
+        assert_eq!(length_of(&ONE, 0, &file, false), Err(refusal));
+        assert_eq!(length_of(&ONE, 0, &form, false), Ok(form.len() as u64));
+        let mut out = vec![7; form.len()];
+        assert_eq!(settle(&ONE, 0, &file, true, &mut out), Ok(form.len()));
+        assert_eq!(out, form);
     }
 }

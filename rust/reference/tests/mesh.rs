@@ -203,12 +203,12 @@ fn a_volume_is_not_judged_by_manifests() {
     assert_eq!(fragment(&AS_VOLUME, 0, 4, 0, 0, &file), bare(18));
     assert_eq!(fragment(&AS_VOLUME, 0, 6, 0, 0, &file), bare(12));
     // 32 + 116 + 64 + 48 + 28 + 24: the nine bytes of fragments are dropped.
-    assert_eq!(length_of(&AS_VOLUME, 0, &file), Ok(312));
-    assert_eq!(length_of(&TWO, 0, &file), Ok(321));
+    assert_eq!(length_of(&AS_VOLUME, 0, &file, true), Ok(312));
+    assert_eq!(length_of(&TWO, 0, &file, true), Ok(321));
     let broken = with(&[(38, &items(&[NAN])), (106, b"????"), (150, b"????")]);
     assert_eq!(check(&TWO, 0, &broken), fault(16, 0, 237));
     assert_eq!(check(&AS_VOLUME, 0, &broken), Ok(()));
-    assert_eq!(length_of(&AS_VOLUME, 0, &broken), Ok(312));
+    assert_eq!(length_of(&AS_VOLUME, 0, &broken, true), Ok(312));
 }
 
 /// Faults of one manifest: those of the first at its start step 237, those of
@@ -307,8 +307,12 @@ fn each_fault_and_its_place() {
     for (name, file, expected) in cases {
         assert_eq!(check(&TWO, 0, &file), expected, "{name}");
         let passed_on = expected.map_err(Refusal::passed_on);
-        assert_eq!(length_of(&TWO, 0, &file).map(|_| ()), passed_on, "{name}");
-        let settled = settle(&TWO, 0, &file, &mut []).map(|_| ());
+        assert_eq!(
+            length_of(&TWO, 0, &file, true).map(|_| ()),
+            passed_on,
+            "{name}"
+        );
+        let settled = settle(&TWO, 0, &file, true, &mut []).map(|_| ());
         assert_eq!(settled, passed_on.and(bare(13)), "{name}");
         if let Err(refusal) = expected {
             let minishard = refusal.minishard.expect("the check names it");
@@ -386,9 +390,9 @@ fn the_example_is_settled() {
     reversed.reverse();
     assert_eq!(form_of(&TWO, &reversed), file);
     let mut out = vec![7; 323];
-    assert_eq!(settle(&TWO, 0, &file, &mut out), Ok(321));
+    assert_eq!(settle(&TWO, 0, &file, true, &mut out), Ok(321));
     assert_eq!(out, [&file[..], &[7, 7]].concat());
-    assert_eq!(settle(&TWO, 0, &file, &mut out[..320]), bare(13));
+    assert_eq!(settle(&TWO, 0, &file, true, &mut out[..320]), bare(13));
 }
 
 /// The same nets with gaps, the later id in front, the index of minishard 1
@@ -423,7 +427,7 @@ fn other_layouts_settle_to_the_example() {
     assert_eq!(file.len(), 324);
     assert_eq!(check(&TWO, 0, &file), Ok(()));
     let mut out = vec![0; 321];
-    assert_eq!(settle(&TWO, 0, &file, &mut out), Ok(321));
+    assert_eq!(settle(&TWO, 0, &file, true, &mut out), Ok(321));
     assert_eq!(out, example());
     assert_eq!(fragment_part(&TWO, 0, 4, 0, 1, &file), b"cde");
     assert_eq!(fragment_part(&TWO, 0, 10, 0, 0, &file), b"xyz");
@@ -434,8 +438,8 @@ fn other_layouts_settle_to_the_example() {
 #[test]
 fn a_fragment_counts() {
     let settled = |sharding: &Sharding, file: &[u8]| {
-        let mut out = vec![0; length_of(sharding, 0, file).expect("it is sound") as usize];
-        settle(sharding, 0, file, &mut out).expect("it has room");
+        let mut out = vec![0; length_of(sharding, 0, file, true).expect("it is sound") as usize];
+        settle(sharding, 0, file, true, &mut out).expect("it has room");
         out
     };
     let mut other = elsewhere();
@@ -464,7 +468,7 @@ fn shared_fragments() {
     assert_eq!(fragment_part(&TWO, 0, 10, 1, 0, &file), b"f");
     // 32 + 2 x (6 + 116) + 48: the form is longer than the shard.
     let mut out = vec![0; 324];
-    assert_eq!(settle(&TWO, 0, &file, &mut out), Ok(324));
+    assert_eq!(settle(&TWO, 0, &file, true, &mut out), Ok(324));
     let net = [b"abcdef".to_vec(), three_nodes([2, 3, 1])].concat();
     let expected = [
         row(&[244, 292, 0, 0]),
@@ -488,7 +492,7 @@ fn overlapping_fragments() {
     assert_eq!(found, Ok(whole));
     // 122 bytes more than the example.
     let mut out = vec![0; 443];
-    assert_eq!(settle(&TWO, 0, &file, &mut out), Ok(443));
+    assert_eq!(settle(&TWO, 0, &file, true, &mut out), Ok(443));
     let expected = [
         row(&[311, 359, 387, 411]),
         file[32..154].to_vec(),
@@ -520,7 +524,7 @@ fn manifests_without_fragments() {
     assert_eq!(fragment(&TWO, 0, 10, 0, 1, &file), empty(80));
     assert_eq!(fragment(&TWO, 0, 10, 1, 0, &file), empty(80));
     let mut out = vec![0; file.len()];
-    assert_eq!(settle(&TWO, 0, &file, &mut out), Ok(file.len()));
+    assert_eq!(settle(&TWO, 0, &file, true, &mut out), Ok(file.len()));
     assert_eq!(out, file);
 }
 
@@ -562,8 +566,8 @@ fn other_kinds() {
         assert_eq!(lookup(&sharding, 7, 4, &[]), bare(number));
         assert_eq!(fragment(&sharding, 7, 4, 0, 0, &[]), bare(number));
         assert_eq!(list_minishard(&sharding, 7, &[], 9), bare(number));
-        assert_eq!(length_of(&sharding, 7, &[]), bare(number));
-        assert_eq!(settle(&sharding, 7, &[], &mut []), bare(number));
+        assert_eq!(length_of(&sharding, 7, &[], true), bare(number));
+        assert_eq!(settle(&sharding, 7, &[], true, &mut []), bare(number));
         assert_eq!(check(&sharding, 0, &file).is_ok(), kind <= 1);
     }
 }

@@ -774,7 +774,7 @@ mod tests {
             } = brimming(&mut rng);
             assert!(file.len() < 1 << 20);
             assert_eq!(check(&sharding, number, &file), Ok(()));
-            let length = length_of(&sharding, number, &file);
+            let length = length_of(&sharding, number, &file, true);
             lengths.insert(length.map_err(|refusal| refusal.number));
         }
         let gibibyte = 1 << 30;

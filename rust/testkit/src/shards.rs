@@ -457,6 +457,84 @@ pub fn overlapping(rng: &mut Rng, sharding: &Sharding, number: u64, most: usize)
     finish(rng, &minishards, data)
 }
 
+/// A sound shard with this many bytes behind its shard index, whose chunks and
+/// minishard indexes begin and end at these places or a few bytes away: one behind
+/// the other, with bytes between them that nothing lists, or over each other. The
+/// chunks are listed in their order in the file, in runs, or in no order at all.
+pub fn around(rng: &mut Rng, length: u64, places: &[u64]) -> Sample {
+    let near = |rng: &mut Rng, place: u64| (place + rng.below(5)).saturating_sub(2).min(length);
+    let mut cuts: Vec<u64> = places.iter().map(|place| near(rng, *place)).collect();
+    if rng.once_in(2) {
+        cuts.extend([0, length]);
+    }
+    cuts.sort_unstable();
+    let mut spans: Vec<(u64, u64)> = cuts.windows(2).map(|pair| (pair[0], pair[1])).collect();
+    if spans.len() > 1 && rng.once_in(3) {
+        let without = rng.index(spans.len());
+        spans.remove(without);
+    }
+    for (start, end) in &mut spans {
+        if rng.once_in(4) {
+            *start = near(rng, *start);
+        }
+        if rng.once_in(4) {
+            *end = near(rng, *end);
+        }
+        *end = (*end).max(*start);
+    }
+    match rng.below(3) {
+        0 => {}
+        1 if !spans.is_empty() => spans.rotate_left(1),
+        _ => rng.shuffle(&mut spans),
+    }
+    let sharding = Sharding {
+        preshift: 0,
+        hash: IDENTITY,
+        minishard_bits: rng.below(3) as u8,
+        shard_bits: 0,
+        kind: VOLUME,
+    };
+    let ids: Vec<u64> = (0..spans.len() as u64).collect();
+    let mut minishards = listing(rng, &sharding, &ids, Order::Rising);
+    let mut spans = spans.into_iter();
+    for minishard in minishards.iter_mut().filter(|m| !m.ids.is_empty()) {
+        for _ in 0..minishard.ids.len() {
+            let (start, end) = spans.next().expect("a span for each id");
+            minishard.starts.push(start);
+            minishard.sizes.push(end - start);
+        }
+        // Over chunks or beside them: a chunk's bytes may be those of an index.
+        let room = length - minishard.index_length();
+        let place = *rng.pick(places);
+        let place = near(rng, place).min(room);
+        minishard.index = Some(if rng.once_in(2) { room } else { place });
+    }
+    apart(&mut minishards, length);
+    Sample {
+        sharding,
+        number: 0,
+        file: finish(rng, &minishards, vec![0; length as usize]),
+    }
+}
+
+/// Moves minishard indexes that share bytes, so that none is written over.
+fn apart(minishards: &mut [Layout], length: u64) {
+    let mut taken: Vec<(u64, u64)> = Vec::new();
+    for minishard in minishards {
+        let own = minishard.index_length();
+        let Some(place) = &mut minishard.index else {
+            continue;
+        };
+        while let Some((start, _)) = taken
+            .iter()
+            .find(|(start, end)| *place < *end && *start < *place + own)
+        {
+            *place = start.checked_sub(own).unwrap_or(length - own);
+        }
+        taken.push((*place, *place + own));
+    }
+}
+
 /// A sound shard of some kind, with up to `most` chunks.
 pub fn sound(rng: &mut Rng, most: usize) -> Sample {
     let sharding = sharding(rng);
@@ -769,6 +847,7 @@ mod tests {
     use crate::Met;
     use reference::settle::{length_of, settled_form};
     use reference::shard::{check, list, list_minishard, lookup};
+    use reference::unlisted::unlisted;
     use reference::Refusal;
     use std::collections::BTreeSet;
 
@@ -823,6 +902,28 @@ mod tests {
         }
     }
 
+    /// With gaps and without, and sound whatever the places.
+    #[test]
+    fn shards_around_places_are_sound() {
+        let mut rng = Rng::new(14);
+        let (mut full, mut open) = (0, 0);
+        for _ in 0..2_000 {
+            let length = 500 + rng.below(3);
+            let sample = around(&mut rng, length, &[0, 64, 200, 201, 500]);
+            match unlisted(&sample.sharding, sample.number, &sample.file) {
+                Ok(0) => full += 1,
+                count => {
+                    assert!(count.is_ok(), "{sample:?}");
+                    open += 1;
+                }
+            }
+        }
+        assert!(
+            full > 100 && open > 1_000,
+            "{full} without gaps, {open} with"
+        );
+    }
+
     #[test]
     fn some_layouts_are_shorter_than_settled() {
         let mut rng = Rng::new(2);
@@ -874,7 +975,7 @@ mod tests {
         for _ in 0..20 {
             let sample = brimming(&mut rng);
             assert_eq!(check(&sample.sharding, sample.number, &sample.file), Ok(()));
-            let length = length_of(&sample.sharding, sample.number, &sample.file);
+            let length = length_of(&sample.sharding, sample.number, &sample.file, true);
             lengths.insert(length.map_err(|refusal| refusal.number));
         }
         let gibibyte = 1 << 30;

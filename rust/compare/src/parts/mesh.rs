@@ -1,7 +1,7 @@
 //! Mesh shards: the parts of shards and settling on specifications of any kind,
 //! and the fragment of a node.
 
-use super::settle::{compare_same, compare_settle, compare_settled_length};
+use super::settle::{compare_same, compare_settle, compare_settled_length, compare_unlisted};
 use super::shard::{
     compare_check, compare_chunks, compare_listed_count, compare_listing, compare_lookup,
     minishard, of_kinds,
@@ -71,11 +71,20 @@ pub const MESH_LISTING: Part = Part {
     sample: sample_listing,
 };
 
+/// How many bytes are unlisted.
+pub const MESH_UNLISTED: Part = Part {
+    name: "mesh_unlisted",
+    about: "how many bytes of a mesh shard nothing lists",
+    meets: &[0, 1, 5, 6, 7, 8, 9, 10, 11, 15, 16, 17, 21],
+    compare: |bytes| of_kinds(bytes, compare_unlisted),
+    sample: sample_unlisted,
+};
+
 /// The length of a settled form.
 pub const MESH_SETTLED_LENGTH: Part = Part {
     name: "mesh_settled_length",
     about: "the length of a mesh shard's settled form",
-    meets: &[0, 1, 5, 6, 7, 8, 9, 10, 11, 13, 15, 16, 17, 21],
+    meets: &[0, 1, 5, 6, 7, 8, 9, 10, 11, 13, 15, 16, 17, 21, 22],
     compare: |bytes| of_kinds(bytes, compare_settled_length),
     sample: sample_settled_length,
 };
@@ -84,7 +93,7 @@ pub const MESH_SETTLED_LENGTH: Part = Part {
 pub const MESH_SETTLE: Part = Part {
     name: "mesh_settle",
     about: "a mesh shard's settled form, which is sound, settles to itself and lists the same",
-    meets: &[0, 1, 5, 6, 7, 8, 9, 10, 11, 13, 15, 16, 17, 21],
+    meets: &[0, 1, 5, 6, 7, 8, 9, 10, 11, 13, 15, 16, 17, 21, 22],
     compare: |bytes| of_kinds(bytes, compare_settle),
     sample: sample_settle,
 };
@@ -200,14 +209,21 @@ fn sample(rng: &mut Rng) -> Sample {
     }
 }
 
-fn sample_settled_length(rng: &mut Rng) -> Vec<u8> {
+fn sample_unlisted(rng: &mut Rng) -> Vec<u8> {
     let sample = sample(rng);
     front(rng, &sample).rest(&sample.file).finish()
+}
+
+fn sample_settled_length(rng: &mut Rng) -> Vec<u8> {
+    let sample = sample(rng);
+    let begun = front(rng, &sample).byte(rng.below(2) as u8);
+    begun.rest(&sample.file).finish()
 }
 
 fn sample_settle(rng: &mut Rng) -> Vec<u8> {
     let sample = sample(rng);
     front(rng, &sample)
+        .byte(rng.below(2) as u8)
         .room(Room::draw(rng))
         .rest(&sample.file)
         .finish()

@@ -1,22 +1,32 @@
-//! Settling.
+//! Settling, and the bytes that it would lose.
 
 use super::shard::{front, of_volume};
 use crate::agree::{guarded, same, same_writing};
 use crate::question::{Reader, Room, LONGEST_ANSWER};
 use crate::{sides, Part, LISTS_DIFFER};
-use coronagamba::Shard;
+use coronagamba::{Shard, Unlisted};
 use reference::settle::{self, content_of, Triple};
 use reference::sharding::Sharding;
+use reference::unlisted::unlisted;
 use reference::Refusal;
 use std::collections::BTreeMap;
 use testkit::shards::{self, Difference, Sample};
 use testkit::{Lent, Rng};
 
+/// How many bytes are unlisted.
+pub const UNLISTED: Part = Part {
+    name: "unlisted",
+    about: "how many bytes of a shard nothing lists",
+    meets: &[0, 1, 5, 6, 7, 8, 9, 10, 11],
+    compare: |bytes| of_volume(bytes, compare_unlisted),
+    sample: sample_unlisted,
+};
+
 /// The length of a settled form.
 pub const SETTLED_LENGTH: Part = Part {
     name: "settled_length",
     about: "the length of a shard's settled form",
-    meets: &[0, 1, 5, 6, 7, 8, 9, 10, 11, 13],
+    meets: &[0, 1, 5, 6, 7, 8, 9, 10, 11, 13, 22],
     compare: |bytes| of_volume(bytes, compare_settled_length),
     sample: sample_settled_length,
 };
@@ -25,7 +35,7 @@ pub const SETTLED_LENGTH: Part = Part {
 pub const SETTLE: Part = Part {
     name: "settle",
     about: "a shard's settled form, which is sound, settles to itself and lists the same",
-    meets: &[0, 1, 5, 6, 7, 8, 9, 10, 11, 13],
+    meets: &[0, 1, 5, 6, 7, 8, 9, 10, 11, 13, 22],
     compare: |bytes| of_volume(bytes, compare_settle),
     sample: sample_settle,
 };
@@ -39,14 +49,27 @@ pub const SAME: Part = Part {
     sample: sample_same,
 };
 
-pub fn compare_settled_length(sharding: Sharding, mut reader: Reader) -> u8 {
+pub fn compare_unlisted(sharding: Sharding, mut reader: Reader) -> u8 {
     let number = reader.choice();
     guarded(reader.rest(), |file| {
         let number = number.shard(&sharding, file);
         same(
-            format_args!("settled length of shard {number} under {sharding:?}"),
-            Shard::open(sides::sharding(&sharding), number, file).settled_length(),
-            settle::length_of(&sharding, number, file),
+            format_args!("unlisted bytes of shard {number} under {sharding:?}"),
+            Shard::open(sides::sharding(&sharding), number, file).unlisted(),
+            unlisted(&sharding, number, file),
+        )
+    })
+}
+
+pub fn compare_settled_length(sharding: Sharding, mut reader: Reader) -> u8 {
+    let (number, dropping) = (reader.choice(), reader.dropping());
+    guarded(reader.rest(), |file| {
+        let number = number.shard(&sharding, file);
+        let opened = Shard::open(sides::sharding(&sharding), number, file);
+        same(
+            format_args!("settled length of shard {number} under {sharding:?}, {dropping}"),
+            opened.settled_length(sides::unlisted(dropping)),
+            settle::length_of(&sharding, number, file, dropping),
         )
     })
 }
@@ -61,32 +84,35 @@ fn content<'a>(sharding: &Sharding, number: u64, file: &'a [u8]) -> Result<Conte
 }
 
 pub fn compare_settle(sharding: Sharding, mut reader: Reader) -> u8 {
-    let (number, room) = (reader.choice(), reader.room());
+    let (number, dropping, room) = (reader.choice(), reader.dropping(), reader.room());
     guarded(reader.rest(), |file| {
         let number = number.shard(&sharding, file);
         let opened = Shard::open(sides::sharding(&sharding), number, file);
-        let needed = settle::length_of(&sharding, number, file);
+        let wish = sides::unlisted(dropping);
+        let needed = settle::length_of(&sharding, number, file, true);
         let length = room.length(needed.map_or(file.len(), |length| length as usize));
         let met = same_writing(
-            format_args!("settling of shard {number} under {sharding:?}"),
+            format_args!("settling of shard {number} under {sharding:?}, {dropping}"),
             &Lent::new(&mut Rng::new(length as u64), length),
-            |out| opened.settle(out),
-            |out| settle::settle(&sharding, number, file, out),
+            |out| opened.settle(wish, out),
+            |out| settle::settle(&sharding, number, file, dropping, out),
         );
         if met == 0 {
-            let form = opened.settled().expect("it was settled before");
+            let form = opened.settled(wish).expect("it was settled before");
             assert_settled(&sharding, number, file, &form);
         }
         met
     })
 }
 
-/// A settled form is sound, settles to itself and lists what the file lists.
+/// A settled form is sound, has no unlisted byte, settles to itself and lists
+/// what the file lists.
 fn assert_settled(sharding: &Sharding, number: u64, file: &[u8], form: &[u8]) {
     let settled = Shard::open(sides::sharding(sharding), number, form);
     assert_eq!(settled.check(), Ok(()), "the check of a settled form");
+    assert_eq!(settled.unlisted(), Ok(0), "the gaps of a settled form");
     assert!(
-        settled.settled().as_deref() == Ok(form),
+        settled.settled(Unlisted::Refuse).as_deref() == Ok(form),
         "a settled form settles to another one"
     );
     assert!(
@@ -104,10 +130,10 @@ fn settled<'a>(
     file: &'a [u8],
 ) -> Result<(Vec<u8>, Content<'a>), Refusal> {
     let opened = Shard::open(sides::sharding(sharding), number, file);
-    let length = settle::length_of(sharding, number, file);
+    let length = settle::length_of(sharding, number, file, true);
     same(
         format_args!("settled length of shard {number} under {sharding:?}"),
-        opened.settled_length(),
+        opened.settled_length(Unlisted::Drop),
         length,
     );
     if length? > LONGEST_ANSWER as u64 {
@@ -117,7 +143,7 @@ fn settled<'a>(
     let listed: Vec<Triple> = content.values().copied().collect();
     let form = settle::form_of(sharding, &listed);
     assert!(
-        opened.settled().as_ref() == Ok(&form),
+        opened.settled(Unlisted::Drop).as_ref() == Ok(&form),
         "the settled form of shard {number} under {sharding:?} differs"
     );
     Ok((form, content))
@@ -159,14 +185,21 @@ fn shard(rng: &mut Rng) -> Sample {
     }
 }
 
-fn sample_settled_length(rng: &mut Rng) -> Vec<u8> {
+fn sample_unlisted(rng: &mut Rng) -> Vec<u8> {
     let sample = shard(rng);
     front(rng, &sample).rest(&sample.file).finish()
+}
+
+fn sample_settled_length(rng: &mut Rng) -> Vec<u8> {
+    let sample = shard(rng);
+    let begun = front(rng, &sample).byte(rng.below(2) as u8);
+    begun.rest(&sample.file).finish()
 }
 
 fn sample_settle(rng: &mut Rng) -> Vec<u8> {
     let sample = shard(rng);
     front(rng, &sample)
+        .byte(rng.below(2) as u8)
         .room(Room::draw(rng))
         .rest(&sample.file)
         .finish()

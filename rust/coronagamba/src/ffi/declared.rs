@@ -271,29 +271,50 @@ extern "C" {
         length: *mut u64,
     ) -> u64;
 
-    /// How many bytes a shard's settled form has. Writes the number to `length`.
+    /// How many bytes of a shard are unlisted: they lie past the shard index in no listed chunk, no
+    /// fragment and no nonempty minishard index. Writes the number to `bytes`. Takes at most 512
+    /// KiB of stack, as no call of this library takes more.
     ///
     /// Refusals: 1, 5, 6, 7 to 11, 15 to 17 (mesh), 21 (mesh) of the first faulty minishard with
-    /// the position, 13 where the form would pass 1 GiB
+    /// the position
+    pub fn coronagamba_unlisted(
+        sharding: Sharding,
+        shard: u64,
+        file: *const u8,
+        count: usize,
+        bytes: *mut u64,
+    ) -> u64;
+
+    /// How many bytes a shard's settled form has. Writes the number to `length`. Unlisted bytes are
+    /// not in it: a shard with some is refused unless `drop_unlisted` is 1; no other number asks to
+    /// drop them.
+    ///
+    /// Refusals: 1, 5, 6, 7 to 11, 15 to 17 (mesh), 21 (mesh) of the first faulty minishard with
+    /// the position, 22 where bytes are unlisted and not dropped, 13 where the form would pass 1
+    /// GiB
     pub fn coronagamba_settled_length(
         sharding: Sharding,
         shard: u64,
         file: *const u8,
         count: usize,
+        drop_unlisted: u8,
         length: *mut u64,
     ) -> u64;
 
     /// A shard's settled form; in a mesh each manifest has its fragments right before it there too.
     /// Writes it to the front of `out`, which needs the room that coronagamba_settled_length tells,
-    /// and its number of bytes to `length`.
+    /// and its number of bytes to `length`. Unlisted bytes are lost: a shard with some is refused
+    /// unless `drop_unlisted` is 1; no other number asks to drop them.
     ///
     /// Refusals: 1, 5, 6, 7 to 11, 15 to 17 (mesh), 21 (mesh) of the first faulty minishard with
-    /// the position, 13 where `out` is shorter than the form or the form would pass 1 GiB
+    /// the position, 22 where bytes are unlisted and not dropped, 13 where `out` is shorter than
+    /// the form or the form would pass 1 GiB
     pub fn coronagamba_settle(
         sharding: Sharding,
         shard: u64,
         file: *const u8,
         count: usize,
+        drop_unlisted: u8,
         out: *mut u8,
         out_count: usize,
         length: *mut u64,

@@ -236,8 +236,11 @@ fn on_faulty_shard((word, sharding, shard, file): &Faulty) -> Vec<Case<'_>> {
         );
         word => coronagamba_listed_count(sharding, shard, from, count, 1, lent.one());
         word => coronagamba_listing(sharding, shard, from, count, 1, lent.many(9), 9, lent.one());
-        word => coronagamba_settled_length(sharding, shard, from, count, lent.one());
-        word => coronagamba_settle(sharding, shard, from, count, lent.many(99), 99, lent.one());
+        word => coronagamba_unlisted(sharding, shard, from, count, lent.one());
+        word => coronagamba_settled_length(sharding, shard, from, count, 0, lent.one());
+        word => coronagamba_settled_length(sharding, shard, from, count, 1, lent.one());
+        word => coronagamba_settle(sharding, shard, from, count, 0, lent.many(99), 99, lent.one());
+        word => coronagamba_settle(sharding, shard, from, count, 1, lent.many(99), 99, lent.one());
     })
 }
 
@@ -251,7 +254,7 @@ fn on_sound_shard(file: &[u8]) -> Vec<Case<'_>> {
         5 => coronagamba_listed_count(TWO, 0, from, count, 2, lent.one());
         5 => coronagamba_listing(TWO, 0, from, count, 2, lent.many(9), 9, lent.one());
         13 => coronagamba_listing(TWO, 0, from, count, 1, lent.many(5), 5, lent.one());
-        13 => coronagamba_settle(TWO, 0, from, count, lent.many(84), 84, lent.one());
+        13 => coronagamba_settle(TWO, 0, from, count, 0, lent.many(84), 84, lent.one());
     })
 }
 
@@ -263,8 +266,20 @@ fn on_sound_mesh(file: &[u8]) -> Vec<Case<'_>> {
         18 => coronagamba_fragment(MESH, 0, from, count, 11, 0, 2, lent.one(), lent.one());
         18 => coronagamba_fragment(MESH, 0, from, count, 11, 1, 0, lent.one(), lent.one());
         13 => coronagamba_settle(
-            MESH, 0, from, count, lent.many(99), 99, lent.one(),
+            MESH, 0, from, count, 0, lent.many(99), 99, lent.one(),
         );
+    })
+}
+
+/// Settling that shard with a byte behind it, which nothing lists. It is told
+/// before the output is too short.
+fn on_unlisted_byte(file: &[u8]) -> Vec<Case<'_>> {
+    let (from, count) = (file.as_ptr(), file.len());
+    Vec::from(cases! { lent:
+        22 => coronagamba_settled_length(TWO, 0, from, count, 0, lent.one());
+        22 => coronagamba_settle(TWO, 0, from, count, 0, lent.many(99), 99, lent.one());
+        22 => coronagamba_settle(TWO, 0, from, count, 2, lent.many(84), 84, lent.one());
+        13 => coronagamba_settle(TWO, 0, from, count, 1, lent.many(84), 84, lent.one());
     })
 }
 
@@ -288,8 +303,8 @@ fn on_overlapping_shard(file: &[u8]) -> Vec<Case<'_>> {
     let (from, count) = (file.as_ptr(), file.len());
     let sharding = bits(0, 12);
     Vec::from(cases! { lent:
-        13 => coronagamba_settled_length(sharding, 0, from, count, lent.one());
-        13 => coronagamba_settle(sharding, 0, from, count, lent.many(99), 99, lent.one());
+        13 => coronagamba_settled_length(sharding, 0, from, count, 0, lent.one());
+        13 => coronagamba_settle(sharding, 0, from, count, 1, lent.many(99), 99, lent.one());
     })
 }
 
@@ -469,11 +484,12 @@ fn a_refusal_leaves_every_lent_byte() {
     let infos = faulty_infos();
     let (sound, long, mesh) = (shard([5, 53], ROWS), overlapping(), sound_mesh());
     let far = manifest(1.0, [0, 1 << 24]);
+    let more = [&sound[..], b"-"].concat();
     let cases: Vec<Case> = [grid(), sharding(), card_write()]
         .into_iter()
         .chain(shards.iter().map(on_faulty_shard))
         .chain([on_sound_shard(&sound), on_sound_mesh(&mesh)])
-        .chain([on_overlapping_shard(&long)])
+        .chain([on_unlisted_byte(&more), on_overlapping_shard(&long)])
         .chain(cards.iter().map(on_faulty_card))
         .chain(infos.iter().map(on_faulty_info))
         .chain(manifests.iter().map(on_faulty_manifest))

@@ -3,10 +3,11 @@
 use std::ffi::OsString;
 use std::path::Path;
 
-use coronagamba::Sharding;
+use coronagamba::{Refusal, Shard, Sharding};
 
 use super::Command;
 use crate::args::{flag, Args};
+use crate::diagnosis::Gaps;
 use crate::fault::Fault;
 use crate::folder::{is_folder, list, single, Input};
 use crate::help;
@@ -21,9 +22,16 @@ use crate::settings;
 pub const COMMAND: Command = Command {
     name: "check",
     help: help::CHECK,
-    options: &[settings::OPTIONS, round::OPTIONS, &[flag("--json")]],
+    options: &[
+        settings::OPTIONS,
+        round::OPTIONS,
+        &[flag(UNLISTED), flag("--json")],
+    ],
     run,
 };
+
+/// Asks how many bytes nothing lists.
+const UNLISTED: &str = "--unlisted";
 
 fn run(args: &Args, report: &mut Report) -> Result<(), Fault> {
     let sharding = settings::of_shards(args)?.sharding;
@@ -33,12 +41,14 @@ fn run(args: &Args, report: &mut Report) -> Result<(), Fault> {
         return Err(Fault::wrong_use("--shard is for one file"));
     }
     let found = gather(args, &sharding, paths, report)?;
+    let counting = args.flag(UNLISTED);
     let mut summary = Summary {
         others: found.others,
+        unlisted: counting.then_some(0),
         ..Summary::default()
     };
     let with_summary = !found.folders.is_empty() || found.inputs.len() > 1;
-    let work = |room: &mut Room, input| check(&sharding, room, input);
+    let work = |room: &mut Room, input| check(&sharding, counting, room, input);
     let tell = |outcome, report: &mut Report| summary.tell(&sharding, outcome, report);
     round::go(workers, "checked", found.inputs, work, tell, report)?;
     let mut known = found.folders.iter().flatten();
@@ -92,18 +102,68 @@ fn gather(
 struct Sound {
     chunks: u64,
     bytes: usize,
+    /// Where it was asked for.
+    unlisted: Option<Unlisted>,
+}
+
+/// How many bytes nothing lists, and in which gaps, where these were found.
+struct Unlisted {
+    bytes: u64,
+    gaps: Option<Gaps>,
+}
+
+impl Unlisted {
+    /// Of a shard that passed the check.
+    fn of(sharding: &Sharding, number: u64, file: &[u8]) -> Result<Self, Refusal> {
+        let bytes = Shard::open(*sharding, number, file).unlisted()?;
+        let gaps = Gaps::of(sharding, number, file, bytes);
+        Ok(Unlisted { bytes, gaps })
+    }
+
+    /// `, 5 unlisted bytes in 2 gaps: byte 32 (3 bytes), byte 90 (2 bytes)`
+    fn line(&self) -> String {
+        match &self.gaps {
+            Some(gaps) if self.bytes > 0 => format!(", {}: {gaps}", gaps.size()),
+            _ => format!(", {}", counted(self.bytes, "unlisted byte")),
+        }
+    }
+
+    fn object(&self, object: Object) -> Object {
+        let object = object.number("unlisted", self.bytes);
+        let Some(gaps) = &self.gaps else {
+            return object;
+        };
+        let object = object.number("gaps", gaps.count);
+        match gaps.first.first() {
+            Some(span) => object.number("first_gap", span.start),
+            None => object,
+        }
+    }
 }
 
 /// Checks one shard.
-fn check(sharding: &Sharding, room: &mut Room, input: Input) -> Outcome<Verdict<Sound>> {
+fn check(
+    sharding: &Sharding,
+    counting: bool,
+    room: &mut Room,
+    input: Input,
+) -> Outcome<Verdict<Sound>> {
     let path = input.path;
     let number = match input.number {
         Ok(number) => number,
         Err(trouble) => return Verdict::from(trouble).of(path, 0),
     };
-    let checked = round::check(sharding, number, &path, room);
-    let bytes = room.file.len();
-    let answer = checked.map(|chunks| Sound { chunks, bytes });
+    let checked = round::check(sharding, number, &path, counting, room);
+    let (file, bytes) = (&room.file, room.file.len());
+    let answer = checked.and_then(|chunks| {
+        let unlisted = counting.then(|| Unlisted::of(sharding, number, file));
+        let explain = |refusal| round::refused(&path, sharding, number, file, refusal);
+        Ok(Sound {
+            chunks,
+            bytes,
+            unlisted: unlisted.transpose().map_err(explain)?,
+        })
+    });
     Verdict::from(answer).of(path, bytes)
 }
 
@@ -113,6 +173,8 @@ struct Summary {
     sound: u64,
     aside: Aside,
     others: u64,
+    /// How many bytes nothing lists, where it was asked for.
+    unlisted: Option<u64>,
 }
 
 impl Summary {
@@ -123,21 +185,34 @@ impl Summary {
         report: &mut Report,
     ) -> Result<(), Fault> {
         let path = outcome.path.clone();
-        let Some(Sound { chunks, bytes }) = self.aside.answer(sharding, outcome, report)? else {
+        let Some(sound) = self.aside.answer(sharding, outcome, report)? else {
             return Ok(());
         };
+        let Sound {
+            chunks,
+            bytes,
+            unlisted,
+        } = sound;
         self.sound += 1;
+        if let (Some(total), Some(unlisted)) = (&mut self.unlisted, &unlisted) {
+            *total += unlisted.bytes;
+        }
         if report.json() {
             let object = Object::new().path(&path).text("result", "sound");
-            report.object(
-                object
-                    .number("chunks", chunks)
-                    .number("bytes", bytes as u64),
-            )
+            let object = object
+                .number("chunks", chunks)
+                .number("bytes", bytes as u64);
+            report.object(match unlisted {
+                Some(unlisted) => unlisted.object(object),
+                None => object,
+            })
         } else {
             let path = shown(&path);
             let chunks = counted(chunks, "chunk");
-            report.line(format_args!("{path}: sound, {chunks}, {bytes} bytes"))
+            let unlisted = unlisted.map(|unlisted| unlisted.line()).unwrap_or_default();
+            report.line(format_args!(
+                "{path}: sound, {chunks}, {bytes} bytes{unlisted}"
+            ))
         }
     }
 
@@ -161,10 +236,18 @@ impl Summary {
             let object = object
                 .number("not_read", failed)
                 .number("misnamed", misnamed);
-            return report.object(object.number("other_files", self.others));
+            let object = object.number("other_files", self.others);
+            return report.object(match self.unlisted {
+                Some(unlisted) => object.number("unlisted", unlisted),
+                None => object,
+            });
         }
+        let unlisted = self
+            .unlisted
+            .map(|unlisted| format!(", {}", counted(unlisted, "unlisted byte")))
+            .unwrap_or_default();
         report.line(format_args!(
-            "{}: {} sound, {refused} refused{}{}{}",
+            "{}: {} sound, {refused} refused{}{}{unlisted}{}",
             counted(self.total(), "shard"),
             self.sound,
             and(failed, "not read"),

@@ -5,7 +5,7 @@ use std::ffi::OsString;
 use std::fs;
 use std::path::{Path, PathBuf};
 
-use coronagamba::{Shard, Sharding};
+use coronagamba::{Shard, Sharding, Unlisted};
 
 use super::Command;
 use crate::args::{flag, Args};
@@ -186,7 +186,7 @@ impl Pair {
 /// it is refused or not read, its trouble is noted.
 fn judged(sharding: &Sharding, input: &mut Input, room: &mut Room) -> Option<u64> {
     let number = *input.number.as_ref().ok()?;
-    match round::check(sharding, number, &input.path, room) {
+    match round::check(sharding, number, &input.path, false, room) {
         Ok(chunks) => Some(chunks),
         Err(fault) => {
             input.number = Err(Trouble::Fault(fault));
@@ -283,7 +283,7 @@ impl Task {
     ) -> Result<Option<usize>, Fault> {
         let path = &self.paths[side as usize];
         read_into(path, &mut room.file)?;
-        let length = match self.shard(&room.file).settled_length() {
+        let length = match self.shard(&room.file).settled_length(Unlisted::Drop) {
             Ok(length) => length,
             Err(refusal) => {
                 return Err(round::refused(
@@ -306,7 +306,7 @@ impl Task {
         };
         let form = front(buffer, length as usize)
             .map_err(|error| Fault::system(path, "settled", error))?;
-        match self.shard(&room.file).settle(form) {
+        match self.shard(&room.file).settle(Unlisted::Drop, form) {
             Ok(length) => Ok(Some(length)),
             Err(refusal) => Err(round::refused(
                 path,

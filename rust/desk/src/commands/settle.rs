@@ -2,7 +2,7 @@
 
 use std::path::{Path, PathBuf};
 
-use coronagamba::{Shard, Sharding};
+use coronagamba::{Shard, Sharding, Unlisted};
 
 use super::Command;
 use crate::args::{flag, value, Args};
@@ -25,10 +25,18 @@ pub const COMMAND: Command = Command {
     options: &[
         settings::OPTIONS,
         round::OPTIONS,
-        &[value("--out"), flag("--force"), flag("--json")],
+        &[
+            value("--out"),
+            flag("--force"),
+            flag(DROP_UNLISTED),
+            flag("--json"),
+        ],
     ],
     run,
 };
+
+/// Asks to settle without the bytes that nothing lists.
+const DROP_UNLISTED: &str = "--drop-unlisted";
 
 fn run(args: &Args, report: &mut Report) -> Result<(), Fault> {
     let sharding = settings::of_shards(args)?.sharding;
@@ -53,6 +61,10 @@ fn run(args: &Args, report: &mut Report) -> Result<(), Fault> {
     let task = Task {
         sharding,
         force: args.flag("--force"),
+        unlisted: match args.flag(DROP_UNLISTED) {
+            true => Unlisted::Drop,
+            false => Unlisted::Refuse,
+        },
         inputs: Inputs::of(paths.chain(settings::files(args))),
     };
     if of_folder {
@@ -94,6 +106,7 @@ struct Settled {
 struct Task {
     sharding: Sharding,
     force: bool,
+    unlisted: Unlisted,
     /// All shards and the card, as they were when the run began: the output of
     /// one shard may be the input of another.
     inputs: Inputs,
@@ -168,7 +181,8 @@ impl Task {
         let form =
             front(&mut room.form, to).map_err(|error| Fault::system(path, "settled", error))?;
         let explain = |refusal| round::refused(path, &self.sharding, number, &room.file, refusal);
-        shard.settle(form).map_err(explain)?;
+        // What is unlisted was told with the length, or is to be dropped.
+        shard.settle(Unlisted::Drop, form).map_err(explain)?;
         let chunks = chunk_count(&self.sharding, &shard).map_err(explain)?;
         Ok(Settled {
             placed: output::place(out, self.force, form, &self.inputs)?,
@@ -190,7 +204,7 @@ impl Task {
             room.wait_for(lengths);
             read_into(path, &mut room.file)?;
             let shard = Shard::open(self.sharding, number, &room.file);
-            let length = shard.settled_length().map_err(|refusal| {
+            let length = shard.settled_length(self.unlisted).map_err(|refusal| {
                 round::refused(path, &self.sharding, number, &room.file, refusal)
             })?;
             lengths = [guess, lengths[1].max(length), 0];
@@ -333,6 +347,7 @@ mod tests {
         let task = Task {
             sharding: TWO_MINISHARDS,
             force: false,
+            unlisted: Unlisted::Refuse,
             inputs: Inputs::default(),
         };
         let work = |room: &mut Room, job| match task.work(room, job).verdict {

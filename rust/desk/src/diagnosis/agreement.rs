@@ -5,7 +5,7 @@
 use std::collections::BTreeSet;
 
 use compare::sides::{sharding, volume};
-use coronagamba::{Card, Cell, Manifest, Refusal, Shard};
+use coronagamba::{Card, Cell, Manifest, Refusal, Shard, Unlisted};
 use testkit::shards::{self, Sample};
 use testkit::{cards, infos, manifests, meshes, places, Rng};
 
@@ -53,6 +53,25 @@ fn sample(rng: &mut Rng) -> Sample {
     sample
 }
 
+/// Settling that drops nothing. The gaps that are told are the reference's.
+fn stopped(explained: &mut Explained, sample: &Sample) {
+    let (specification, number) = (sharding(&sample.sharding), sample.number);
+    let shard = Shard::open(specification, number, &sample.file);
+    let told = explained.note(shard.settled_length(Unlisted::Refuse), |refusal| {
+        of_shard(&specification, number, &sample.file, refusal)
+    });
+    if shard.unlisted().is_ok_and(|count| count > 0) {
+        let told = told.expect("it is refused");
+        let gaps = reference::unlisted::gaps(&sample.sharding, number, &sample.file);
+        let gaps = gaps.expect("it is sound");
+        assert_eq!(told.byte, Some(gaps[0].0));
+        let bytes: u64 = gaps.iter().map(|gap| gap.1).sum();
+        let [bytes, count] = [(bytes, "unlisted byte"), (gaps.len() as u64, "gap")]
+            .map(|(count, what)| crate::report::counted(count, what));
+        assert_eq!(told.found, format!("{bytes} in {count}"));
+    }
+}
+
 #[test]
 fn of_shards() {
     let mut rng = Rng::new(1_101);
@@ -63,8 +82,9 @@ fn of_shards() {
         let shard = Shard::open(sharding, number, &sample.file);
         let explain = |refusal| of_shard(&sharding, number, &sample.file, refusal);
         let checked = explained.note(shard.check(), explain);
-        let settled = explained.note(shard.settled_length(), explain);
+        let settled = explained.note(shard.settled_length(Unlisted::Drop), explain);
         assert_eq!(checked, settled);
+        stopped(&mut explained, &sample);
         let id = shards::question(&mut rng, &sample);
         explained.note(shard.lookup(id), |refusal| {
             of_lookup(&sharding, number, &sample.file, id, refusal)
@@ -74,7 +94,7 @@ fn of_shards() {
             of_listing(&sharding, number, &sample.file, minishard, refusal)
         });
     }
-    explained.assert_exactly([1].into_iter().chain(5..=12));
+    explained.assert_exactly([1].into_iter().chain(5..=12).chain([22]));
 }
 
 #[test]
@@ -87,8 +107,9 @@ fn of_mesh_shards() {
         let shard = Shard::open(sharding, number, &sample.file);
         let explain = |refusal| of_shard(&sharding, number, &sample.file, refusal);
         let checked = explained.note(shard.check(), explain);
-        let settled = explained.note(shard.settled_length(), explain);
+        let settled = explained.note(shard.settled_length(Unlisted::Drop), explain);
         assert_eq!(checked, settled);
+        stopped(&mut explained, &sample);
         let (id, level, node) = meshes::question(&mut rng, &sample);
         explained.note(shard.lookup(id), |refusal| {
             of_lookup(&sharding, number, &sample.file, id, refusal)
@@ -101,7 +122,7 @@ fn of_mesh_shards() {
             of_listing(&sharding, number, &sample.file, minishard, refusal)
         });
     }
-    let numbers = [1].into_iter().chain(5..=12).chain(15..=18).chain([21]);
+    let numbers = [1].into_iter().chain(5..=12).chain(15..=18).chain([21, 22]);
     explained.assert_exactly(numbers);
 }
 
@@ -114,7 +135,7 @@ fn of_mesh_forms_that_are_too_long() {
         let sample = meshes::brimming(&mut rng);
         let (sharding, number) = (sharding(&sample.sharding), sample.number);
         let shard = Shard::open(sharding, number, &sample.file);
-        let told = explained.note(shard.settled_length(), |refusal| {
+        let told = explained.note(shard.settled_length(Unlisted::Drop), |refusal| {
             of_shard(&sharding, number, &sample.file, refusal)
         });
         let expected = "a settled form of 1073741825 bytes";

@@ -8,12 +8,14 @@
 #[cfg(test)]
 mod agreement;
 mod card;
+mod gaps;
 mod info;
 mod manifest;
 mod places;
 mod shard;
 
 pub use card::of_card;
+pub use gaps::Gaps;
 pub use info::of_info;
 pub use manifest::{of_manifest, of_node};
 pub use places::{of_cell, of_key, of_shard_number, of_sharding, of_volume};

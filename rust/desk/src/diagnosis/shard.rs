@@ -1,9 +1,10 @@
-//! Refusals of a shard: 5 to 13, and of a mesh 15 to 18 and 21. Where a fault
+//! Refusals of a shard: 5 to 13, 22, and of a mesh 15 to 18 and 21. Where a fault
 //! stands is what the library says; here the numbers at that place are read and
 //! put into words.
 
-use coronagamba::{Manifest, Refusal, Shard, Sharding};
+use coronagamba::{Manifest, Refusal, Shard, Sharding, Span};
 
+use super::gaps::Gaps;
 use super::manifest::{of_manifest, of_no_node};
 use super::places::MOST_MINISHARD_BITS;
 use super::{of_shard_number, of_sharding, u64_at, Diagnosis, Place};
@@ -20,10 +21,10 @@ const ENTRY: u64 = 16;
 const ROWS: u64 = 24;
 
 /// A shard as this reading sees it.
-struct Seen<'a> {
-    sharding: &'a Sharding,
-    number: u64,
-    file: &'a [u8],
+pub(super) struct Seen<'a> {
+    pub(super) sharding: &'a Sharding,
+    pub(super) number: u64,
+    pub(super) file: &'a [u8],
 }
 
 /// Whether a number is that of a fault in a minishard, which has a position.
@@ -32,7 +33,7 @@ fn is_fault(number: u8) -> bool {
 }
 
 /// A refusal of the whole-shard check or of settling: 1, 5 to 11, 13, 15 to 17,
-/// 21.
+/// 21, 22.
 pub fn of_shard(sharding: &Sharding, number: u64, file: &[u8], refusal: Refusal) -> Diagnosis {
     let seen = Seen {
         sharding,
@@ -45,6 +46,7 @@ pub fn of_shard(sharding: &Sharding, number: u64, file: &[u8], refusal: Refusal)
         6 => seen.length(),
         number if is_fault(number) => told(seen.first_fault(refusal)),
         13 => told(seen.settled_length()),
+        22 => told(Gaps::again(sharding, number, file).map(of_gaps)),
         _ => Diagnosis::not_found_again(),
     }
 }
@@ -112,6 +114,19 @@ pub fn of_fragment(
     told(seen.no_fragment(id, level, node))
 }
 
+/// Refusal 22 of settling.
+fn of_gaps(gaps: Gaps) -> Diagnosis {
+    let byte = gaps.first.first().map(|span| span.start);
+    Diagnosis {
+        byte,
+        ..Diagnosis::new(
+            gaps.size(),
+            "every byte past the shard index listed, or the wish to lose the others (--drop-unlisted)",
+            gaps.to_string(),
+        )
+    }
+}
+
 /// A diagnosis, or that none was found.
 fn told(found: Option<Diagnosis>) -> Diagnosis {
     found.unwrap_or_else(Diagnosis::not_found_again)
@@ -124,12 +139,12 @@ fn byte(place: u64, what: &str) -> Place {
 
 impl Seen<'_> {
     /// How many minishards there are.
-    fn minishards(&self) -> u64 {
+    pub(super) fn minishards(&self) -> u64 {
         1 << self.sharding.minishard_bits.min(MOST_MINISHARD_BITS)
     }
 
     /// The length of the shard index, from whose end all places count.
-    fn index_length(&self) -> u64 {
+    pub(super) fn index_length(&self) -> u64 {
         ENTRY * self.minishards()
     }
 
@@ -269,7 +284,7 @@ impl Seen<'_> {
 
     /// The rows of a minishard that has neither 7 nor 8: none where its entry is
     /// empty, wherever that points.
-    fn rows(&self, minishard: u64) -> Option<Rows<'_>> {
+    pub(super) fn rows(&self, minishard: u64) -> Option<Rows<'_>> {
         let base = self.index_length();
         let (start, end) = match self.entry(ENTRY * minishard)? {
             (start, end) if start == end => (base, base),
@@ -506,10 +521,10 @@ fn in_manifest(start: u64, inner: &Diagnosis) -> String {
 }
 
 /// The three rows of a minishard index (scope, 'From id to shard').
-struct Rows<'a> {
-    bytes: &'a [u8],
+pub(super) struct Rows<'a> {
+    pub(super) bytes: &'a [u8],
     /// Where they begin in the file.
-    begin: u64,
+    pub(super) begin: u64,
 }
 
 /// A row by its number.
@@ -552,6 +567,16 @@ impl Rows<'_> {
         self.ids().nth(usize::try_from(entry).ok()?)
     }
 
+    /// Where each chunk is, its start counted from the end of the shard index.
+    pub(super) fn spans(&self) -> impl Iterator<Item = Span> + '_ {
+        let numbers = self.numbers(START_STEPS).zip(self.numbers(SIZES));
+        numbers.scan(0u64, |end, (step, length)| {
+            let start = end.wrapping_add(step);
+            *end = start.wrapping_add(length);
+            Some(Span { start, length })
+        })
+    }
+
     /// Where an entry's chunk starts, counted from the end of the shard index:
     /// the sum modulo 2^64 of the start steps so far and the sizes before.
     fn start(&self, entry: u64) -> u64 {
@@ -564,6 +589,7 @@ impl Rows<'_> {
 #[cfg(test)]
 mod tests {
     use super::*;
+    use coronagamba::Unlisted;
 
     const SHARDING: Sharding = Sharding {
         preshift: 0,
@@ -606,7 +632,7 @@ mod tests {
         assert_eq!((refusal.number, refusal.minishard), (number, minishard));
         let told = of_shard(&SHARDING, 0, file, refusal);
         assert_eq!(told.byte, refusal.position);
-        let settling = shard.settled_length().unwrap_err();
+        let settling = shard.settled_length(Unlisted::Drop).unwrap_err();
         assert_eq!((settling.number, settling.minishard), (number, None));
         assert_eq!(of_shard(&SHARDING, 0, file, settling), told);
         told
@@ -852,7 +878,7 @@ mod tests {
             }
         }
         let refusal = Shard::open(sharding, 0, &file)
-            .settled_length()
+            .settled_length(Unlisted::Drop)
             .unwrap_err();
         assert_eq!(refusal.number, 13);
         let told = of_shard(&sharding, 0, &file, refusal);

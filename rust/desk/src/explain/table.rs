@@ -196,4 +196,14 @@ pub const TABLE: &[Explained] = &[
          source, its writer must write the shard again, each manifest right behind its \
          fragments.",
     },
+    Explained {
+        number: 22,
+        given: "a byte of a sound shard lies past the shard index in no listed chunk, no \
+         fragment and no nonempty minishard index, and settling was not asked to drop such \
+         bytes; after all that the check refuses and before 13",
+        cause: "Chunks that a writer replaced or removed and whose bytes it left behind, \
+         padding, or, where a mesh shard is read as a volume, its fragments.",
+        remedy: "Look at them with 'check --unlisted', which tells how many there are and where. \
+         Settle with '--drop-unlisted' only when nothing of them is wanted.",
+    },
 ];

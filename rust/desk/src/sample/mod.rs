@@ -8,7 +8,7 @@ mod layout;
 mod mesh;
 mod volume;
 
-use coronagamba::{Card, Refusal, Shard, Sharding};
+use coronagamba::{Card, Refusal, Shard, Sharding, Unlisted};
 use layout::Order;
 use std::collections::BTreeMap;
 
@@ -145,7 +145,10 @@ fn folder(
 /// The settled form of each shard.
 fn settled(sharding: &Sharding, shards: &Shards) -> Result<Shards, Refusal> {
     let form = |(number, file): (&u64, &Vec<u8>)| {
-        Ok((*number, Shard::open(*sharding, *number, file).settled()?))
+        Ok((
+            *number,
+            Shard::open(*sharding, *number, file).settled(Unlisted::Drop)?,
+        ))
     };
     shards.iter().map(form).collect()
 }

@@ -138,7 +138,7 @@ fn a_long_shard_is_told_in_its_place() {
     }
     for command in [
         "check deposit",
-        "settle deposit --out out",
+        "settle --drop-unlisted deposit --out out",
         "same deposit deposit",
     ] {
         let run = folder.run_line(&format!("{command} --jobs 4 {}", options(&SHARDING)));
@@ -228,7 +228,10 @@ fn two_hundred_shards_are_settled() {
     let shards = shards(&mut Rng::new(3), 200);
     let folder = Folder::new();
     store(&folder, "deposit", &shards);
-    let line = format!("settle deposit --out settled {}", options(&SHARDING));
+    let line = format!(
+        "settle --drop-unlisted deposit --out settled {}",
+        options(&SHARDING)
+    );
     let run = folder.run_line(&line);
     run.expect_status(1);
     let mut expected = Vec::new();
@@ -651,8 +654,8 @@ fn one_way_for_a_name_of_no_shard() {
         ("check odd", 0),
         ("check odd/x.shard", 0),
         ("check demo/copy-a/0.shard odd/x.shard", 1),
-        ("settle odd --out out", 0),
-        ("settle odd/x.shard --out out.shard", 0),
+        ("settle --drop-unlisted odd --out out", 0),
+        ("settle --drop-unlisted odd/x.shard --out out.shard", 0),
     ] {
         let objects = objects(&folder, &format!("{line} {card}"));
         assert_eq!(objects[at].text("path"), Some("odd/x.shard"), "{line}");
@@ -691,7 +694,9 @@ fn an_output_that_cannot_be_written_is_told_beside_its_input() {
     let folder = Folder::with_sample();
     folder.write("file", "x");
     for out in ["none/f", "file/f"] {
-        let line = format!("settle demo/copy-b/5.shard --out {out} --card demo/deposit.card");
+        let line = format!(
+            "settle --drop-unlisted demo/copy-b/5.shard --out {out} --card demo/deposit.card"
+        );
         folder.run_line(&line).expect_status(3);
         let object = &objects(&folder, &line)[0];
         assert_eq!(object.text("path"), Some("demo/copy-b/5.shard"));

@@ -55,7 +55,7 @@ fn the_file_its_output_and_64_mib_are_enough() {
     folder
         .run_after(&limit(file + 64 * MIB), &get)
         .expect_status(0);
-    let settle = format!("settle 0.shard --out settled {options}");
+    let settle = format!("settle --drop-unlisted 0.shard --out settled {options}");
     folder
         .run_after(&limit(2 * file + 64 * MIB), &settle)
         .expect_status(0);
@@ -127,7 +127,7 @@ fn a_shard_of_one_gibibyte() {
     folder
         .run_after(
             &limit(2 * file + 64 * MIB),
-            &format!("settle 0.shard --out settled {options}"),
+            &format!("settle --drop-unlisted 0.shard --out settled {options}"),
         )
         .expect_status(0);
     let length = |name| folder.at(name).metadata().expect("a file").len();
@@ -181,7 +181,7 @@ fn a_shard_that_gets_no_memory_waits_until_it_is_alone() {
     let limit = limit(2 * (chunk + 40) + 64 * MIB);
     for line in [
         format!("check deposit --jobs 4 {options}"),
-        format!("settle deposit --out settled --jobs 4 {options}"),
+        format!("settle --drop-unlisted deposit --out settled --jobs 4 {options}"),
     ] {
         folder.run_after(&limit, &line).expect_status(0);
     }

@@ -130,7 +130,7 @@ fn faults_are_told_with_their_places() {
         met.push(expected.number);
         let checked = folder.run_line(&format!("check s {words}"));
         assert_eq!(told(checked.expect_status(1)), Some(expected), "{checked}");
-        let settled = folder.run_line(&format!("settle s --out o {words}"));
+        let settled = folder.run_line(&format!("settle --drop-unlisted s --out o {words}"));
         let passed_on = Some(expected.passed_on());
         assert_eq!(told(settled.expect_status(1)), passed_on, "{settled}");
         if let Some(minishard) = expected.minishard {
@@ -163,7 +163,7 @@ fn copies_settle_alike_and_differ_where_a_net_does() {
         let sentence =
             "The two hold the same chunks and fragments: 1 shard compared, all the same.";
         same.expect_status(0).expect_line(sentence);
-        let settle = format!("settle one/{name} --out form --force {words}");
+        let settle = format!("settle --drop-unlisted one/{name} --out form --force {words}");
         folder.run_line(&settle).expect_status(0);
         let form = form_of(&sharding, &meshes::triples(&nets));
         assert!(folder.read("form") == form);
@@ -299,7 +299,7 @@ fn a_level_or_node_that_is_not_there() {
 }
 
 /// The kind decides what a shard holds: as a volume it has manifests and no
-/// fragments, and settling loses them.
+/// fragments, and settling stops, or loses them where that is asked for.
 #[test]
 fn the_kind_is_the_deposits() {
     let folder = Folder::new();
@@ -316,8 +316,13 @@ fn the_kind_is_the_deposits() {
         .run_line(&format!("settle 0.shard --out kept {mesh}"))
         .expect_status(0);
     assert!(folder.read("kept") == file);
+    let stopped = folder.run_line(&format!("settle 0.shard --out lost {volume}"));
+    stopped.expect_status(1);
+    stopped.expect_line("  found: 20 unlisted bytes in 2 gaps");
     folder
-        .run_line(&format!("settle 0.shard --out lost {volume}"))
+        .run_line(&format!(
+            "settle --drop-unlisted 0.shard --out lost {volume}"
+        ))
         .expect_status(0);
     assert_eq!(folder.read("lost").len(), file.len() - 20);
     let fragment = folder.run_line(&format!("get 0.shard 4 --fragment 0,0 {volume}"));

@@ -50,7 +50,10 @@ impl Deposit {
 
     /// The words of a run that settles all of it.
     fn line(&self) -> String {
-        format!("settle deposit --out settled {}", options(&SHARDING))
+        format!(
+            "settle --drop-unlisted deposit --out settled {}",
+            options(&SHARDING)
+        )
     }
 
     /// How many final names there are. Panics where one is not whole.
@@ -227,7 +230,7 @@ fn a_failed_write_keeps_the_old_file() {
     folder.write("settled/00.shard", "old");
     folder.write("chunk", "old");
     let no_room = "trap '' XFSZ; ulimit -f 10";
-    let settle = format!("settle deposit --out settled --force {options}");
+    let settle = format!("settle --drop-unlisted deposit --out settled --force {options}");
     folder.run_after(no_room, &settle).expect_status(3);
     let get = format!("get deposit/00.shard 0 --out chunk --force {options}");
     folder.run_after(no_room, &get).expect_status(3);
@@ -266,7 +269,7 @@ fn single_outputs_are_kept_without_force() {
     let fields = "--preshift 1 --hash identity --minishard-bits 1 --shard-bits 3 --size 300,260,200 --chunk 64,64,64 --offset -64,0,0";
     let lines = [
         format!("get demo/copy-a/0.shard 0 --out out {card}"),
-        format!("settle demo/copy-b/0.shard --out out {card}"),
+        format!("settle --drop-unlisted demo/copy-b/0.shard --out out {card}"),
         format!("card make --out out {fields}"),
     ];
     let expected = [
@@ -311,7 +314,7 @@ fn an_input_is_never_its_own_output() {
         "deposit/00.shard --out hard",
     ] {
         for force in ["", "--force"] {
-            let run = folder.run_line(&format!("settle {paths} {force} {options}"));
+            let run = folder.run_line(&format!("settle --drop-unlisted {paths} {force} {options}"));
             run.expect_status(2);
         }
         let after = [
@@ -389,8 +392,8 @@ fn inputs_are_never_changed() {
     let before: Vec<_> = names.iter().map(|name| stamp(name)).collect();
     for line in [
         "check demo/damaged",
-        "settle demo/damaged --out settled",
-        "settle demo/damaged --out settled --force",
+        "settle --drop-unlisted demo/damaged --out settled",
+        "settle --drop-unlisted demo/damaged --out settled --force",
         "same demo/damaged demo/copy-a",
         "list demo/damaged/0.shard",
         "get demo/damaged 0",
@@ -410,7 +413,9 @@ fn the_card_is_never_an_output() {
     fs::hard_link(folder.at("my.card"), folder.at("hard")).expect("a link");
     for out in ["my.card", "./demo/../my.card", "hard"] {
         for force in ["", "--force"] {
-            let line = format!("settle demo/copy-b/5.shard --out {out} {force} --card my.card");
+            let line = format!(
+                "settle --drop-unlisted demo/copy-b/5.shard --out {out} {force} --card my.card"
+            );
             folder.run_line(&line).expect_status(2);
             assert!(folder.read("my.card") == card, "{line}");
         }
@@ -448,7 +453,7 @@ fn an_output_is_none_of_all_inputs() {
             folder.write("out/0.shard", &seventh);
             symlink("../out/0.shard", folder.at("in/7.shard")).expect("a link");
             let run = folder.run_line(&format!(
-                "settle in --out out --jobs {jobs} {force} --card demo/deposit.card"
+                "settle --drop-unlisted in --out out --jobs {jobs} {force} --card demo/deposit.card"
             ));
             run.expect_status(2);
             assert!(run.stderr.contains("in/7.shard"), "{run}");
@@ -472,7 +477,7 @@ fn part_files_of_an_output_go_away_whoever_writes_it() {
     for line in [
         format!("get demo/copy-a/0.shard 0 --out out {card}"),
         format!("card make --out out {fields}"),
-        format!("settle demo/copy-b/0.shard --out out {card}"),
+        format!("settle --drop-unlisted demo/copy-b/0.shard --out out {card}"),
     ] {
         // No process has these numbers.
         folder.write(".out.4194305.part", "half");
@@ -490,7 +495,7 @@ fn an_input_that_looks_like_a_part_file_stays() {
     folder.write(".out.4194305.part", &shard);
     let card = "--card demo/deposit.card";
     for line in [
-        format!("settle .out.4194305.part --shard 0 --out out {card}"),
+        format!("settle --drop-unlisted .out.4194305.part --shard 0 --out out {card}"),
         format!("get .out.4194305.part 0 --shard 0 --out out {card}"),
     ] {
         folder.run_line(&line).expect_status(0);

@@ -71,7 +71,7 @@ fn what_is_no_readable_file() {
     let made = Command::new("mkfifo").arg(&bad).status();
     assert!(made.expect("mkfifo starts").success());
     the_rest_is_judged(&run_for_a_minute(&folder, &line), "3.shard");
-    let settle = format!("settle deposit --out settled {OPTIONS}");
+    let settle = format!("settle --drop-unlisted deposit --out settled {OPTIONS}");
     run_for_a_minute(&folder, &settle).expect_status(3);
     assert_eq!(folder.names("settled"), ["0.shard", "4.shard", "f.shard"]);
 }
@@ -88,7 +88,7 @@ fn single_files_that_can_not_be_read() {
         }
         let get = format!("get {name} 12 --card demo/deposit.card");
         run_for_a_minute(&folder, &get).expect_status(3);
-        let settle = format!("settle {name} --out out --card demo/deposit.card");
+        let settle = format!("settle --drop-unlisted {name} --out out --card demo/deposit.card");
         run_for_a_minute(&folder, &settle).expect_status(3);
         let same = format!("same {name} demo/copy-a/3.shard --card demo/deposit.card");
         run_for_a_minute(&folder, &same).expect_status(3);
@@ -182,7 +182,7 @@ fn files_without_permission() {
     for mode in [0o555, 0o000] {
         let permissions = Permissions::from_mode(mode);
         fs::set_permissions(folder.at("locked"), permissions).expect("changed");
-        let settle = format!("settle deposit --out locked {OPTIONS}");
+        let settle = format!("settle --drop-unlisted deposit --out locked {OPTIONS}");
         let mut command = restricted(&folder).expect("as before");
         Run::of(command.args(settle.split_whitespace())).expect_status(3);
     }

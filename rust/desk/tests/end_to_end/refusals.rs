@@ -6,9 +6,11 @@ use crate::json::Json;
 use crate::shards::{example, options, with_index, ONE};
 use crate::support::{Folder, Run};
 use reference::sharding::Sharding;
-use reference::{card, info, manifest, settle, shard, Refusal};
+use reference::{card, info, manifest, settle, shard, unlisted, Refusal};
 use std::fs::File;
 use testkit::manifests::Parts;
+use testkit::shards::{self, Sample};
+use testkit::{meshes, Rng};
 
 /// The refusal that a plain run told in its first words about it.
 fn told(run: &Run) -> Option<Refusal> {
@@ -103,7 +105,11 @@ fn number_1_a_field_of_the_specification() {
         refused_bare(&folder, &format!("check 0.shard {options}"), 1);
         refused_bare(&folder, &format!("list 0.shard {options}"), 1);
         refused_bare(&folder, &format!("get 0.shard 4 {options}"), 1);
-        refused_bare(&folder, &format!("settle 0.shard --out out {options}"), 1);
+        refused_bare(
+            &folder,
+            &format!("settle --drop-unlisted 0.shard --out out {options}"),
+            1,
+        );
         refused_bare(&folder, &format!("same 0.shard 0.shard {options}"), 1);
         refused_bare(&folder, &format!("locate 0,0,0 {options} {VOLUME}"), 1);
         refused_bare(&folder, &format!("name --shard 0 {options}"), 1);
@@ -284,7 +290,7 @@ fn number_5_another_shard() {
         refused_bare(&folder, &format!("check 0.shard --shard {number} {one}"), 5);
         refused_bare(
             &folder,
-            &format!("settle 0.shard --out o --shard {number} {one}"),
+            &format!("settle --drop-unlisted 0.shard --out o --shard {number} {one}"),
             5,
         );
         refused_bare(&folder, &format!("list 0.shard --shard {number} {one}"), 5);
@@ -309,7 +315,11 @@ fn number_6_too_short_or_too_long() {
         assert_eq!(shard::check(&ONE, 0, file), Err(Refusal::bare(6)));
         folder.write("0.shard", file);
         refused_bare(&folder, &format!("check 0.shard {one}"), 6);
-        refused_bare(&folder, &format!("settle 0.shard --out o {one}"), 6);
+        refused_bare(
+            &folder,
+            &format!("settle --drop-unlisted 0.shard --out o {one}"),
+            6,
+        );
         refused_bare(&folder, &format!("get 0.shard 4 {one}"), 6);
         refused_bare(&folder, &format!("list 0.shard {one}"), 6);
     }
@@ -370,8 +380,12 @@ fn numbers_7_to_11_name_minishard_and_position_in_a_check() {
         folder.write("0.shard", &file);
         refused(&folder, &format!("check 0.shard {one}"), expected);
         let settling = expected.passed_on();
-        assert_eq!(settle::length_of(&ONE, 0, &file), Err(settling));
-        refused(&folder, &format!("settle 0.shard --out o {one}"), settling);
+        assert_eq!(settle::length_of(&ONE, 0, &file, true), Err(settling));
+        refused(
+            &folder,
+            &format!("settle --drop-unlisted 0.shard --out o {one}"),
+            settling,
+        );
         assert!(!folder.at("o").exists());
     }
 }
@@ -445,7 +459,7 @@ fn number_13_a_settled_form_beyond_a_gibibyte() {
     let folder = Folder::new();
     let (sharding, file) = folded();
     assert_eq!(shard::check(&sharding, 0, &file), Ok(()));
-    let length = settle::length_of(&sharding, 0, &file);
+    let length = settle::length_of(&sharding, 0, &file, true);
     assert_eq!(length, Err(Refusal::bare(13)));
     folder.write("0.shard", &file);
     folder.write("copy/0.shard", &file);
@@ -453,7 +467,11 @@ fn number_13_a_settled_form_beyond_a_gibibyte() {
     folder
         .run_line(&format!("check 0.shard {options}"))
         .expect_status(0);
-    refused_bare(&folder, &format!("settle 0.shard --out o {options}"), 13);
+    refused_bare(
+        &folder,
+        &format!("settle --drop-unlisted 0.shard --out o {options}"),
+        13,
+    );
     refused_bare(&folder, &format!("same 0.shard copy/0.shard {options}"), 13);
     assert_eq!(folder.names("."), ["0.shard", "copy"]);
 }
@@ -502,4 +520,88 @@ fn numbers_15_to_18_manifests() {
     let run = folder.run_line("manifest node m 1 0");
     run.expect_status(1).expect_line("  position: 16777216,0,0");
     assert!(run.text().contains("corners: none, refused 18: "), "{run}");
+}
+
+#[test]
+fn number_22_unlisted_bytes() {
+    let folder = Folder::new();
+    let (form, one) = (example(), options(&ONE));
+    let file = [&form[..], b"--"].concat();
+    folder.write("0.shard", &file);
+    assert_eq!(
+        settle::length_of(&ONE, 0, &file, false),
+        Err(Refusal::bare(22))
+    );
+    let settle = format!("settle 0.shard --out o {one}");
+    refused_bare(&folder, &settle, 22);
+    assert_eq!(folder.names("."), ["0.shard"]);
+    let run = folder.run_line(&settle);
+    let told =
+        "0.shard: refused 22: The shard has bytes that nothing lists, and dropping them was \
+                not asked for.
+  found: 2 unlisted bytes in 1 gap
+  expected: every byte past the shard index listed, or the wish to lose the others (--drop-unlisted)
+  look at: byte 85 (2 bytes)
+";
+    assert_eq!(run.text(), told);
+    folder
+        .run_line(&format!("{settle} --drop-unlisted"))
+        .expect_status(0);
+    assert!(folder.read("o") == form);
+    // A form has none, and needs no wish.
+    let again = folder.run_line(&format!("settle o --shard 0 --out p {one}"));
+    again.expect_status(0);
+    assert!(folder.read("p") == form);
+    // What the check refuses comes first.
+    let mut twice = file.clone();
+    twice[45..53].fill(0);
+    folder.write("0.shard", &twice);
+    refused(&folder, &settle, Refusal::at(9, 45));
+}
+
+/// Counts and first gaps beside the reference's, of sound shards of both kinds.
+#[test]
+fn check_counts_unlisted_bytes() {
+    let rng = &mut Rng::new(81);
+    let folder = Folder::new();
+    let (mut with, mut without) = (0, 0);
+    for turn in 0..60 {
+        let Sample {
+            sharding,
+            number,
+            file,
+        } = match turn % 2 {
+            0 => shards::sound(rng, 8),
+            _ => meshes::sound(rng, 5),
+        };
+        folder.write("s", &file);
+        let words = format!("--shard {number} {}", options(&sharding));
+        let gaps = unlisted::gaps(&sharding, number, &file).expect("it is sound");
+        let bytes: u64 = gaps.iter().map(|gap| gap.1).sum();
+        let json = folder.run_line(&format!("check s --unlisted --json {words}"));
+        json.expect_status(0);
+        let object = Json::read(json.lines()[0]).expect("an object");
+        assert_eq!(object.number("unlisted"), Some(&bytes.to_string()[..]));
+        assert_eq!(object.number("gaps"), Some(&gaps.len().to_string()[..]));
+        let first = gaps.first().map(|gap| gap.0.to_string());
+        assert_eq!(object.number("first_gap"), first.as_deref());
+        let plain = folder.run_line(&format!("check s {words}"));
+        assert!(!plain.expect_status(0).text().contains("unlisted"));
+        let line = folder.run_line(&format!("check s --unlisted {words}"));
+        let settled = folder.run_line(&format!("settle s --out o --force {words}"));
+        match gaps.first() {
+            None => {
+                without += 1;
+                assert!(line.text().ends_with(", 0 unlisted bytes\n"), "{line}");
+                settled.expect_status(0);
+            }
+            Some((start, length)) => {
+                with += 1;
+                let place = format!(": byte {start} ({length} byte");
+                assert!(line.text().contains(&place), "{line}");
+                settled.expect_status(1);
+            }
+        }
+    }
+    assert!(with > 20 && without > 5, "{with} with, {without} without");
 }

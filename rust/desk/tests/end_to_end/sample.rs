@@ -131,7 +131,10 @@ fn the_third_copy_is_in_order_of_arrival() {
             assert!(!entries.is_sorted_by_key(|entry| entry.start));
         }
         let mut form = vec![0; a[number].len()];
-        assert_eq!(settle(&DEPOSIT, *number, file, &mut form), Ok(form.len()));
+        assert_eq!(
+            settle(&DEPOSIT, *number, file, true, &mut form),
+            Ok(form.len())
+        );
         assert_eq!(form, a[number]);
     }
     let card = "--card demo/deposit.card";
@@ -139,7 +142,9 @@ fn the_third_copy_is_in_order_of_arrival() {
         let run = folder.run_line(&format!("same demo/{other} demo/copy-c {card}"));
         run.expect_status(0).expect_line("0.shard: same");
     }
-    let run = folder.run_line(&format!("settle demo/copy-c --out settled {card}"));
+    let run = folder.run_line(&format!(
+        "settle --drop-unlisted demo/copy-c --out settled {card}"
+    ));
     run.expect_status(0);
     for number in a.keys() {
         let name = format!("{number:x}.shard");

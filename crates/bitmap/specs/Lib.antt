@@ -1,0 +1,4 @@
+-- Positions and maps of them.
+pub mod Positions
+pub mod Bits
+pub mod Window

@@ -1,0 +1,2 @@
+-- Laws of the ranges of a shard.
+pub mod Meaning

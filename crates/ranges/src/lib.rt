@@ -1,0 +1,1 @@
+// The ranges of a shard: definitions, no code.

@@ -1,0 +1,2 @@
+-- Laws of the ranges of a settled form.
+pub mod Listed

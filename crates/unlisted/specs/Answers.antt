@@ -1,0 +1,12 @@
+-- What the count of unlisted bytes answers: the refusals of the check, those of a minishard with their position, or the count (02, orders 8 and 13).
+use Prim.Native.Nat.{ℕ}
+use mathlib.Core.List.{List}
+use Rattle.refusal.specs.Checks.{answeredAt}
+use Rattle.sharding.specs.declared.Sharding.{Sharding}
+use Rattle.shard.specs.File.{shardChecks}
+use Rattle.unlisted.specs.declared.UnlistedAnswer.{UnlistedAnswer}
+use Rattle.unlisted.specs.declared.UnlistedAnswer.the-variants.{Count, Refused, Faulty}
+use Rattle.ranges.specs.Covered.{fileUnlisted}
+
+unfoldable pub unlistedAnswer : Sharding → ℕ → List ℕ → UnlistedAnswer
+unlistedAnswer spec shard file = answeredAt Refused Faulty (shardChecks spec shard file) (Count (fileUnlisted spec file))

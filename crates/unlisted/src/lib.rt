@@ -1,0 +1,67 @@
+// How many bytes of a shard lie in none of its ranges.
+pub mod inner;
+mod items;
+mod judged;
+mod order;
+mod windows;
+
+ghost use mathlib.Core.Path.{_≡_};
+ghost use mathlib.Core.Bool.{true};
+ghost use Prim.Native.Nat.{_≤_};
+ghost use lib.ListN.{length};
+ghost use Rattle.sharding.specs.Specification.{allowed};
+ghost use Rattle.index.specs.Index.{mostShardBytes};
+ghost use Rattle.shard.specs.File.{indexLength, indexPart, dataPart};
+ghost use Rattle.unlisted.specs.Judging.{Counts};
+ghost use Rattle.unlisted.specs.Answers.{unlistedAnswer};
+use crate::inner::Counted;
+use crate::inner::count_judged;
+use shard::inner::MOST_SHARD_BYTES;
+use shard::inner::index_length;
+use sharding::Sharding;
+use sharding::inner::is_allowed;
+use sharding::inner::shard_count;
+
+// How many bytes of a shard are unlisted, or the refusal. What is wrong in a minishard comes with its byte position, counted from
+// the beginning of the shard.
+pub enum UnlistedAnswer {
+    Count(u64),
+    Refused(u8),
+    Faulty { number: u8, position: u64 },
+}
+
+// In a file whose length was tested, by its two parts.
+fn counted_file(spec: Sharding, shard: u64, file: &[u8]) -> Counted
+    requires { ⌜ allowed spec ≡ true ⌝ }
+    requires { ⌜ (indexLength spec ≤ length (now file)) × (length (now file) ≤ mostShardBytes) ⌝ }
+    ensures { λ r. ⌜ Counts spec shard (indexPart spec (now (file .entry))) (dataPart spec (now (file .entry))) r ⌝ }
+{
+    let n = index_length(spec);
+    count_judged(spec, shard, &file[..n], &file[n..])
+}
+
+// The number of unlisted bytes of a sound shard, or the refusal.
+pub fn unlisted_count(spec: Sharding, shard: u64, file: &[u8]) -> UnlistedAnswer
+    ensures answer { λ r. ⌜ r ≡ unlistedAnswer spec shard (now (file .entry)) ⌝ }
+{
+    if !is_allowed(spec) {
+        return UnlistedAnswer::Refused(1);
+    }
+    if shard_count(spec) <= shard {
+        return UnlistedAnswer::Refused(5);
+    }
+    if file.len() < index_length(spec) {
+        return UnlistedAnswer::Refused(6);
+    }
+    if MOST_SHARD_BYTES < file.len() {
+        return UnlistedAnswer::Refused(6);
+    }
+    let found = counted_file(spec, shard, file);
+    if found.number == 0 {
+        return UnlistedAnswer::Count(found.bytes);
+    }
+    UnlistedAnswer::Faulty {
+        number: found.number,
+        position: found.position,
+    }
+}
