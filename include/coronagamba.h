@@ -289,6 +289,16 @@ uint64_t coronagamba_keys_of(coronagamba_volume volume, const uint32_t *cells,
                              size_t count, uint64_t *keys, size_t keys_count,
                              uint64_t *length);
 
+/* The keys of a row of cells: x rises from `from` up to `to`, that end
+ * excluded, at one `y` and `z`. A row whose end is not past its begin has no
+ * cell. Writes the keys to the front of `keys`, and their number to
+ * `length`. The volume is judged also where there is no cell. Refusals: 2
+ * where an extent is 0 or any cell is outside the grid, 3, 13 where `keys`
+ * has room for fewer */
+uint64_t coronagamba_row_keys(coronagamba_volume volume, uint32_t from,
+                              uint32_t to, uint32_t y, uint32_t z,
+                              uint64_t *keys, size_t count, uint64_t *length);
+
 /* The chunks that cover a box: the keys of all cells that share a voxel with
  * it, rising, each once. The box begins at `lower` and ends at `upper`, that
  * end excluded along each axis, in voxels, the volume's offset included. An

@@ -36,8 +36,9 @@ static float real_of(uint32_t bits) {
   return real;
 }
 
-/* Grid 5,3,1: cell 4,2,0 has key 24; 3,1,0 has key 7; key 20 gives 4. The box
- * of cells 1 and 2 along x, 0 and 1 along y has keys 1, 3, 4 and 6. */
+/* Grid 5,3,1: cell 4,2,0 has key 24; 3,1,0 has key 7; key 20 gives 4. The row
+ * of cells 2, 3 and 4 along x at 2 along y has keys 12, 13 and 24. The box of
+ * cells 1 and 2 along x, 0 and 1 along y has keys 1, 3, 4 and 6. */
 static void grid(void) {
   coronagamba_volume volume = {{5, 3, 1}, {1, 1, 1}, {0, 0, 0}};
   coronagamba_volume strip = {{100, 1, 1}, {64, 1, 1}, {-64, 0, 0}};
@@ -56,13 +57,20 @@ static void grid(void) {
   see(coronagamba_keys_of(volume, cells, 7, keys, 3, &length) == 0 &&
           length == 2 && keys[0] == 24 && keys[1] == 7 && keys[2] == 9,
       "keys_of");
+  see(coronagamba_row_keys(volume, 2, 5, 2, 0, keys, 3, &length) == 0 &&
+          length == 3 && keys[0] == 12 && keys[1] == 13 && keys[2] == 24,
+      "row_keys");
+  see(coronagamba_row_keys(volume, 2, 6, 2, 0, keys, 3, &length) ==
+              CORONAGAMBA_REFUSED_NO_SUCH_CELL &&
+          length == 3 && keys[2] == 24,
+      "row_keys, past the grid");
   see(coronagamba_cover(volume, lower, upper, covering, 5, &length) == 0 &&
           length == 4 && covering[0] == 1 && covering[1] == 3 &&
           covering[2] == 4 && covering[3] == 6 && covering[4] == 9,
       "cover");
   see(coronagamba_cover(volume, lower, upper, keys, 3, &length) ==
               CORONAGAMBA_REFUSED_NO_ROOM &&
-          length == 4 && keys[2] == 9,
+          length == 4 && keys[2] == 24,
       "cover, too short");
   see(coronagamba_cover(volume, upper, lower, keys, 3, &length) == 0 &&
           length == 0,

@@ -154,6 +154,25 @@ FUNCTIONS: Dict[str, Tuple[Any, Tuple[Any, ...]]] = {
             POINTER(ctypes.c_uint64),
         ),
     ),
+    # The keys of a row of cells: x rises from `from` up to `to`, that end
+    # excluded, at one `y` and `z`. A row whose end is not past its begin has
+    # no cell. Writes the keys to the front of `keys`, and their number to
+    # `length`. The volume is judged also where there is no cell.
+    # Refusals: 2 where an extent is 0 or any cell is outside the grid, 3, 13
+    # where `keys` has room for fewer
+    "coronagamba_row_keys": (
+        ctypes.c_uint64,
+        (
+            Volume,
+            ctypes.c_uint32,
+            ctypes.c_uint32,
+            ctypes.c_uint32,
+            ctypes.c_uint32,
+            POINTER(ctypes.c_uint64),
+            ctypes.c_size_t,
+            POINTER(ctypes.c_uint64),
+        ),
+    ),
     # The chunks that cover a box: the keys of all cells that share a voxel
     # with it, rising, each once. The box begins at `lower` and ends at
     # `upper`, that end excluded along each axis, in voxels, the volume's

@@ -9,7 +9,7 @@ from typing import Iterable, NamedTuple, Union
 from . import _declared
 from ._buffers import Lent, Numbers, ReadableBuffer, own, u32_triples, zeros
 from ._library import library
-from ._numbers import three_i32, three_i64, three_u32, u64
+from ._numbers import three_i32, three_i64, three_u32, u32, u64
 from .refusal import answer
 
 _ThreeU32 = c_uint32 * 3
@@ -132,6 +132,34 @@ class Volume:
                     byref(c_uint64()),
                 )
             )
+        return keys
+
+    def row_keys(self, start: int, stop: int, y: int, z: int) -> Numbers:
+        """The keys of a row of cells, those with x from `start` up to `stop`,
+        `stop` excluded, at one y and z, as an array of code Q. A row whose
+        stop is not past its start has no cell. Refusals 2, 3.
+
+        >>> from coronagamba import Volume
+        >>> Volume((5, 3, 1), (1, 1, 1)).row_keys(2, 5, 2, 0).tolist()
+        [12, 13, 24]
+        """
+        start, stop = u32("start", start), u32("stop", stop)
+        y, z = u32("y", y), u32("z", z)
+        # A row that reaches past the grid is refused without room for any.
+        room = max(stop - start, 0) if stop <= self.grid().x else 0
+        keys = zeros("Q", room)
+        answer(
+            library.coronagamba_row_keys(
+                self._struct(),
+                start,
+                stop,
+                y,
+                z,
+                own(c_uint64, keys),
+                room,
+                byref(c_uint64()),
+            )
+        )
         return keys
 
     def cover(

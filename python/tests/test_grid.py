@@ -146,6 +146,49 @@ class ManyKeys(unittest.TestCase):
                 CASE.keys(given)
 
 
+class Rows(unittest.TestCase):
+    def test_the_scopes_case(self):
+        found = CASE.row_keys(3, 5, 2, 0)
+        self.assertEqual(found, array("Q", [13, 24]))
+        self.assertEqual(found.typecode, "Q")
+
+    def test_rows_without_cells(self):
+        for start, stop in ((0, 0), (5, 5), (4, 1), (2**32 - 1, 0)):
+            self.assertEqual(CASE.row_keys(start, stop, 9, 9), array("Q"))
+
+    def test_as_the_cells_of_the_row(self):
+        rng = random.Random(9)
+        for _ in range(300):
+            grid = [rng.randrange(1, 2 ** rng.randrange(1, 22)) for _ in "xyz"]
+            volume = Volume(grid, UNIT)
+            start, y, z = (rng.randrange(n) for n in grid)
+            stop = min(start + rng.randrange(40), grid[0])
+            cells = [(x, y, z) for x in range(start, stop)]
+            found = volume.row_keys(start, stop, y, z)
+            self.assertEqual(found, volume.keys(cells))
+            self.assertEqual(found.tolist(), [key(grid, at) for at in cells])
+
+    def test_refusals_and_numbers(self):
+        wide = Volume((2**22, 2**22, 2**21), UNIT)
+        for volume, row, number in (
+            (Volume((0, 1, 1), UNIT), (0, 0, 0, 0), 2),
+            (CASE, (0, 6, 0, 0), 2),
+            (CASE, (0, 2**32 - 1, 0, 0), 2),
+            (CASE, (0, 5, 3, 0), 2),
+            (CASE, (0, 5, 0, 1), 2),
+            (wide, (0, 0, 0, 0), 3),
+        ):
+            with self.assertRaises(Refused) as caught:
+                volume.row_keys(*row)
+            self.assertEqual(caught.exception.number, number)
+        with self.assertRaisesRegex(OverflowError, "^stop must be from"):
+            CASE.row_keys(0, 2**32, 0, 0)
+        with self.assertRaisesRegex(OverflowError, "^start must be from"):
+            CASE.row_keys(-1, 2, 0, 0)
+        with self.assertRaisesRegex(TypeError, "^y must be an integer"):
+            CASE.row_keys(0, 1, 0.5, 0)
+
+
 class Covers(unittest.TestCase):
     def test_cells_of_a_box(self):
         # By hand: cells 1,0 and 1,1 and 2,0 and 2,1 of grid 5,3,1.

@@ -53,6 +53,8 @@ CALLS = [
     (2, "key_of", (NO_VOLUME, CELL), [U64]),
     (2, "keys_of", (NO_VOLUME, CELLS, 6), [(TWO_U64, 2), U64]),
     (13, "keys_of", (UNIT, CELLS, 6), [(c_uint64 * 1, 1), U64]),
+    (2, "row_keys", (NO_VOLUME, 0, 2, 0, 0), [(TWO_U64, 2), U64]),
+    (13, "row_keys", (ROW, 0, 3, 0, 0), [(TWO_U64, 2), U64]),
     (2, "cover", (NO_VOLUME, CORNER, FAR), [(TWO_U64, 2), U64]),
     (13, "cover", (ROW, CORNER, FAR), [(TWO_U64, 2), U64]),
     (2, "cell_of", (NO_VOLUME, 0), [THREE_U32]),

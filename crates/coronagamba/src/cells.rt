@@ -4,6 +4,7 @@ ghost use mathlib.Core.List.{[], _∷_};
 ghost use Rattle.grid.specs.Answers.{gridAnswer, keyAnswer, cellAnswer};
 ghost use Rattle.bounds.specs.Answers.{boundsAnswer};
 ghost use Rattle.batch.specs.Batch.{cellsOf, keysAnswer, keysLeft};
+ghost use Rattle.spread.specs.Row.{rowOf};
 ghost use Rattle.cover.specs.Cover.{coverAnswer, coverLeft};
 ghost use Rattle.coronagamba.specs.Word.{writtenWord, lengthAfter};
 ghost use Rattle.coronagamba.specs.Cells.{gridWord, gridAfter, keyWord, keyAfter, cellWord, cellAfter, boundsWord, beginAfter, endAfter};
@@ -64,7 +65,35 @@ pub extern "C" fn coronagamba_keys_of(
     ensures keys { λ _. ⌜ now (keys .exit) ≡ keysLeft volume (cellsOf (now (cells .entry))) (now (keys .entry)) ⌝ }
     ensures length { λ _. ⌜ now (length .exit) ≡ lengthAfter (keysAnswer volume (cellsOf (now (cells .entry))) (now (keys .entry))) (now (length .entry)) ⌝ }
 {
-    match batch::keys_of(volume, cells, keys) {
+    match spread::keys_of(volume, cells, keys) {
+        Written::Length(n) => {
+            *length = n as u64;
+            0
+        }
+        Written::Refused(number) => number as u64,
+    }
+}
+
+// The keys of a row of cells: x rises from `from` up to `to`, that end excluded, at one `y` and `z`. A
+// row whose end is not past its begin has no cell. Writes the keys to the front of `keys`, and their
+// number to `length`. The volume is judged also where there is no cell.
+// Refusals: 2 where an extent is 0 or any cell is outside the grid, 3, 13 where `keys` has room for
+// fewer
+#[no_mangle]
+pub extern "C" fn coronagamba_row_keys(
+    volume: Volume,
+    from: u32,
+    to: u32,
+    y: u32,
+    z: u32,
+    keys: &mut [u64],
+    length: &mut u64,
+) -> u64
+    ensures answer { λ r. ⌜ r ≡ writtenWord (keysAnswer volume (rowOf from to y z) (now (keys .entry))) ⌝ }
+    ensures keys { λ _. ⌜ now (keys .exit) ≡ keysLeft volume (rowOf from to y z) (now (keys .entry)) ⌝ }
+    ensures length { λ _. ⌜ now (length .exit) ≡ lengthAfter (keysAnswer volume (rowOf from to y z) (now (keys .entry))) (now (length .entry)) ⌝ }
+{
+    match spread::row::row_keys(volume, from, to, y, z, keys) {
         Written::Length(n) => {
             *length = n as u64;
             0

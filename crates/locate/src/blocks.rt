@@ -7,6 +7,8 @@ ghost use Rattle.endian.specs.Place.{paste};
 ghost use Rattle.grid.specs.Grid.{gridOf};
 ghost use Rattle.grid.specs.Key.{keyBits};
 ghost use Rattle.sharding.specs.Specification.{allowed};
+ghost use Rattle.spread.specs.Spread.{Spreads};
+ghost use Rattle.spread.specs.Parts.{Planned};
 ghost use Rattle.card.specs.Answers.{fault};
 ghost use Rattle.locate.specs.Lines.{lineIn, lineRoom};
 ghost use Rattle.locate.specs.Output.{cellAt, linesBy, cutLine, textBy, cellsText};
@@ -16,6 +18,7 @@ use endian::inner;
 use grid::Cell;
 use grid::Extents;
 use sharding::Sharding;
+use spread::Plan;
 
 fn cell_at(s: &[u8], at: usize) -> Cell
     requires { ⌜ at + 12 ≤ length (now s) ⌝ }
@@ -28,19 +31,36 @@ fn cell_at(s: &[u8], at: usize) -> Cell
     }
 }
 
-// The lines of the first n cells.
+// The lines of the first n cells, by what their keys share: the grid's plan and the table.
+fn put_planned(
+    out: &mut [u8],
+    spec: Sharding,
+    plan: Plan,
+    table: &[u32],
+    cells: &[u8],
+    n: usize,
+) -> usize
+    requires { ⌜ (allowed spec ≡ true) × Planned plan × Spreads (now table) × (12 * n ≤ length (now cells)) × (lineRoom * n ≤ length (now out)) ⌝ }
+    ensures { λ r. ⌜ (r ≡ length (linesBy (lineIn spec (plan .grid)) n (now (cells .entry)) 0)) × (r ≤ lineRoom * n) ⌝ }
+    ensures { λ _. ⌜ now (out .exit) ≡ paste 0 (linesBy (lineIn spec (plan .grid)) n (now (cells .entry)) 0) (now (out .entry)) ⌝ }
+{
+    let mut i: usize = 0;
+    let mut at: usize = 0;
+    while i < n {
+        at = lines::put_line(out, at, spec, plan, table, cell_at(cells, 12 * i));
+        i += 1;
+    }
+    at
+}
+
+// The same. The plan is found here and the table made, once for all of them.
 fn put_lines(out: &mut [u8], spec: Sharding, grid: Extents, cells: &[u8], n: usize) -> usize
     requires { ⌜ (allowed spec ≡ true) × (keyBits grid ≤ 64) × (12 * n ≤ length (now cells)) × (lineRoom * n ≤ length (now out)) ⌝ }
     ensures { λ r. ⌜ (r ≡ length (linesBy (lineIn spec grid) n (now (cells .entry)) 0)) × (r ≤ lineRoom * n) ⌝ }
     ensures { λ _. ⌜ now (out .exit) ≡ paste 0 (linesBy (lineIn spec grid) n (now (cells .entry)) 0) (now (out .entry)) ⌝ }
 {
-    let mut i: usize = 0;
-    let mut at: usize = 0;
-    while i < n {
-        at = lines::put_line(out, at, spec, grid, cell_at(cells, 12 * i));
-        i += 1;
-    }
-    at
+    let table = spread::table::spread_bytes();
+    put_planned(out, spec, spread::inner::plan(grid), &table, cells, n)
 }
 
 // `cut` and the line's end, as the number whose bytes they are.

@@ -4,14 +4,15 @@ ghost use mathlib.Core.Bool.{true};
 ghost use Prim.Native.Nat.{_+_, _≤_};
 ghost use lib.ListN.{length};
 ghost use Rattle.endian.specs.Place.{paste};
-ghost use Rattle.grid.specs.Key.{keyBits};
 ghost use Rattle.sharding.specs.Specification.{allowed};
+ghost use Rattle.spread.specs.Spread.{Spreads};
+ghost use Rattle.spread.specs.Parts.{Planned};
 ghost use Rattle.locate.specs.Lines.{ending, refusedLine, filed, keyed, lineIn, lineRoom};
 use endian::inner;
 use grid::Cell;
-use grid::Extents;
 use sharding::Place;
 use sharding::Sharding;
+use spread::Plan;
 
 // A number that ends its line.
 fn put_ending(out: &mut [u8], at: usize, v: u64) -> usize
@@ -55,15 +56,22 @@ fn put_keyed(out: &mut [u8], at: usize, spec: Sharding, key: u64, place: Place) 
 }
 
 // The line of a cell.
-pub fn put_line(out: &mut [u8], at: usize, spec: Sharding, grid: Extents, cell: Cell) -> usize
-    requires { ⌜ (allowed spec ≡ true) × (keyBits grid ≤ 64) × (at + lineRoom ≤ length (now out)) ⌝ }
-    ensures { λ r. ⌜ (r ≡ at + length (lineIn spec grid cell)) × (r ≤ at + lineRoom) ⌝ }
-    ensures { λ _. ⌜ now (out .exit) ≡ paste at (lineIn spec grid cell) (now (out .entry)) ⌝ }
+pub fn put_line(
+    out: &mut [u8],
+    at: usize,
+    spec: Sharding,
+    plan: Plan,
+    table: &[u32],
+    cell: Cell,
+) -> usize
+    requires { ⌜ (allowed spec ≡ true) × Planned plan × Spreads (now table) × (at + lineRoom ≤ length (now out)) ⌝ }
+    ensures { λ r. ⌜ (r ≡ at + length (lineIn spec (plan .grid) cell)) × (r ≤ at + lineRoom) ⌝ }
+    ensures { λ _. ⌜ now (out .exit) ≡ paste at (lineIn spec (plan .grid) cell) (now (out .entry)) ⌝ }
 {
-    if !grid::inner::inside(grid, cell) {
+    if !grid::inner::inside(plan.grid, cell) {
         return put_refused(out, at, 2);
     }
-    let key = grid::inner::key(grid, cell);
+    let key = spread::inner::key_by_table(plan, cell, table);
     let place = sharding::inner::place(spec, key);
     put_keyed(out, at, spec, key, place)
 }

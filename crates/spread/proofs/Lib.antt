@@ -4,3 +4,4 @@ pub mod Turns
 pub mod Bytes
 pub mod Sums
 pub mod Rows
+pub mod Laws

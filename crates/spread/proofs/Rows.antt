@@ -1,10 +1,11 @@
 -- A row of cells: its last cell decides whether all are inside, one turn of a loop takes the cell at its front; and the ways out of `row_keys`.
-use Prim.Native.Nat.{ℕ, zero, suc, _+_, _-_, _*_, _≤_, _<_}
+use Prim.Native.Nat.{ℕ, zero, suc, _+_, _-_, _*_, _/_, _%_, _^_, _≤_, _<_}
 use mathlib.Core.Path.{_≡_, refl, sym, ap, _∙_}
 use mathlib.Core.Bool.{Bool, true, false, not, _&&_}
 use mathlib.Core.List.{List, [], _∷_, map}
 use native.Mathlib.Omega.{arith}
-use native.Mathlib.Nat.{add-zero}
+use native.Mathlib.Nat.{add-zero, mod-lt}
+use lib.Pow.{pow-pos, split, high}
 use borrow.Author.Tests.{lt-ltb, le-ltb}
 use lib.ListN.{length, set, length-map}
 use Rattle.refusal.specs.Checks.{firstNumber}
@@ -20,7 +21,7 @@ use Rattle.grid.specs.Key.{tooManyBits}
 use Rattle.grid.proofs.Ways.{inside-all, in-z}
 use Rattle.batch.specs.Batch.{eachInGrid, keysOf, keysChecks, keysAnswer}
 use Rattle.spread.specs.Spread.{spread}
-use Rattle.spread.specs.Parts.{lowKey}
+use Rattle.spread.specs.Parts.{lowKey, restKey}
 use Rattle.spread.specs.Row.{cellsFrom, rowOf}
 
 -- ---- inside
@@ -65,6 +66,18 @@ module _ (g : Extents) (y z : ℕ) where
 pub low-row : (n x y z : ℕ) {s t : ℕ} → s ≡ spread n x → t ≡ 2 * spread n y + 4 * spread n z → s + t ≡ lowKey n (record { x = x; y = y; z = z })
 unfolding lowKey
 low-row n x y z p q = omega arith
+
+-- two cells side by side, the second of which begins no coarse cell, are in one coarse cell
+same-coarse : (n x : ℕ) → 0 < (x + 1) % 2 ^ n → x / 2 ^ n ≡ (x + 1) / 2 ^ n
+same-coarse n x h =
+    let m : (x + 1) % 2 ^ n - 1 < 2 ^ n = omega (arith, mod-lt (x + 1) (pow-pos n)) in
+    let e : x ≡ (x + 1) / 2 ^ n * 2 ^ n + ((x + 1) % 2 ^ n - 1) = omega (arith, split (x + 1) n) in
+    ap (λ (w : ℕ). w / 2 ^ n) e ∙ high ((x + 1) / 2 ^ n) n m
+
+pub same-rest : (n : ℕ) (g : Extents) (x y z : ℕ) {r s : ℕ} → r ≡ (x + 1) % 2 ^ n → (r ≡ 0 → ⊥)
+    → s ≡ restKey n g (record { x = x; y = y; z = z }) → s ≡ restKey n g (record { x = x + 1; y = y; z = z })
+unfolding restKey
+same-rest n g x y z e h p = p ∙ rw (same-coarse n x (omega arith))
 
 pub row-start : (x : ℕ) (xs d : List ℕ) → paste (x - x) xs d ≡ paste 0 xs d
 row-start x xs d = ap (λ (j : ℕ). paste j xs d) (omega arith)

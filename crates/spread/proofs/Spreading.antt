@@ -5,7 +5,7 @@ use native.Mathlib.Omega.{arith}
 use native.Mathlib.Nat.{mod-lt, div-eq-of-lt, add-suc, add-zero, zero-add}
 use lib.Pow.{pow-add, pow-pos, shr-shr, field, mod-mod-pow, high}
 use Rattle.grid.specs.Key.{bitOf}
-use Rattle.spread.specs.Spread.{spread}
+use Rattle.spread.specs.Spread.{spread, Placed}
 
 bit-lt : (v i : ℕ) → bitOf v i < 2
 unfolding bitOf
@@ -92,11 +92,6 @@ from-place k m v =
 three-places : (b t : ℕ) → b < 2 → (bitOf (b + 8 * t) 0 ≡ b) × (bitOf (b + 8 * t) 1 ≡ 0) × (bitOf (b + 8 * t) 2 ≡ 0)
 unfolding bitOf
 three-places b t h = (omega arith, omega arith, omega arith)
-
-pub record Placed (s v k : ℕ) : Type 0 where
-  pub here : bitOf s (3 * k + 0) ≡ bitOf v k
-  pub next : bitOf s (3 * k + 1) ≡ 0
-  pub last : bitOf s (3 * k + 2) ≡ 0
 
 pub placed : (n v k : ℕ) → k < n → Placed (spread n v) v k
 placed n v k h =

@@ -13,7 +13,7 @@ use Rattle.grid.specs.Key.{keyBits, keyOf}
 use Rattle.grid.specs.Turn.{AxisBits}
 use Rattle.grid.proofs.From.{key-below}
 use Rattle.spread.specs.declared.Plan.{Plan}
-use Rattle.spread.specs.Parts.{lowKey, coarseGrid, coarseCell, Planned}
+use Rattle.spread.specs.Parts.{lowKey, coarseGrid, coarseCell, restKey, Planned}
 use Rattle.spread.proofs.Turns.{key-by-parts, coarse-sum, all-shared}
 
 module _ (g : Extents) (few : keyBits g ≤ 64) {a b d m l : ℕ} (x : AxisBits (g .x) a) (y : AxisBits (g .y) b) (z : AxisBits (g .z) d)
@@ -46,32 +46,36 @@ unfolding coarseGrid
 coarse-made g n e p q r = rw (← e) (λ t. record { x = p t; y = q t; z = r t })
 
 -- ---- the key
-module _ (p : Plan) (c : Cell) (w : Planned p) {l : ℕ} (s : l ≡ lowKey (p .low) c) where
-  all : l + keyOf (p .rest) (coarseCell (p .low) c) * 2 ^ (3 * p .low) ≡ keyOf (p .grid) c
-  all = rw (s, w .rest) (sym (key-by-parts (p .grid) c (p .low) (w .words) (w .shared)))
+module _ (p : Plan) (c : Cell) (w : Planned p) where
+  whole : lowKey (p .low) c + restKey (p .low) (p .grid) c ≡ keyOf (p .grid) c
+  whole = sym (key-by-parts (p .grid) c (p .low) (w .words) (w .shared))
 
   fits : keyOf (p .grid) c < 2 ^ 64
   fits = lt-of-lt-of-le (key-below (p .grid) c) (pow-mono (w .few))
 
   -- no bit is left
-  pub key-low : p .bits ≡ 0 → l ≡ keyOf (p .grid) c
-  key-low h =
+  pub no-rest : p .bits ≡ 0 → 0 ≡ restKey (p .low) (p .grid) c
+  unfolding restKey
+  no-rest h =
       let e : keyBits (p .rest) ≡ 0 = sym (w .bits) ∙ h in
       let z : keyOf (p .rest) (coarseCell (p .low) c) < 1 = rw e at (key-below (p .rest) (coarseCell (p .low) c)) in
       let y : keyOf (p .rest) (coarseCell (p .low) c) ≡ 0 = omega arith in
-      let a = rw y at all in
-      omega arith
+      rw (← w .rest, y) (omega arith)
 
   module _ {d : Cell} (f : d ≡ coarseCell (p .low) c) {r : ℕ} (q : r ≡ keyOf (p .rest) d) where
-    sum : l + r * 2 ^ (3 * p .low) ≡ keyOf (p .grid) c
-    sum = rw (q, f) all
+    raised : r * 2 ^ (3 * p .low) ≡ restKey (p .low) (p .grid) c
+    unfolding restKey
+    raised = rw (q, f, w .rest)
 
     pub rest-raise : r * 2 ^ (3 * p .low) < 2 ^ 64
-    rest-raise = omega (arith, sum, fits)
+    rest-raise = omega (arith, raised, whole, fits)
 
-    module _ {k : ℕ} (t : k ≡ r * 2 ^ (3 * p .low)) where
-      pub key-sum : l + k ≡ keyOf (p .grid) c
-      key-sum = rw t sum
+    pub rest-raised : {k : ℕ} → k ≡ r * 2 ^ (3 * p .low) → k ≡ restKey (p .low) (p .grid) c
+    rest-raised t = t ∙ raised
 
-      pub key-sum-fits : Fits w64 (l + k)
-      key-sum-fits = omega (arith, key-sum, fits)
+  module _ {l r : ℕ} (s : l ≡ lowKey (p .low) c) (t : r ≡ restKey (p .low) (p .grid) c) where
+    pub key-sum : l + r ≡ keyOf (p .grid) c
+    key-sum = rw (s, t) whole
+
+    pub key-sum-fits : Fits w64 (l + r)
+    key-sum-fits = omega (arith, key-sum, fits)

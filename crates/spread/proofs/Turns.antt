@@ -14,7 +14,7 @@ use Rattle.grid.proofs.Covers.{grid-size-reached, grid-size-reaches}
 use Rattle.grid.proofs.From.{keyFrom, key-is, used-yes, unused, key-from-none}
 use Rattle.grid.proofs.Lengths.{axis-bits-are, key-bits-sum}
 use Rattle.spread.specs.Spread.{spread}
-use Rattle.spread.specs.Parts.{lowKey, coarseGrid, coarseCell, Shared}
+use Rattle.spread.specs.Parts.{lowKey, coarseGrid, coarseCell, restKey, Shared}
 use Rattle.spread.proofs.Spreading.{spread-first, bit-past}
 
 -- ---- turns that use all three axes
@@ -71,8 +71,8 @@ turns-past (suc n) m i g c hx hy hz =
 
 -- each grid and each cell, n of its shared turns
 pub key-by-parts : (g : Extents) (c : Cell) (n : ℕ) → InU32 g → ((i : ℕ) → i < n → Shared g i)
-    → keyOf g c ≡ lowKey n c + keyOf (coarseGrid n g) (coarseCell n c) * 2 ^ (3 * n)
-unfolding lowKey
+    → keyOf g c ≡ lowKey n c + restKey n g c
+unfolding lowKey restKey
 key-by-parts g c n w h =
     let p = turns-past 32 n 0 g c (omega (arith, w .x)) (omega (arith, w .y)) (omega (arith, w .z)) in
     let e : 32 + n ≡ n + 32 = omega arith in

@@ -4,7 +4,7 @@ use mathlib.Core.Path.{_≡_}
 use Rattle.grid.specs.declared.Extents.{Extents}
 use Rattle.grid.specs.declared.Cell.{Cell}
 use Rattle.grid.specs.Grid.{gridSize, InU32}
-use Rattle.grid.specs.Key.{keyBits}
+use Rattle.grid.specs.Key.{keyBits, keyOf}
 use Rattle.spread.specs.declared.Plan.{Plan}
 use Rattle.spread.specs.Spread.{spread}
 
@@ -18,6 +18,10 @@ coarseGrid n grid = record { x = gridSize (grid .x) (2 ^ n); y = gridSize (grid 
 
 abbrev pub coarseCell : ℕ → Cell → Cell
 coarseCell n c = record { x = c .x / 2 ^ n; y = c .y / 2 ^ n; z = c .z / 2 ^ n }
+
+-- the turns from n on: the key of the coarse cell, above the 3 × n bits of those before
+unfoldable pub restKey : ℕ → Extents → Cell → ℕ
+restKey n grid c = keyOf (coarseGrid n grid) (coarseCell n c) * 2 ^ (3 * n)
 
 -- turn i uses all three axes
 pub record Shared (grid : Extents) (i : ℕ) : Type 0 where

@@ -14,3 +14,9 @@ spread (suc n) v = spread n v + bitOf v n * 2 ^ (3 * n)
 pub record Spreads (t : List ℕ) : Type 0 where
   pub size : length t ≡ 256
   pub entry : (b : ℕ) → b < 256 → getD t b 0 ≡ spread 8 b
+
+-- bit k of v is at place 3 × k of s, and the two places after it are empty
+pub record Placed (s v k : ℕ) : Type 0 where
+  pub here : bitOf s (3 * k + 0) ≡ bitOf v k
+  pub next : bitOf s (3 * k + 1) ≡ 0
+  pub last : bitOf s (3 * k + 2) ≡ 0

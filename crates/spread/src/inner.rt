@@ -3,7 +3,7 @@ ghost use mathlib.Core.Path.{_≡_};
 ghost use Prim.Native.Nat.{_*_, _%_, _^_, _<_, _≤_};
 ghost use Rattle.grid.specs.Key.{keyBits, keyOf};
 ghost use Rattle.spread.specs.Spread.{spread, Spreads};
-ghost use Rattle.spread.specs.Parts.{lowKey, coarseGrid, coarseCell, Planned};
+ghost use Rattle.spread.specs.Parts.{lowKey, coarseGrid, coarseCell, restKey, Planned};
 use crate::Plan;
 use grid::Cell;
 use grid::Extents;
@@ -62,7 +62,7 @@ pub fn plan(grid: Extents) -> Plan
 // ---- spread bits
 
 // The lowest n bits of v.
-fn low_bits(v: u64, n: u32) -> u64
+pub fn low_bits(v: u64, n: u32) -> u64
     requires { ⌜ n ≤ 32 ⌝ }
     ensures { λ r. ⌜ (r ≡ v % 2 ^ n) × (r < 2 ^ n) ⌝ }
 {
@@ -133,16 +133,16 @@ fn raise(x: u64, n: u32) -> u64
     x << n
 }
 
-// The key of a cell whose bits of the shared turns are `low`.
-pub fn with_rest(plan: Plan, cell: Cell, low: u64) -> u64
-    requires { ⌜ Planned plan × (low ≡ lowKey (plan .low) cell) ⌝ }
-    ensures { λ r. ⌜ r ≡ keyOf (plan .grid) cell ⌝ }
+// The bits of the turns after these, at their place in the key.
+pub fn rest_key(plan: Plan, cell: Cell) -> u64
+    requires { ⌜ Planned plan ⌝ }
+    ensures { λ r. ⌜ r ≡ restKey (plan .low) (plan .grid) cell ⌝ }
 {
     if plan.bits == 0 {
-        return low;
+        return 0;
     }
     let rest = key(plan.rest, coarse_cell(cell, plan.low));
-    low + raise(rest, 3 * plan.low)
+    raise(rest, 3 * plan.low)
 }
 
 // The key of a cell of the plan's grid.
@@ -150,5 +150,5 @@ pub fn key_by_table(plan: Plan, cell: Cell, table: &[u32]) -> u64
     requires { ⌜ Planned plan × Spreads (now table) ⌝ }
     ensures { λ r. ⌜ r ≡ keyOf (plan .grid) cell ⌝ }
 {
-    with_rest(plan, cell, low_key(table, cell, plan.low))
+    low_key(table, cell, plan.low) + rest_key(plan, cell)
 }

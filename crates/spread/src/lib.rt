@@ -12,13 +12,13 @@ ghost use Rattle.spread.specs.Parts.{Planned};
 
 pub mod inner;
 pub mod row;
-mod table;
+pub mod table;
 
 use grid::Cell;
 use grid::Extents;
 use grid::Volume;
 use refusal::Written;
-use table::SPREAD;
+use table::spread_bytes;
 
 // What the keys of a grid need, found once: how many of the first turns use all three axes, the
 // coarser grid that the later turns see, and how many bits those give.
@@ -54,13 +54,14 @@ fn fill(plan: Plan, table: &[u32], cells: &[u32], keys: &mut [u64])
     }
 }
 
-// The table is made on the stack here, once for all keys.
+// The table is made here, once for all keys.
 fn fill_keys(grid: Extents, cells: &[u32], keys: &mut [u64])
     requires { ⌜ keyBits grid ≤ 64 ⌝ }
     requires { ⌜ length (now cells) / 3 ≤ length (now keys) ⌝ }
     ensures { λ _. ⌜ now (keys .exit) ≡ paste 0 (map (keyOf grid) (cellsOf (now (cells .entry)))) (now (keys .entry)) ⌝ }
 {
-    fill(inner::plan(grid), &SPREAD, cells, keys);
+    let table = spread_bytes();
+    fill(inner::plan(grid), &table, cells, keys);
 }
 
 // As `batch::keys_of`, by the table: 2 where an extent is 0 or any cell is outside, 3 where the

@@ -7,13 +7,14 @@ ghost use Rattle.endian.specs.Place.{paste};
 ghost use Rattle.grid.specs.Key.{keyBits, keyOf};
 ghost use Rattle.batch.specs.Batch.{eachInGrid, keysAnswer, keysLeft};
 ghost use Rattle.spread.specs.Spread.{spread, Spreads};
-ghost use Rattle.spread.specs.Parts.{Planned};
+ghost use Rattle.spread.specs.Parts.{restKey, Planned};
 ghost use Rattle.spread.specs.Row.{rowOf};
 use crate::Plan;
+use crate::inner::low_bits;
 use crate::inner::plan;
+use crate::inner::rest_key;
 use crate::inner::spread_bits;
-use crate::inner::with_rest;
-use crate::table::SPREAD;
+use crate::table::spread_bytes;
 use grid::Cell;
 use grid::Extents;
 use grid::Volume;
@@ -51,16 +52,30 @@ fn low_yz(table: &[u32], y: u32, z: u32, n: u32) -> u64
     2 * spread_bits(table, y, n) + 4 * spread_bits(table, z, n)
 }
 
+// The bits of the later turns, from those of the cell before: they are the same within 2^low cells.
+fn next_rest(plan: Plan, x: u32, y: u32, z: u32, rest: u64) -> u64
+    requires { ⌜ Planned plan × (x + 1 < 2 ^ 32) ⌝ }
+    requires { ⌜ rest ≡ restKey (plan .low) (plan .grid) (record { x = x; y = y; z = z }) ⌝ }
+    ensures { λ r. ⌜ r ≡ restKey (plan .low) (plan .grid) (record { x = x + 1; y = y; z = z }) ⌝ }
+{
+    let next = x + 1;
+    if low_bits(next as u64, plan.low) == 0 {
+        return rest_key(plan, Cell { x: next, y, z });
+    }
+    rest
+}
+
 fn fill(plan: Plan, table: &[u32], from: u32, to: u32, y: u32, z: u32, keys: &mut [u64])
     requires { ⌜ Planned plan × Spreads (now table) ⌝ }
     requires { ⌜ to - from ≤ length (now keys) ⌝ }
     ensures { λ _. ⌜ now (keys .exit) ≡ paste 0 (map (keyOf (plan .grid)) (rowOf from to y z)) (now (keys .entry)) ⌝ }
 {
     let yz = low_yz(table, y, z, plan.low);
+    let mut rest = rest_key(plan, Cell { x: from, y, z });
     let mut x = from;
     while x < to {
-        let low = spread_bits(table, x, plan.low) + yz;
-        keys[(x - from) as usize] = with_rest(plan, Cell { x, y, z }, low);
+        keys[(x - from) as usize] = spread_bits(table, x, plan.low) + yz + rest;
+        rest = next_rest(plan, x, y, z, rest);
         x += 1;
     }
 }
@@ -70,7 +85,8 @@ fn fill_row(grid: Extents, from: u32, to: u32, y: u32, z: u32, keys: &mut [u64])
     requires { ⌜ to - from ≤ length (now keys) ⌝ }
     ensures { λ _. ⌜ now (keys .exit) ≡ paste 0 (map (keyOf grid) (rowOf from to y z)) (now (keys .entry)) ⌝ }
 {
-    fill(plan(grid), &SPREAD, from, to, y, z, keys);
+    let table = spread_bytes();
+    fill(plan(grid), &table, from, to, y, z, keys);
 }
 
 // The keys of the cells with x from `from` up to `to`, that end excluded, at y and z, and how many:

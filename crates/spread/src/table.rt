@@ -1,5 +1,7 @@
 // The table of spread bytes: bit k of b is at place 3 × k of entry b.
-pub const SPREAD: [u32; 256] = [
+ghost use Rattle.spread.specs.Spread.{Spreads};
+
+const SPREAD: [u32; 256] = [
     0,
     1,
     8,
@@ -257,3 +259,10 @@ pub const SPREAD: [u32; 256] = [
     2396744,
     2396745,
 ];
+
+// It is made where it is asked for: once for many keys, which it is lent to.
+pub fn spread_bytes() -> [u32; 256]
+    ensures { λ r. ⌜ Spreads r ⌝ }
+{
+    SPREAD
+}

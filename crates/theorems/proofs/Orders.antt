@@ -36,9 +36,11 @@ use Rattle.shortest.proofs.Listed.{form-listed}
 use Rattle.settle.specs.Answers.{losesBytes, unlistedCheck, settleCheck, settleChecks, settleAnswer, settleLeft}
 use Rattle.settle.proofs.Answered.{length-lost, answer-lost, left-lost}
 use Rattle.settle.proofs.Demand3.{demand-3-written}
+use Rattle.batch.proofs.Each.{keys-of-each}
+use Rattle.spread.proofs.Laws as S
 use Rattle.cover.proofs.Laws.{listed-is, cell-listed, keys-rise, reversed-lists-none, outside-lists-none, keys-written}
 use Rattle.positions.proofs.Points.{check-points, lookup-points, fragment-points, count-points, listing-points, unlisted-named, length-named, settle-named}
-use Rattle.theorems.specs.Orders.{Order2, Order4, Order5, Order6, Order7, settleChecksBefore, Order8}
+use Rattle.theorems.specs.Orders.{Order2, Order4, Order5, Order6, Order7, settleChecksBefore, Order8, Order9}
 
 pub order-2 : Order2
 order-2 = record {
@@ -154,4 +156,15 @@ order-8 = record {
       let e = past-22 (shardChecks spec shard a) (settleCheck spec (indexPart spec a) (dataPart spec a) out) in
       unfold settleAnswer settleLeft settleChecks settleChecksBefore unlistedCheck losesBytes in rw (e .0, e .1) (refl, refl);
   form = λ spec shard a. form-listed;
+}
+
+pub order-9 : Order9
+order-9 = record {
+  entries = S.entry-placed;
+  ends = S.entry-most;
+  agrees = S.agreement;
+  written = S.keys-written;
+  alone = keys-of-each;
+  row = S.row-cells;
+  count = S.row-count;
 }

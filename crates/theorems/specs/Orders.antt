@@ -1,20 +1,25 @@
 -- What the orders promise (02), beyond the demands, which hold of volumes as they did, and since order 7 of meshes too.
-use Prim.Native.Nat.{ℕ, _<_, _≤_}
+use Prim.Native.Nat.{ℕ, _<_, _≤_, _+_, _-_, _^_}
 use mathlib.Core.Path.{_≡_}
 use mathlib.Core.Bool.{Bool, true, false, not}
 use mathlib.Core.Logic.{_↔_}
-use mathlib.Core.List.{List, [], _∷_, _++_, List·Memᴰ}
+use mathlib.Core.List.{List, [], _∷_, _++_, List·Memᴰ, map}
 use lib.ListN.{length, take, getD}
 use Rattle.refusal.specs.Checks.{Check, check, left, answeredAt}
 use Rattle.refusal.specs.Buffer.{over, room}
 use Rattle.refusal.specs.declared.Written.the-variants.{Length}
 use Rattle.grid.specs.declared.Cell.{Cell}
+use Rattle.grid.specs.declared.Extents.{Extents}
 use Rattle.bounds.specs.declared.Point.{Point}
 use Rattle.grid.specs.declared.Volume.{Volume}
 use Rattle.grid.specs.declared.KeyAnswer.the-variants.{Key}
 use Rattle.grid.specs.Grid.{gridOf, zeroExtent, InU32}
-use Rattle.grid.specs.Key.{tooManyBits, cellOf, isKey}
+use Rattle.grid.specs.Key.{tooManyBits, keyOf, cellOf, isKey}
 use Rattle.grid.specs.Answers.{keyAnswer}
+use Rattle.batch.specs.Batch.{eachInGrid, keysOf, keysAnswer, keysLeft}
+use Rattle.spread.specs.Spread.{Spreads, Placed}
+use Rattle.spread.specs.Parts.{lowKey, restKey, Shared}
+use Rattle.spread.specs.Row.{rowOf}
 use Rattle.cover.specs.Cover.{coverKeys, coverAnswer, coverLeft}
 use Rattle.cover.specs.Meaning.{SharesVoxel, RisingFrom, reversed, outside}
 use Rattle.sharding.specs.declared.Sharding.{Sharding}
@@ -175,3 +180,24 @@ pub record Order8 : Type 0 where
       × (settleLeft spec shard a true out ≡ left (settleChecksBefore spec shard a out) (over (fileForm spec a) out) out)
   -- A settled form has none.
   pub form : (spec : Sharding) (shard : ℕ) (a : List ℕ) → SoundShard spec shard a → length (fileForm spec a) ≤ mostShardBytes → fileUnlisted spec (fileForm spec a) ≡ 0
+
+-- Order 9: "For the low bits that all three axes share, use a table of 256 spread bytes, entry b having bit k of b at place 3k; finish the
+-- rest plainly."
+pub record Order9 : Type 0 where
+  -- What is asked of the table: bit k of b is at place 3 × k of entry b, the two places after it are empty, and no bit is above these.
+  pub entries : (t : List ℕ) → Spreads t → (b : ℕ) → b < 256 → (k : ℕ) → k < 8 → Placed (getD t b 0) b k
+  pub ends : (t : List ℕ) → Spreads t → (b : ℕ) → b < 256 → getD t b 0 < 2 ^ 24
+  -- "Agreement with the steps of document 01 is proved for each grid and cell": however many of the turns that all three axes share are
+  -- spread, with the rest by the steps it is the key.
+  pub agrees : (g : Extents) (c : Cell) (n : ℕ) → InU32 g → ((i : ℕ) → i < n → Shared g i) → lowKey n c + restKey n g c ≡ keyOf g c
+  -- Many cells in a call, where nothing is refused: the keys by the steps stand at the front of the output, in the cells' order, and the
+  -- output is as it was past them;
+  pub written : (v : Volume) (cells : List Cell) (out : List ℕ) → zeroExtent v ≡ false → eachInGrid (gridOf v) cells ≡ true → tooManyBits (gridOf v) ≡ false
+      → length cells ≤ length out
+      → (keysAnswer v cells out ≡ Length (length cells)) × (keysLeft v cells out ≡ over (map (keyOf (gridOf v)) cells) out)
+  -- they are those that each cell is answered with alone.
+  pub alone : (v : Volume) (cells : List Cell) (out : List ℕ) {n : ℕ} → keysAnswer v cells out ≡ Length n
+      → (n ≡ length cells) × (map (keyAnswer v) cells ≡ map Key (keysOf v cells))
+  -- The cells of a row are those with x from one number up to another, that end excluded, at one y and z, and there are as many.
+  pub row : (y z from to : ℕ) (c : Cell) → List·Memᴰ c (rowOf from to y z) ↔ ((from ≤ c .x) × (c .x < to) × (c .y ≡ y) × (c .z ≡ z))
+  pub count : (from to y z : ℕ) → length (rowOf from to y z) ≡ to - from

@@ -2,7 +2,7 @@
 //!
 //! Prints a table with a line for each measure: the median processor time of
 //! one operation on each side, the ratio library / plain over alternating
-//! runs, its median and its middle half, and, where the memory sets one, the
+//! runs, its median and its middle half, and, where memory or processor set one, the
 //! limit. Both sides do the same work with the same tests, and must give the
 //! same answers. Words on the command line choose the measures whose group has
 //! one of them: key, cover, place, shard, mesh, card, info, manifest, locate,
@@ -12,6 +12,7 @@ mod cards;
 mod clock;
 mod desk;
 mod infos;
+mod keys;
 mod locating;
 mod manifests;
 mod meshes;
@@ -21,7 +22,7 @@ mod shards;
 
 /// The groups of measures, by the word that chooses them.
 const GROUPS: [(&str, fn()); 10] = [
-    ("key", places::run_keys),
+    ("key", keys::run_all),
     ("cover", places::run_covers),
     ("place", places::run_places),
     ("shard", shards::run),

@@ -1,57 +1,13 @@
-//! Keys of cells and places of ids.
+//! Boxes of cells and places of ids.
 
 use crate::runner::{numbers, Measure};
 use bench::plain::places as plain;
-use coronagamba::{Bounds, Cell, Place, Sharding, Volume};
+use coronagamba::{Bounds, Place, Sharding, Volume};
 use std::hint::black_box;
 
 /// A volume in chunks of 64 with this grid.
-fn volume(grid: [u32; 3]) -> Volume {
+pub fn volume(grid: [u32; 3]) -> Volume {
     Volume::new(grid.map(|cells| 64 * cells), [64; 3], [0; 3])
-}
-
-/// Cells all over this grid.
-fn cells(grid: [u32; 3], count: usize) -> Vec<Cell> {
-    numbers(3 * count)
-        .chunks_exact(3)
-        .map(|at| {
-            let axis = |axis: usize| (at[axis] % u64::from(grid[axis])) as u32;
-            Cell::from([axis(0), axis(1), axis(2)])
-        })
-        .collect()
-}
-
-/// Keys of cells all over a grid, a call for each and one call for all.
-fn keys(name: &str, grid: [u32; 3]) {
-    let cells = cells(grid, 300_000);
-    let volume = black_box(volume(grid));
-    let library = |cell: &Cell| volume.key(*cell).unwrap_or(1);
-    let plain = |cell: &Cell| plain::key(&volume, *cell).unwrap_or(1);
-    Measure {
-        name: &format!("key, {name}"),
-        operations: cells.len(),
-        bar: None,
-    }
-    .run(
-        || cells.iter().fold(0, |all, cell| all ^ library(cell)),
-        || cells.iter().fold(0, |all, cell| all ^ plain(cell)),
-    );
-    let (mut ours, mut theirs) = (vec![0; cells.len()], vec![0; cells.len()]);
-    Measure {
-        name: &format!("key in a batch, {name}"),
-        operations: cells.len(),
-        bar: None,
-    }
-    .run(
-        || {
-            assert!(volume.write_keys(&cells, &mut ours).is_ok());
-            ours.iter().fold(0, |all, key| all ^ key)
-        },
-        || {
-            assert!(plain::keys(&volume, &cells, &mut theirs).is_ok());
-            theirs.iter().fold(0, |all, key| all ^ key)
-        },
-    );
 }
 
 /// The keys of a box of so many cells that begins in this cell, some voxels
@@ -209,13 +165,6 @@ fn placements(name: &str, hash: u8, murmur: impl Fn(u64) -> u64 + Copy) {
             one[0] ^ other[1]
         },
     );
-}
-
-/// Prints the lines of keys.
-pub fn run_keys() {
-    keys("grid 101 104 127 (21 bits)", [101, 104, 127]);
-    keys("grid 65000 3000 20 (33 bits)", [65_000, 3_000, 20]);
-    keys("three axes of 21 bits (63 bits)", [2_000_000; 3]);
 }
 
 /// Prints the lines of boxes.

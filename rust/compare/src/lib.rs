@@ -48,6 +48,7 @@ pub const PARTS: &[Part] = &[
     parts::grid::GRID,
     parts::grid::KEY,
     parts::grid::KEYS,
+    parts::grid::ROW_KEYS,
     parts::grid::COVER,
     parts::grid::CELL,
     parts::grid::BOUNDS,

@@ -367,6 +367,19 @@ impl Choice {
         })
     }
 
+    /// Where a row of cells ends that begins here: as it stands, some cells
+    /// further, at most at the grid's end, or at that end or one past it.
+    pub fn row_end(&self, volume: &Volume, from: u32) -> u32 {
+        let end = grid_size(volume).map_or(0, |[x, ..]| x);
+        let further = from.saturating_add((self.number % 300) as u32);
+        match self.kind % 4 {
+            0 => self.number as u32,
+            1 => further,
+            2 => further.min(end),
+            _ => end.saturating_add((self.number % 2) as u32),
+        }
+    }
+
     /// A shard number: as it stands, one of the specification's, just beyond
     /// them, or that of an id that the file lists.
     pub fn shard(&self, sharding: &Sharding, file: &[u8]) -> u64 {
@@ -535,6 +548,23 @@ mod tests {
         assert_eq!(key(1, 70), 6);
         assert_eq!(key(2, 70), 34);
         assert_eq!(key(3, 9 | 5 << 21), 24);
+    }
+
+    #[test]
+    fn ends_of_rows_are_chosen() {
+        let end = |kind, number| Choice { kind, number }.row_end(&SMALL, 3);
+        let ends = [
+            (0, 70),
+            (0, 1 << 32 | 9),
+            (1, 304),
+            (2, 304),
+            (3, 6),
+            (3, 7),
+        ];
+        assert_eq!(
+            ends.map(|(kind, number)| end(kind, number)),
+            [70, 9, 7, 5, 5, 6]
+        );
     }
 
     #[test]

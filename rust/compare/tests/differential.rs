@@ -80,6 +80,7 @@ quick! {
     grid: 600_000,
     key: 600_000,
     keys: 200_000,
+    row_keys: 200_000,
     cover: 150_000,
     cell: 500_000,
     bounds: 600_000,

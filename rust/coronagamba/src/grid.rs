@@ -2,6 +2,7 @@
 
 use crate::ffi;
 use crate::refusal::{given, written, Refusal};
+use std::ops::Range;
 
 /// Three extents.
 #[repr(C)]
@@ -187,6 +188,66 @@ impl Volume {
                 *self,
                 cells.as_ptr().cast(),
                 3 * cells.len(),
+                keys.as_mut_ptr(),
+                keys.len(),
+                length,
+            )
+        })
+    }
+
+    /// The keys of a row of cells, those with these x at one y and z. Refusal 2
+    /// where an extent is zero or any of these cells is outside the grid, or 3.
+    ///
+    /// ```
+    /// use coronagamba::Volume;
+    ///
+    /// let volume = Volume::new([5, 3, 1], [1, 1, 1], [0, 0, 0]);
+    /// assert_eq!(volume.row_keys(2..5, 2, 0)?, [12, 13, 24]);
+    /// assert_eq!(volume.row_keys(5..2, 2, 0)?, []);
+    /// assert_eq!(volume.row_keys(2..6, 2, 0).unwrap_err().number, 2);
+    /// # Ok::<(), coronagamba::Refusal>(())
+    /// ```
+    pub fn row_keys(&self, xs: Range<u32>, y: u32, z: u32) -> Result<Vec<u64>, Refusal> {
+        // A row that reaches past the grid is refused without room for any.
+        let room = match xs.end <= self.grid()?.x {
+            true => xs.len(),
+            false => 0,
+        };
+        let mut keys = vec![0; room];
+        self.write_row_keys(xs, y, z, &mut keys)?;
+        Ok(keys)
+    }
+
+    /// Writes the keys of a row of cells to the front of `keys`, by rising x,
+    /// and gives how many these are. Refusals as of
+    /// [`row_keys`](Volume::row_keys), then 13 where `keys` is shorter than the
+    /// row; it is then as it was.
+    ///
+    /// ```
+    /// use coronagamba::Volume;
+    ///
+    /// let volume = Volume::new([5, 3, 1], [1, 1, 1], [0, 0, 0]);
+    /// let mut keys = [9; 3];
+    /// assert_eq!(volume.write_row_keys(3..5, 2, 0, &mut keys)?, 2);
+    /// assert_eq!(keys, [13, 24, 9]);
+    /// # Ok::<(), coronagamba::Refusal>(())
+    /// ```
+    pub fn write_row_keys(
+        &self,
+        xs: Range<u32>,
+        y: u32,
+        z: u32,
+        keys: &mut [u64],
+    ) -> Result<usize, Refusal> {
+        // SAFETY: pointer and count are those of one live slice, lent to this
+        // call alone with the result.
+        written(|length| unsafe {
+            ffi::coronagamba_row_keys(
+                *self,
+                xs.start,
+                xs.end,
+                y,
+                z,
                 keys.as_mut_ptr(),
                 keys.len(),
                 length,

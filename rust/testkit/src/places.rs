@@ -62,6 +62,17 @@ pub fn brim_volume(rng: &mut Rng) -> Volume {
     }
 }
 
+/// A volume of single-voxel chunks whose axes need the same number of bits, at
+/// most 21.
+pub fn even_volume(rng: &mut Rng) -> Volume {
+    let bits = rng.within(1, 21);
+    Volume {
+        size: std::array::from_fn(|_| rng.within((1 << (bits - 1)) + 1, 1 << bits) as u32),
+        chunk: [1; 3],
+        offset: std::array::from_fn(|_| rng.edge_i32()),
+    }
+}
+
 /// A cell that is mostly inside the volume's grid and often at its border.
 pub fn cell(rng: &mut Rng, volume: &Volume) -> Cell {
     let Ok(grid) = grid_size(volume) else {
@@ -219,6 +230,18 @@ mod tests {
             let grid = grid_size(&brim_volume(&mut rng)).unwrap();
             assert!((62..=66).contains(&key_bits(grid)), "{grid:?}");
         }
+    }
+
+    #[test]
+    fn even_volumes_need_the_same_bits_along_each_axis() {
+        let (mut rng, mut met) = (Rng::new(4), [0; 64]);
+        for _ in 0..10_000 {
+            let grid = grid_size(&even_volume(&mut rng)).unwrap();
+            let [x, y, z] = grid.map(|size| key_bits([size, 1, 1]));
+            assert!(x == y && y == z, "{grid:?}");
+            met[key_bits(grid)] += 1;
+        }
+        assert!((1..=21).all(|bits| met[3 * bits] > 100));
     }
 
     #[test]

@@ -1,18 +1,7 @@
--- `spread::fill_keys` meets its contract: the table's entries are all computed here.
-use mathlib.Core.Path.{refl}
+-- `spread::fill_keys` meets its contract.
 use borrow.Author.Needs.{needs}
-use Rattle.grid.specs.Key.{bitOf}
-use Rattle.spread.specs.Spread.{spread}
-use Rattle.spread.proofs.Entries.{spreads}
 use Rattle.spread.proofs.fill_keys.Statement.{statement}
 use Rattle.spread.proofs.fill_keys.Tie as tie
 
-fill-requires : tie.Need-fill-requires
-unfolding spread bitOf
-fill-requires c κs = ((c .before .before .plan .ensures .1, spreads _ refl tt), search needs)
-
-returns : tie.Need-returns
-returns c = rw (c .before .before .before .before .before .plan .ensures .0) at (c .before .before .fill .ensures)
-
 pub fill-keys-spec : {M : Type 1} → statement M
-fill-keys-spec = tie.close (tie.spec (λ c κs. search needs) (λ c. search needs) fill-requires (λ c. search needs) returns)
+fill-keys-spec = tie.close (tie.spec (λ c κs. search needs) (λ c κs. search needs) (λ c. search needs) (λ c κs. (search needs, search needs)) (λ c. search needs) (λ c. cc))

@@ -1,6 +1,7 @@
 //! The library's calls in plain Rust.
 
 pub mod cards;
+pub mod deposit;
 pub mod infos;
 pub mod manifests;
 pub mod meshes;

@@ -2,6 +2,7 @@
 //! What is short is marked for inlining, as it would be in its caller's crate.
 
 use coronagamba::{Bounds, Cell, Sharding, Volume};
+use std::ops::Range;
 
 /// The grid size, or 2.
 #[inline]
@@ -71,6 +72,38 @@ pub fn keys(volume: &Volume, cells: &[Cell], keys: &mut [u64]) -> Result<(), u8>
     let keys = keys.get_mut(..cells.len()).ok_or(13)?;
     for (key, cell) in keys.iter_mut().zip(cells) {
         *key = key_in(bits, *cell);
+    }
+    Ok(())
+}
+
+/// The keys of a row of cells, or 2, 3 or 13: the grid worked out once.
+pub fn row_keys(
+    volume: &Volume,
+    xs: Range<u32>,
+    y: u32,
+    z: u32,
+    keys: &mut [u64],
+) -> Result<(), u8> {
+    let grid = grid(volume)?;
+    if !xs.is_empty()
+        && !inside(
+            grid,
+            Cell {
+                x: xs.end - 1,
+                y,
+                z,
+            },
+        )
+    {
+        return Err(2);
+    }
+    let bits = grid.map(bits);
+    if bits.iter().sum::<u32>() > 64 {
+        return Err(3);
+    }
+    let keys = keys.get_mut(..xs.len()).ok_or(13)?;
+    for (key, x) in keys.iter_mut().zip(xs) {
+        *key = key_in(bits, Cell { x, y, z });
     }
     Ok(())
 }

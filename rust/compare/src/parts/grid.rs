@@ -5,6 +5,7 @@ use crate::question::{Choice, Corner, Reader, Room, Spot, Writer};
 use crate::{sides, Part};
 use coronagamba::{Bounds, Cell, Extents, Point};
 use reference::grid;
+use std::ops::Range;
 use testkit::{places, Lent, Rng};
 
 /// The grid size of a volume.
@@ -32,6 +33,15 @@ pub const KEYS: Part = Part {
     meets: &[0, 2, 3, 13],
     compare: compare_keys,
     sample: sample_keys,
+};
+
+/// The keys of a row of cells.
+pub const ROW_KEYS: Part = Part {
+    name: "row_keys",
+    about: "the keys of a row of cells, as a batch gives them",
+    meets: &[0, 2, 3, 13],
+    compare: compare_row_keys,
+    sample: sample_row_keys,
 };
 
 /// The keys of the cells that share a voxel with a box.
@@ -130,8 +140,52 @@ fn compare_keys(bytes: &[u8]) -> u8 {
     met
 }
 
-/// The most keys of a cover that are looked at one by one.
+/// The most keys of a row or a cover that are looked at one by one.
 const MOST_KEYS: usize = 1 << 10;
+
+/// Writes the keys of a row of cells, by the reference: 2 where its first or
+/// its last cell is outside.
+fn write_row_keys(
+    volume: &grid::Volume,
+    xs: Range<u32>,
+    [y, z]: [u32; 2],
+    out: &mut [u64],
+) -> Result<usize, u8> {
+    let grid = grid::grid_size(volume)?;
+    let key = |x: u32| grid::key_of(volume, [x, y, z]);
+    if !xs.is_empty() && [xs.start, xs.end - 1].into_iter().any(|x| key(x) == Err(2)) {
+        return Err(2);
+    }
+    if grid::key_bits(grid) > 64 {
+        return Err(3);
+    }
+    let count = xs.len();
+    for (out, x) in out.get_mut(..count).ok_or(13)?.iter_mut().zip(xs) {
+        *out = key(x)?;
+    }
+    Ok(count)
+}
+
+fn compare_row_keys(bytes: &[u8]) -> u8 {
+    let mut reader = Reader::new(bytes);
+    let (volume, room) = (reader.volume(), reader.room());
+    let [from, y, z] = reader.spot().cell(&volume);
+    let xs = from..reader.choice().row_end(&volume, from);
+    let library = sides::volume(&volume);
+    let length = room.length(xs.len().min(MOST_KEYS));
+    let met = same_writing(
+        format_args!("keys of {xs:?} at {y}, {z} in {volume:?}, room for {length}"),
+        &Lent::numbers(&mut Rng::new(length as u64), length),
+        |out| library.write_row_keys(xs.clone(), y, z, out),
+        |out| write_row_keys(&volume, xs.clone(), [y, z], out),
+    );
+    if met == 0 {
+        let cells: Vec<Cell> = xs.clone().map(|x| Cell { x, y, z }).collect();
+        let row = library.row_keys(xs, y, z);
+        assert_eq!(row, library.keys(&cells), "the row in {volume:?}");
+    }
+    met
+}
 
 /// Whether a cell's voxels and a box have one in common.
 fn share(cell: Bounds, boxed: Bounds) -> bool {
@@ -227,8 +281,16 @@ fn sample_spot(rng: &mut Rng) -> Vec<u8> {
         .finish()
 }
 
+/// A volume for many keys: now and then all bits are shared by the three axes.
+fn volume_of_keys(rng: &mut Rng) -> grid::Volume {
+    match rng.once_in(4) {
+        true => places::even_volume(rng),
+        false => places::volume(rng),
+    }
+}
+
 fn sample_keys(rng: &mut Rng) -> Vec<u8> {
-    let volume = places::volume(rng);
+    let volume = volume_of_keys(rng);
     let mut writer = Writer::new().volume(&volume).room(Room::draw(rng));
     let inside = !rng.once_in(4);
     let most = if rng.once_in(100) { 300 } else { 12 };
@@ -241,6 +303,23 @@ fn sample_keys(rng: &mut Rng) -> Vec<u8> {
         });
     }
     writer.finish()
+}
+
+fn sample_row_keys(rng: &mut Rng) -> Vec<u8> {
+    let volume = volume_of_keys(rng);
+    let room = Room::draw(rng);
+    let cell = places::cell(rng, &volume);
+    let first = match rng.once_in(4) {
+        true => Spot::draw(rng, cell),
+        false => Spot::inside(rng, cell),
+    };
+    let number = rng.edge_u64();
+    Writer::new()
+        .volume(&volume)
+        .room(room)
+        .spot(first)
+        .choice(Choice::draw(rng, number))
+        .finish()
 }
 
 fn sample_cover(rng: &mut Rng) -> Vec<u8> {

@@ -117,6 +117,23 @@ extern "C" {
         length: *mut u64,
     ) -> u64;
 
+    /// The keys of a row of cells: x rises from `from` up to `to`, that end excluded, at one `y`
+    /// and `z`. A row whose end is not past its begin has no cell. Writes the keys to the front of
+    /// `keys`, and their number to `length`. The volume is judged also where there is no cell.
+    ///
+    /// Refusals: 2 where an extent is 0 or any cell is outside the grid, 3, 13 where `keys` has
+    /// room for fewer
+    pub fn coronagamba_row_keys(
+        volume: Volume,
+        from: u32,
+        to: u32,
+        y: u32,
+        z: u32,
+        keys: *mut u64,
+        count: usize,
+        length: *mut u64,
+    ) -> u64;
+
     /// The chunks that cover a box: the keys of all cells that share a voxel with it, rising, each
     /// once. The box begins at `lower` and ends at `upper`, that end excluded along each axis, in
     /// voxels, the volume's offset included. An empty or reversed box, and one outside the volume,

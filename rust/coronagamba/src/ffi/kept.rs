@@ -126,6 +126,10 @@ fn grid() -> Vec<Case<'static>> {
         2 => coronagamba_keys_of(row, ONE_OUTSIDE.as_ptr(), 6, lent.many(2), 2, lent.one());
         3 => coronagamba_keys_of(large, CELLS.as_ptr(), 6, lent.many(2), 2, lent.one());
         13 => coronagamba_keys_of(row, CELLS.as_ptr(), 6, lent.many(1), 1, lent.one());
+        2 => coronagamba_row_keys(empty, 0, 2, 0, 0, lent.many(2), 2, lent.one());
+        2 => coronagamba_row_keys(row, 4, 6, 0, 0, lent.many(2), 2, lent.one());
+        3 => coronagamba_row_keys(large, 0, 2, 0, 0, lent.many(2), 2, lent.one());
+        13 => coronagamba_row_keys(row, 3, 5, 2, 0, lent.many(1), 1, lent.one());
         2 => coronagamba_cover(empty, corner, corner, lent.many(2), 2, lent.one());
         3 => coronagamba_cover(large, corner, corner, lent.many(2), 2, lent.one());
         13 => coronagamba_cover(row, corner, far, lent.many(14), 14, lent.one());

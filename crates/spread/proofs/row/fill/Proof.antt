@@ -8,24 +8,26 @@ use lib.ListN.{length}
 use Rattle.endian.specs.Place.{paste}
 use Rattle.grid.specs.Key.{keyOf}
 use Rattle.spread.specs.Spread.{spread}
+use Rattle.spread.specs.Parts.{restKey}
 use Rattle.spread.specs.Row.{cellsFrom}
+use Rattle.spread.proofs.Sums.{key-sum, key-sum-fits}
 use Rattle.spread.proofs.Rows.{low-row, row-start, row-next, row-end}
 use Rattle.spread.proofs.row.fill.Statement.{statement}
 use Rattle.spread.proofs.row.fill.Tie as tie
 
 abbrev Inv-loop : tie.InvT-loop
-Inv-loop plan table from to y z keys₀ yz x₀ keys x =
-    (yz ≡ 2 * spread (plan .low) y + 4 * spread (plan .low) z) × (yz < 6 * 2 ^ 61) × (from ≤ x) × (length keys ≡ length keys₀)
+Inv-loop plan table from to y z keys₀ yz rest₀ x₀ keys rest x =
+    (yz ≡ 2 * spread (plan .low) y + 4 * spread (plan .low) z) × (yz < 6 * 2 ^ 61)
+    × (rest ≡ restKey (plan .low) (plan .grid) (record { x = x; y = y; z = z })) × (from ≤ x) × (length keys ≡ length keys₀)
     × (paste (x - from) (map (keyOf (plan .grid)) (cellsFrom (to - x) x y z)) keys ≡ paste 0 (map (keyOf (plan .grid)) (cellsFrom (to - from) from y z)) keys₀)
 
 abbrev μ-loop : tie.MeasureT-loop
-μ-loop plan table from to y z keys₀ yz x₀ keys x = to - x
+μ-loop plan table from to y z keys₀ yz rest₀ x₀ keys rest x = to - x
+
+ruleset adding = (key-sum, key-sum-fits, low-row, needs)
 
 loop-holds : tie.Need-loop-holds Inv-loop μ-loop
-loop-holds c = (search needs, search needs, search needs, search needs, row-start _ _ _)
-
-with-rest-requires : tie.Need-with-rest-requires Inv-loop μ-loop
-with-rest-requires c κs = (search needs, search low-row)
+loop-holds c = (search needs, search needs, search needs, search needs, search needs, row-start _ _ _)
 
 loop-again : tie.Need-loop-again Inv-loop μ-loop
 loop-again c =
@@ -34,12 +36,13 @@ loop-again c =
       search needs,
       search needs,
       search needs,
-      row-next _ _ _ _ _ _ _ (inv .4) (omega arith) (omega arith) (c .with-rest .ensures) (omega arith),
+      search needs,
+      row-next _ _ _ _ _ _ _ (inv .5) (omega arith) (omega arith) (search adding) (omega arith),
     )
 
 pub fill-spec : {M : Type 1} → statement M
 fill-spec =
     tie.close
-    (tie.spec Inv-loop μ-loop (λ c κs. search needs) loop-holds (λ c κs. search needs) (λ c. search needs) with-rest-requires (λ c. search needs)
-    (λ c. search needs) (λ c. search needs) (λ c. search needs) (λ c. search needs) (λ c. search needs) loop-again (λ c. search needs)
-    (λ c. search (row-end, needs)))
+    (tie.spec Inv-loop μ-loop (λ c κs. search needs) (λ c κs. search needs) loop-holds (λ c κs. search needs) (λ c. search needs)
+    (λ c. search adding) (λ c. search needs) (λ c. search needs) (λ c. search needs) (λ c. search needs) (λ c κs. (search needs, search needs))
+    (λ c. search needs) (λ c. search needs) loop-again (λ c. search needs) (λ c. search (row-end, needs)))
