@@ -1,5 +1,5 @@
 -- The orders' promises, from the crates' laws.
-use Prim.Native.Nat.{ℕ, _<_}
+use Prim.Native.Nat.{ℕ, zero, suc, _<_}
 use mathlib.Core.Path.{_≡_, refl, sym, _∙_}
 use mathlib.Core.Bool.{Bool, true, false, not}
 use mathlib.Core.Logic.{⊎-elim, inl}
@@ -30,17 +30,19 @@ use Rattle.shard.specs.Faults.{entryTests}
 use Rattle.shard.proofs.Leads.{volume-leads, mesh-leads}
 use Rattle.shard.proofs.Earlier.{earlier-sound, earlier-passes}
 use Rattle.form.proofs.Earlier.{earlier-form, volume-form}
-use Rattle.ranges.proofs.Meaning.{none-unlisted}
+use Rattle.ranges.specs.Ranges.{Unlisted}
+use Rattle.ranges.specs.Covered.{unlistedBytes, fileUnlisted}
+use Rattle.ranges.proofs.Meaning.{missed-unlisted, none-unlisted}
 use Rattle.unlisted.proofs.Counted.{unlisted-sound}
 use Rattle.shortest.proofs.Listed.{form-listed}
-use Rattle.settle.specs.Answers.{losesBytes, unlistedCheck, settleCheck, settleChecks, settleAnswer, settleLeft}
+use Rattle.settle.specs.Answers.{losesBytes, unlistedCheck, lengthCheck, lengthChecks, lengthAnswer, settleCheck, settleChecks, settleAnswer, settleLeft}
 use Rattle.settle.proofs.Answered.{length-lost, answer-lost, left-lost}
 use Rattle.settle.proofs.Demand3.{demand-3-written}
 use Rattle.batch.proofs.Each.{keys-of-each}
 use Rattle.spread.proofs.Laws as S
 use Rattle.cover.proofs.Laws.{listed-is, cell-listed, keys-rise, reversed-lists-none, outside-lists-none, keys-written}
 use Rattle.positions.proofs.Points.{check-points, lookup-points, fragment-points, count-points, listing-points, unlisted-named, length-named, settle-named}
-use Rattle.theorems.specs.Orders.{Order2, Order4, Order5, Order6, Order7, settleChecksBefore, Order8, Order9}
+use Rattle.theorems.specs.Orders.{Order2, Order4, Order5, Order6, Order7, settleChecksBefore, lengthChecksBefore, Order8, Order9}
 
 pub order-2 : Order2
 order-2 = record {
@@ -146,15 +148,28 @@ unfolding firstNumber firstPosition
 past-22 [] c = (refl, refl)
 past-22 (x ∷ cs) c = let e = past-22 cs c in rw (e .0, e .1) (refl, refl)
 
+-- where a byte is unlisted their number is not 0
+some-unlisted : (spec : Sharding) (a : List ℕ) (p : ℕ) → Unlisted spec (indexPart spec a) (dataPart spec a) p → 0 < fileUnlisted spec a
+some-unlisted spec a p u = above (fileUnlisted spec a) (λ e. none-unlisted spec (indexPart spec a) (dataPart spec a) .0 e p u)
+  where
+    above : (n : ℕ) → (n ≡ 0 → ⊥) → 0 < n
+    above zero f = absurd (f refl)
+    above (suc n) f = omega arith
+
 pub order-8 : Order8
 order-8 = record {
   counted = unlisted-sound;
+  number = λ spec a. unfold unlistedBytes in refl;
+  missed = λ spec a. missed-unlisted spec (indexPart spec a) (dataPart spec a);
   none = λ spec a. none-unlisted spec (indexPart spec a) (dataPart spec a);
-  refused = λ spec shard a out s l. (answer-lost s l out, left-lost s l out);
-  unmeasured = λ spec shard a s l. length-lost s l;
+  refused = λ spec shard a out p s u. (answer-lost s (some-unlisted spec a p u) out, left-lost s (some-unlisted spec a p u) out);
+  unmeasured = λ spec shard a p s u. length-lost s (some-unlisted spec a p u);
   asked = λ spec shard a out.
       let e = past-22 (shardChecks spec shard a) (settleCheck spec (indexPart spec a) (dataPart spec a) out) in
       unfold settleAnswer settleLeft settleChecks settleChecksBefore unlistedCheck losesBytes in rw (e .0, e .1) (refl, refl);
+  askedLength = λ spec shard a.
+      let e = past-22 (shardChecks spec shard a) (lengthCheck spec (indexPart spec a) (dataPart spec a)) in
+      unfold lengthAnswer lengthChecks lengthChecksBefore unlistedCheck losesBytes in rw (e .0, e .1) refl;
   form = λ spec shard a. form-listed;
 }
 

@@ -37,7 +37,7 @@ use Rattle.lookup.specs.Find.{lookupAnswer}
 use Rattle.shard.specs.Items.{Item}
 use Rattle.form.specs.Content.{fileContent, fileForm, fileFormLength}
 use Rattle.settle.specs.declared.SettleAnswer.{SettleAnswer}
-use Rattle.settle.specs.declared.SettleAnswer.the-variants.{Length as SettledLength}
+use Rattle.settle.specs.declared.SettleAnswer.the-variants.{Length as SettledLength, Refused as NotSettled}
 use Rattle.settle.specs.Answers.{settleAnswer, settleLeft}
 use Rattle.corners.specs.declared.Corner.{Corner}
 use Rattle.corners.specs.declared.CornersAnswer.{CornersAnswer}
@@ -202,6 +202,9 @@ table =
     ∷ form (plain 0 1 0) settledFile settledFile 85
     ∷ settles (plain 0 1 0) 0 otherFile true (zeros 87) (SettledLength 85) (settledFile ++ 0 ∷ 0 ∷ [])
     ∷ settles (plain 0 1 0) 0 settledFile false (zeros 85) (SettledLength 85) settledFile
+    -- (order 8) one byte of the other layout is unlisted: 22, also before 13
+    ∷ settles (plain 0 1 0) 0 otherFile false (zeros 87) (NotSettled 22) (zeros 87)
+    ∷ settles (plain 0 1 0) 0 otherFile false [] (NotSettled 22) []
     -- id 10 is bytes 34 up to 37, end excluded; ids 6 and 7 give 12
     ∷ lookup (plain 0 1 0) 0 settledFile 10 (Found 34 3)
     ∷ lookup (plain 0 1 0) 0 settledFile 6 (NotFound 12)

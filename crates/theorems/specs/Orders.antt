@@ -39,7 +39,8 @@ use Rattle.shard.specs.File.{indexPart, dataPart, badFileLength, fileChecks, sh
 use Rattle.shard.specs.Before.{PassedBefore}
 use Rattle.shard.specs.Sound.{SoundShard}
 use Rattle.ranges.specs.Ranges.{Unlisted}
-use Rattle.ranges.specs.Covered.{fileUnlisted}
+use Rattle.bitmap.specs.Positions.{misses}
+use Rattle.ranges.specs.Covered.{coveredAt, fileUnlisted}
 use Rattle.unlisted.specs.declared.UnlistedAnswer.the-variants as U
 use Rattle.unlisted.specs.Answers.{unlistedAnswer}
 use Rattle.lookup.specs.declared.LookupAnswer.the-variants as L
@@ -50,7 +51,7 @@ use Rattle.listing.specs.Listing.{countAnswer, listingAnswer}
 use Rattle.form.specs.Content.{fileForm, fileFormLength}
 use Rattle.form.specs.Before.{fileFormBefore, fileFormBeforeMesh}
 use Rattle.settle.specs.declared.SettleAnswer.the-variants as S
-use Rattle.settle.specs.Answers.{settleCheck, lengthAnswer, settleAnswer, settleLeft}
+use Rattle.settle.specs.Answers.{lengthCheck, settleCheck, lengthAnswer, settleAnswer, settleLeft}
 use Rattle.positions.specs.Points.{PointsAt, Named}
 use Rattle.card.specs.declared.Card.{Card}
 use Rattle.card.specs.declared.CardAnswer.the-variants.{Says, Refused}
@@ -160,24 +161,33 @@ pub record Order7 : Type 0 where
   -- "the info reader yields volume".
   pub info : (s : List ℕ) (k : ℕ) (c : Card) → infoAnswer s k ≡ Says c → c .sharding .kind ≡ volume
 
--- the checks of settling before order 8: those of the check, then 13
+-- the checks of settling and of its length before order 8: those of the check, then 13
 unfoldable pub settleChecksBefore : Sharding → ℕ → List ℕ → List ℕ → List Check
 settleChecksBefore spec shard file out = shardChecks spec shard file ++ (settleCheck spec (indexPart spec file) (dataPart spec file) out ∷ [])
 
+unfoldable pub lengthChecksBefore : Sharding → ℕ → List ℕ → List Check
+lengthChecksBefore spec shard file = shardChecks spec shard file ++ (lengthCheck spec (indexPart spec file) (dataPart spec file) ∷ [])
+
 -- Order 8: "Settling now refuses such a shard unless the caller asks to drop them."
 pub record Order8 : Type 0 where
-  -- The count of unlisted bytes, which a sound shard is answered with, is above 0 exactly when there is one: "An unlisted byte lies past the shard
-  -- index in no listed chunk, no fragment and no nonempty minishard index."
+  -- "An unlisted byte lies past the shard index in no listed chunk, no fragment and no nonempty minishard index." Their number, which a sound
+  -- shard is answered with, is that of the positions of the data that the test misses, and these are the unlisted ones; it is 0 exactly when there
+  -- is none.
   pub counted : (spec : Sharding) (shard : ℕ) (a : List ℕ) → SoundShard spec shard a → unlistedAnswer spec shard a ≡ U.Count (fileUnlisted spec a)
+  pub number : (spec : Sharding) (a : List ℕ) → fileUnlisted spec a ≡ misses (coveredAt spec (indexPart spec a) (dataPart spec a)) (length (dataPart spec a))
+  pub missed : (spec : Sharding) (a : List ℕ) (p : ℕ) → p < length (dataPart spec a)
+      → (coveredAt spec (indexPart spec a) (dataPart spec a) p ≡ false) ↔ Unlisted spec (indexPart spec a) (dataPart spec a) p
   pub none : (spec : Sharding) (a : List ℕ) → (fileUnlisted spec a ≡ 0) ↔ ((p : ℕ) → Unlisted spec (indexPart spec a) (dataPart spec a) p → ⊥)
-  -- A sound shard that has some is refused with 22, whatever the output's length, and the output is as it was;
-  pub refused : (spec : Sharding) (shard : ℕ) (a out : List ℕ) → SoundShard spec shard a → 0 < fileUnlisted spec a
+  -- A sound shard that has one is refused with 22, whatever the output's length, and the output is as it was;
+  pub refused : (spec : Sharding) (shard : ℕ) (a out : List ℕ) (p : ℕ) → SoundShard spec shard a → Unlisted spec (indexPart spec a) (dataPart spec a) p
       → (settleAnswer spec shard a false out ≡ S.Refused 22) × (settleLeft spec shard a false out ≡ out)
-  pub unmeasured : (spec : Sharding) (shard : ℕ) (a : List ℕ) → SoundShard spec shard a → 0 < fileUnlisted spec a → lengthAnswer spec shard a false ≡ S.Refused 22
-  -- asked to drop them, settling answers and writes what it did before there was a choice: the check's refusals, then 13.
+  pub unmeasured : (spec : Sharding) (shard : ℕ) (a : List ℕ) (p : ℕ) → SoundShard spec shard a → Unlisted spec (indexPart spec a) (dataPart spec a) p → lengthAnswer spec shard a false ≡ S.Refused 22
+  -- asked to drop them, settling answers and writes what it did before there was a choice: the check's refusals, then 13; so does the settled length.
   pub asked : (spec : Sharding) (shard : ℕ) (a out : List ℕ)
       → (settleAnswer spec shard a true out ≡ answeredAt S.Refused S.Faulty (settleChecksBefore spec shard a out) (S.Length (fileFormLength spec a)))
       × (settleLeft spec shard a true out ≡ left (settleChecksBefore spec shard a out) (over (fileForm spec a) out) out)
+  pub askedLength : (spec : Sharding) (shard : ℕ) (a : List ℕ)
+      → lengthAnswer spec shard a true ≡ answeredAt S.Refused S.Faulty (lengthChecksBefore spec shard a) (S.Length (fileFormLength spec a))
   -- A settled form has none.
   pub form : (spec : Sharding) (shard : ℕ) (a : List ℕ) → SoundShard spec shard a → length (fileForm spec a) ≤ mostShardBytes → fileUnlisted spec (fileForm spec a) ≡ 0
 
