@@ -13,6 +13,7 @@ use Rattle.grid.specs.Key.{keyBits, keyOf}
 use Rattle.grid.specs.Turn.{AxisBits}
 use Rattle.grid.proofs.From.{key-below}
 use Rattle.spread.specs.declared.Plan.{Plan}
+use Rattle.spread.specs.Spread.{spread}
 use Rattle.spread.specs.Parts.{lowKey, coarseGrid, coarseCell, restKey, Planned}
 use Rattle.spread.proofs.Turns.{key-by-parts, coarse-sum, all-shared}
 
@@ -46,6 +47,15 @@ unfolding coarseGrid
 coarse-made g n e p q r = rw (← e) (λ t. record { x = p t; y = q t; z = r t })
 
 -- ---- the key
+-- no turn is shared
+pub low-none : (n : ℕ) (c : Cell) → n ≡ 0 → 0 ≡ lowKey n c
+unfolding lowKey spread
+low-none n c e = rw e
+
+pub low-sum : (n : ℕ) (c : Cell) {x y z : ℕ} → x ≡ spread n (c .x) → y ≡ spread n (c .y) → z ≡ spread n (c .z) → x + 2 * y + 4 * z ≡ lowKey n c
+unfolding lowKey
+low-sum n c p q r = rw (p, q, r)
+
 module _ (p : Plan) (c : Cell) (w : Planned p) where
   whole : lowKey (p .low) c + restKey (p .low) (p .grid) c ≡ keyOf (p .grid) c
   whole = sym (key-by-parts (p .grid) c (p .low) (w .words) (w .shared))

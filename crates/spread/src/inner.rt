@@ -103,11 +103,14 @@ pub fn spread_bits(table: &[u32], v: u32, n: u32) -> u64
 
 // ---- the key
 
-// The bits of the turns below n, which use all three axes.
+// The bits of the turns below n, which use all three axes: none where an axis has one cell.
 fn low_key(table: &[u32], cell: Cell, n: u32) -> u64
     requires { ⌜ Spreads (now table) × (n ≤ 21) ⌝ }
     ensures { λ r. ⌜ r ≡ lowKey n cell ⌝ }
 {
+    if n == 0 {
+        return 0;
+    }
     spread_bits(table, cell.x, n)
         + 2 * spread_bits(table, cell.y, n)
         + 4 * spread_bits(table, cell.z, n)

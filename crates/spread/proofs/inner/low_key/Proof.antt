@@ -1,15 +1,13 @@
 -- `spread::inner::low_key` meets its contract.
 use borrow.Author.Needs.{needs}
-use Rattle.spread.specs.Parts.{lowKey}
+use Rattle.spread.proofs.Sums.{low-none, low-sum}
 use Rattle.spread.proofs.inner.low_key.Statement.{statement}
 use Rattle.spread.proofs.inner.low_key.Tie as tie
 
-returns : tie.Need-returns
-unfolding lowKey
-returns c = cc
+ruleset summing = (low-none, low-sum, needs)
 
 pub low-key-spec : {M : Type 1} → statement M
 low-key-spec =
     tie.close
-    (tie.spec (λ c κs. search needs) (λ c κs. search needs) (λ c. search needs) (λ c. search needs) (λ c κs. search needs) (λ c. search needs)
-    (λ c. search needs) returns)
+    (tie.spec (λ c. search summing) (λ c κs. search needs) (λ c κs. search needs) (λ c. search needs) (λ c. search needs)
+    (λ c κs. search needs) (λ c. search needs) (λ c. search needs) (λ c. search summing))
