@@ -37,11 +37,15 @@
  *       CORONAGAMBA_HAS_POSITION(word))
  *     look_at(file + CORONAGAMBA_POSITION(word));
  *
- * What names a minishard: coronagamba_check with 7 to 11, 15 to 17 and 21. What
- * names a position: coronagamba_check, coronagamba_lookup,
- * coronagamba_fragment, coronagamba_listed_count, coronagamba_listing,
- * coronagamba_unlisted, coronagamba_settled_length and coronagamba_settle with
- * 7 to 11, 15 to 17 and 21.
+ * What names a minishard: coronagamba_check and coronagamba_pair_check with 7
+ * to 11, 15 to 17 and 21. What names a position: coronagamba_check,
+ * coronagamba_lookup, coronagamba_fragment, coronagamba_listed_count,
+ * coronagamba_listing, coronagamba_unlisted, coronagamba_settled_length,
+ * coronagamba_settle, coronagamba_pair_check, coronagamba_pair_lookup,
+ * coronagamba_pair_fragment, coronagamba_pair_listed_count,
+ * coronagamba_pair_listing, coronagamba_pair_unlisted,
+ * coronagamba_pair_settled_length and coronagamba_pair_settle with 7 to 11, 15
+ * to 17 and 21.
  *
  * A position is a byte of the shard, counted from its start. With 7 and 8 the
  * minishard's entry in the shard index begins there, 16 bytes: start and end.
@@ -52,6 +56,12 @@
  * Meshes. In a shard of the kind mesh each chunk is a manifest, and the bytes
  * right before it are its fragments. 15 to 17 and 21 are tested of such shards
  * alone; the calls on a manifest give 15 to 17 of any bytes, with no position.
+ *
+ * Pairs. A shard of the earlier edition is an index file and a data file. The
+ * calls on a pair answer as those on one file would for the two joined, and no
+ * call joins them: positions and starts count from the index file's first byte.
+ * The seam is where the index file ends; 23 is given right after 5 where it is
+ * not where the shard index ends.
  *
  * A comment below ends with the refusals that its function can give, in the
  * order in which they are tested.
@@ -200,6 +210,13 @@
  * drop such bytes; after all that the check refuses and before 13 */
 #define CORONAGAMBA_REFUSED_UNLISTED_BYTES 22
 
+/* of a shard of the earlier two-file edition, the index file is not exactly
+ * as long as the shard index; right after 5 */
+#define CORONAGAMBA_REFUSED_INDEX_FILE_LENGTH 23
+
+/* a range crosses the seam, is reversed or passes the end */
+#define CORONAGAMBA_REFUSED_NO_SUCH_RANGE 24
+
 /* ---- other numbers ------------------------------------------------------- */
 
 /* a sharding's hash that leaves an id as it is */
@@ -220,6 +237,12 @@
 
 /* the kind of a manifest's field that is a real */
 #define CORONAGAMBA_FIELD_REAL 1
+
+/* a pair's index file */
+#define CORONAGAMBA_FILE_INDEX 0
+
+/* a pair's data file */
+#define CORONAGAMBA_FILE_DATA 1
 
 #ifdef __cplusplus
 extern "C" {
@@ -446,6 +469,122 @@ uint64_t coronagamba_settle(coronagamba_sharding sharding, uint64_t shard,
                             const uint8_t *file, size_t count,
                             uint8_t drop_unlisted, uint8_t *out,
                             size_t out_count, uint64_t *length);
+
+/* ---- Shards of the earlier edition, an index file and a data file each --- */
+
+/* coronagamba_check of a pair: whether it is sound, as one file. Writes
+ * nothing. The position is that in the joined file. Refusals: 1, 5, 23, 6, 7
+ * to 11, 15 to 17 (mesh), 21 (mesh) with the minishard and the position */
+uint64_t coronagamba_pair_check(coronagamba_sharding sharding, uint64_t shard,
+                                const uint8_t *index, size_t count,
+                                const uint8_t *data, size_t data_count);
+
+/* coronagamba_lookup of a pair: where the chunk of an id lies. Writes where
+ * it begins, counted from the index file's first byte, to `start`, and its
+ * number of bytes to `length`. A chunk lies in the data file: there it
+ * begins as many bytes earlier as the index file has. Refusals: 1, 5, 23, 6,
+ * 7 to 11, 15 to 17 (mesh), 21 (mesh) of the id's minishard with the
+ * position, 12 */
+uint64_t coronagamba_pair_lookup(coronagamba_sharding sharding, uint64_t shard,
+                                 const uint8_t *index, size_t count,
+                                 const uint8_t *data, size_t data_count,
+                                 uint64_t id, uint64_t *start,
+                                 uint64_t *length);
+
+/* coronagamba_fragment of a pair: where the fragment of a node lies, by the
+ * id of its manifest, its level and its number. Writes where it begins,
+ * counted from the index file's first byte, to `start`, and its number of
+ * bytes to `length`. A fragment lies in the data file. Refusals: 1, 5, 23,
+ * 6, 7 to 11, 15 to 17 (mesh), 21 (mesh) of the id's minishard with the
+ * position, 12, 18 also where the kind is volume */
+uint64_t coronagamba_pair_fragment(coronagamba_sharding sharding,
+                                   uint64_t shard, const uint8_t *index,
+                                   size_t count, const uint8_t *data,
+                                   size_t data_count, uint64_t id,
+                                   uint32_t level, uint32_t node,
+                                   uint64_t *start, uint64_t *length);
+
+/* coronagamba_listed_count of a pair: how many chunks a minishard lists.
+ * Writes the number to `chunks`. Refusals: 1, 5 (also for a minishard that
+ * is not there), 23, 6, 7 to 11, 15 to 17 (mesh), 21 (mesh) of that
+ * minishard with the position */
+uint64_t coronagamba_pair_listed_count(coronagamba_sharding sharding,
+                                       uint64_t shard, const uint8_t *index,
+                                       size_t count, const uint8_t *data,
+                                       size_t data_count, uint64_t minishard,
+                                       uint64_t *chunks);
+
+/* coronagamba_listing of a pair: the chunks that a minishard lists, in
+ * stored order. Writes three numbers for each to the front of `out`: id,
+ * start counted from the index file's first byte, length in bytes. Writes
+ * how many numbers these are, three times what coronagamba_pair_listed_count
+ * gives, to `length`. Refusals: 1, 5 (also for a minishard that is not
+ * there), 23, 6, 7 to 11, 15 to 17 (mesh), 21 (mesh) of that minishard with
+ * the position, 13 where `out` has room for fewer */
+uint64_t coronagamba_pair_listing(coronagamba_sharding sharding, uint64_t shard,
+                                  const uint8_t *index, size_t count,
+                                  const uint8_t *data, size_t data_count,
+                                  uint64_t minishard, uint64_t *out,
+                                  size_t out_count, uint64_t *length);
+
+/* coronagamba_unlisted of a pair: how many bytes are unlisted. Writes the
+ * number to `bytes`. Takes as much stack as coronagamba_unlisted does.
+ * Refusals: 1, 5, 23, 6, 7 to 11, 15 to 17 (mesh), 21 (mesh) of the first
+ * faulty minishard with the position */
+uint64_t coronagamba_pair_unlisted(coronagamba_sharding sharding,
+                                   uint64_t shard, const uint8_t *index,
+                                   size_t count, const uint8_t *data,
+                                   size_t data_count, uint64_t *bytes);
+
+/* coronagamba_settled_length of a pair: how many bytes its settled form has,
+ * which is one file. Writes the number to `length`. A pair with unlisted
+ * bytes is refused unless `drop_unlisted` is 1; no other number asks to drop
+ * them. Refusals: 1, 5, 23, 6, 7 to 11, 15 to 17 (mesh), 21 (mesh) of the
+ * first faulty minishard with the position, 22 where bytes are unlisted and
+ * not dropped, 13 where the form would pass 1 GiB */
+uint64_t coronagamba_pair_settled_length(coronagamba_sharding sharding,
+                                         uint64_t shard, const uint8_t *index,
+                                         size_t count, const uint8_t *data,
+                                         size_t data_count,
+                                         uint8_t drop_unlisted,
+                                         uint64_t *length);
+
+/* coronagamba_settle of a pair: its settled form, which is one file. Writes
+ * it to the front of `out`, which needs the room that
+ * coronagamba_pair_settled_length tells, and its number of bytes to
+ * `length`. Unlisted bytes are lost: a pair with some is refused unless
+ * `drop_unlisted` is 1; no other number asks to drop them. Refusals: 1, 5,
+ * 23, 6, 7 to 11, 15 to 17 (mesh), 21 (mesh) of the first faulty minishard
+ * with the position, 22 where bytes are unlisted and not dropped, 13 where
+ * `out` is shorter than the form or the form would pass 1 GiB */
+uint64_t coronagamba_pair_settle(coronagamba_sharding sharding, uint64_t shard,
+                                 const uint8_t *index, size_t count,
+                                 const uint8_t *data, size_t data_count,
+                                 uint8_t drop_unlisted, uint8_t *out,
+                                 size_t out_count, uint64_t *length);
+
+/* Where the bytes of the joined file from `start` up to `end`, end excluded,
+ * are. Writes which file holds them to `file`: CORONAGAMBA_FILE_INDEX or
+ * CORONAGAMBA_FILE_DATA; an empty range at the seam is the data file's.
+ * Writes where they begin, counted from that file's first byte, to `place`,
+ * and their number to `length`. Judges no minishard and takes no shard
+ * number. Refusals: 1, 23, 6, 24 */
+uint64_t coronagamba_pair_range(coronagamba_sharding sharding,
+                                const uint8_t *index, size_t count,
+                                const uint8_t *data, size_t data_count,
+                                uint64_t start, uint64_t end, uint32_t *file,
+                                uint64_t *place, uint64_t *length);
+
+/* The name of a shard's index file. Writes its ASCII bytes, at most 14 and
+ * with no 0 byte behind them, to the front of `out`, and their number to
+ * `length`. Refusals: 1, 5, 13 where `out` is shorter than the name */
+uint64_t coronagamba_index_name(coronagamba_sharding sharding, uint64_t shard,
+                                uint8_t *out, size_t count, uint64_t *length);
+
+/* The name of its data file, at most 13 bytes, in the same way. Refusals: 1,
+ * 5, 13 where `out` is shorter than the name */
+uint64_t coronagamba_data_name(coronagamba_sharding sharding, uint64_t shard,
+                               uint8_t *out, size_t count, uint64_t *length);
 
 /* ---- Deposit cards ------------------------------------------------------- */
 

@@ -13,6 +13,7 @@ from ._declared import __version__
 from .card import Card
 from .grid import Bounds, Cell, Extents, Offset, Point, Volume
 from .manifest import Corners, Header, Manifest, Node, Visit
+from .pair import Half, Held, Pair
 from .refusal import Absent, Refused
 from .shard import Listed, Shard, Span
 from .sharding import IDENTITY, MESH, MURMUR, VOLUME, Place, Sharding
@@ -28,11 +29,14 @@ __all__ = [
     "Cell",
     "Corners",
     "Extents",
+    "Half",
     "Header",
+    "Held",
     "Listed",
     "Manifest",
     "Node",
     "Offset",
+    "Pair",
     "Place",
     "Point",
     "Refused",

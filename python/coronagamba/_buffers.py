@@ -7,7 +7,7 @@ from array import array
 from ctypes import c_char_p, c_int, c_ssize_t, c_void_p
 from itertools import chain
 from types import TracebackType
-from typing import TYPE_CHECKING, Any, Optional, Type, TypeVar
+from typing import TYPE_CHECKING, Any, Optional, Tuple, Type, TypeVar
 
 from ._numbers import three_u32, u64
 
@@ -106,24 +106,53 @@ class Lent:
         )
 
 
-Self = TypeVar("Self", bound="Held")
+class Loan:
+    """The bytes of one object or of several, lent together."""
+
+    __slots__ = ("_all",)
+
+    def __init__(self, *all: Lent) -> None:
+        self._all = all
+
+    def __enter__(self) -> Loan:
+        for place, lent in enumerate(self._all):
+            try:
+                lent.__enter__()
+            except BaseException:
+                for earlier in self._all[:place]:
+                    earlier.__exit__()
+                raise
+        return self
+
+    def __exit__(self, *_: object) -> None:
+        for lent in self._all:
+            lent.__exit__()
+
+    @property
+    def arguments(self) -> Tuple[Any, ...]:
+        """A pointer and a count for each."""
+        found: Tuple[Any, ...] = ()
+        for lent in self._all:
+            found += (lent.bytes, lent.count)
+        return found
+
+    def overlaps(self, other: Lent) -> bool:
+        """Whether some byte of one of them is another's."""
+        return any(lent.overlaps(other) for lent in self._all)
 
 
-class Held:
-    """A caller's bytes, held until `release` or the end of a `with` block."""
+Self = TypeVar("Self", bound="Releasing")
 
-    __slots__ = ("_view",)
 
-    # The name by which a caller gives them.
-    _NAME = "bytes"
+class Releasing:
+    """What holds a caller's bytes until `release` or the end of a `with`
+    block."""
 
-    def __init__(self, bytes: ReadableBuffer) -> None:
-        self._view = _byte_view(self._NAME, bytes)
+    __slots__ = ()
 
     def release(self) -> None:
-        """Lets the caller's buffer go. Every later call raises ValueError;
-        chunks handed out before hold the buffer for themselves."""
-        self._view.release()
+        """Lets the caller's bytes go."""
+        raise NotImplementedError
 
     def __enter__(self: Self) -> Self:
         return self
@@ -136,11 +165,27 @@ class Held:
     ) -> None:
         self.release()
 
+
+class Held(Releasing):
+    """A caller's bytes."""
+
+    __slots__ = ("_view",)
+
+    # The name by which a caller gives them.
+    _NAME = "bytes"
+
+    def __init__(self, bytes: ReadableBuffer) -> None:
+        self._view = byte_view(self._NAME, bytes)
+
+    def release(self) -> None:
+        """Lets the caller's buffer go. Every later call raises ValueError."""
+        self._view.release()
+
     def _lent(self) -> Lent:
         return Lent(self._NAME, self._view)
 
 
-def _byte_view(name: str, data: ReadableBuffer) -> memoryview:
+def byte_view(name: str, data: ReadableBuffer) -> memoryview:
     """A read-only view of an object's bytes."""
     try:
         view = memoryview(data)

@@ -31,6 +31,12 @@ FIELD_WHOLE = 0
 # the kind of a manifest's field that is a real
 FIELD_REAL = 1
 
+# a pair's index file
+FILE_INDEX = 0
+
+# a pair's data file
+FILE_DATA = 1
+
 
 class Sharding(ctypes.Structure):
     """The numbers as they stand in a card: hash 0 is identity, 1 is murmur;
@@ -410,6 +416,211 @@ FUNCTIONS: Dict[str, Tuple[Any, Tuple[Any, ...]]] = {
             POINTER(ctypes.c_uint8),
             ctypes.c_size_t,
             ctypes.c_uint8,
+            POINTER(ctypes.c_uint8),
+            ctypes.c_size_t,
+            POINTER(ctypes.c_uint64),
+        ),
+    ),
+    # coronagamba_check of a pair: whether it is sound, as one file. Writes
+    # nothing. The position is that in the joined file.
+    # Refusals: 1, 5, 23, 6, 7 to 11, 15 to 17 (mesh), 21 (mesh) with the
+    # minishard and the position
+    "coronagamba_pair_check": (
+        ctypes.c_uint64,
+        (
+            Sharding,
+            ctypes.c_uint64,
+            POINTER(ctypes.c_uint8),
+            ctypes.c_size_t,
+            POINTER(ctypes.c_uint8),
+            ctypes.c_size_t,
+        ),
+    ),
+    # coronagamba_lookup of a pair: where the chunk of an id lies. Writes where
+    # it begins, counted from the index file's first byte, to `start`, and its
+    # number of bytes to `length`. A chunk lies in the data file: there it
+    # begins as many bytes earlier as the index file has.
+    # Refusals: 1, 5, 23, 6, 7 to 11, 15 to 17 (mesh), 21 (mesh) of the id's
+    # minishard with the position, 12
+    "coronagamba_pair_lookup": (
+        ctypes.c_uint64,
+        (
+            Sharding,
+            ctypes.c_uint64,
+            POINTER(ctypes.c_uint8),
+            ctypes.c_size_t,
+            POINTER(ctypes.c_uint8),
+            ctypes.c_size_t,
+            ctypes.c_uint64,
+            POINTER(ctypes.c_uint64),
+            POINTER(ctypes.c_uint64),
+        ),
+    ),
+    # coronagamba_fragment of a pair: where the fragment of a node lies, by the
+    # id of its manifest, its level and its number. Writes where it begins,
+    # counted from the index file's first byte, to `start`, and its number of
+    # bytes to `length`. A fragment lies in the data file.
+    # Refusals: 1, 5, 23, 6, 7 to 11, 15 to 17 (mesh), 21 (mesh) of the id's
+    # minishard with the position, 12, 18 also where the kind is volume
+    "coronagamba_pair_fragment": (
+        ctypes.c_uint64,
+        (
+            Sharding,
+            ctypes.c_uint64,
+            POINTER(ctypes.c_uint8),
+            ctypes.c_size_t,
+            POINTER(ctypes.c_uint8),
+            ctypes.c_size_t,
+            ctypes.c_uint64,
+            ctypes.c_uint32,
+            ctypes.c_uint32,
+            POINTER(ctypes.c_uint64),
+            POINTER(ctypes.c_uint64),
+        ),
+    ),
+    # coronagamba_listed_count of a pair: how many chunks a minishard lists.
+    # Writes the number to `chunks`.
+    # Refusals: 1, 5 (also for a minishard that is not there), 23, 6, 7 to 11,
+    # 15 to 17 (mesh), 21 (mesh) of that minishard with the position
+    "coronagamba_pair_listed_count": (
+        ctypes.c_uint64,
+        (
+            Sharding,
+            ctypes.c_uint64,
+            POINTER(ctypes.c_uint8),
+            ctypes.c_size_t,
+            POINTER(ctypes.c_uint8),
+            ctypes.c_size_t,
+            ctypes.c_uint64,
+            POINTER(ctypes.c_uint64),
+        ),
+    ),
+    # coronagamba_listing of a pair: the chunks that a minishard lists, in
+    # stored order. Writes three numbers for each to the front of `out`: id,
+    # start counted from the index file's first byte, length in bytes. Writes
+    # how many numbers these are, three times what
+    # coronagamba_pair_listed_count gives, to `length`.
+    # Refusals: 1, 5 (also for a minishard that is not there), 23, 6, 7 to 11,
+    # 15 to 17 (mesh), 21 (mesh) of that minishard with the position, 13 where
+    # `out` has room for fewer
+    "coronagamba_pair_listing": (
+        ctypes.c_uint64,
+        (
+            Sharding,
+            ctypes.c_uint64,
+            POINTER(ctypes.c_uint8),
+            ctypes.c_size_t,
+            POINTER(ctypes.c_uint8),
+            ctypes.c_size_t,
+            ctypes.c_uint64,
+            POINTER(ctypes.c_uint64),
+            ctypes.c_size_t,
+            POINTER(ctypes.c_uint64),
+        ),
+    ),
+    # coronagamba_unlisted of a pair: how many bytes are unlisted. Writes the
+    # number to `bytes`. Takes as much stack as coronagamba_unlisted does.
+    # Refusals: 1, 5, 23, 6, 7 to 11, 15 to 17 (mesh), 21 (mesh) of the first
+    # faulty minishard with the position
+    "coronagamba_pair_unlisted": (
+        ctypes.c_uint64,
+        (
+            Sharding,
+            ctypes.c_uint64,
+            POINTER(ctypes.c_uint8),
+            ctypes.c_size_t,
+            POINTER(ctypes.c_uint8),
+            ctypes.c_size_t,
+            POINTER(ctypes.c_uint64),
+        ),
+    ),
+    # coronagamba_settled_length of a pair: how many bytes its settled form
+    # has, which is one file. Writes the number to `length`. A pair with
+    # unlisted bytes is refused unless `drop_unlisted` is 1; no other number
+    # asks to drop them.
+    # Refusals: 1, 5, 23, 6, 7 to 11, 15 to 17 (mesh), 21 (mesh) of the first
+    # faulty minishard with the position, 22 where bytes are unlisted and not
+    # dropped, 13 where the form would pass 1 GiB
+    "coronagamba_pair_settled_length": (
+        ctypes.c_uint64,
+        (
+            Sharding,
+            ctypes.c_uint64,
+            POINTER(ctypes.c_uint8),
+            ctypes.c_size_t,
+            POINTER(ctypes.c_uint8),
+            ctypes.c_size_t,
+            ctypes.c_uint8,
+            POINTER(ctypes.c_uint64),
+        ),
+    ),
+    # coronagamba_settle of a pair: its settled form, which is one file. Writes
+    # it to the front of `out`, which needs the room that
+    # coronagamba_pair_settled_length tells, and its number of bytes to
+    # `length`. Unlisted bytes are lost: a pair with some is refused unless
+    # `drop_unlisted` is 1; no other number asks to drop them.
+    # Refusals: 1, 5, 23, 6, 7 to 11, 15 to 17 (mesh), 21 (mesh) of the first
+    # faulty minishard with the position, 22 where bytes are unlisted and not
+    # dropped, 13 where `out` is shorter than the form or the form would pass 1
+    # GiB
+    "coronagamba_pair_settle": (
+        ctypes.c_uint64,
+        (
+            Sharding,
+            ctypes.c_uint64,
+            POINTER(ctypes.c_uint8),
+            ctypes.c_size_t,
+            POINTER(ctypes.c_uint8),
+            ctypes.c_size_t,
+            ctypes.c_uint8,
+            POINTER(ctypes.c_uint8),
+            ctypes.c_size_t,
+            POINTER(ctypes.c_uint64),
+        ),
+    ),
+    # Where the bytes of the joined file from `start` up to `end`, end
+    # excluded, are. Writes which file holds them to `file`:
+    # CORONAGAMBA_FILE_INDEX or CORONAGAMBA_FILE_DATA; an empty range at the
+    # seam is the data file's. Writes where they begin, counted from that
+    # file's first byte, to `place`, and their number to `length`. Judges no
+    # minishard and takes no shard number.
+    # Refusals: 1, 23, 6, 24
+    "coronagamba_pair_range": (
+        ctypes.c_uint64,
+        (
+            Sharding,
+            POINTER(ctypes.c_uint8),
+            ctypes.c_size_t,
+            POINTER(ctypes.c_uint8),
+            ctypes.c_size_t,
+            ctypes.c_uint64,
+            ctypes.c_uint64,
+            POINTER(ctypes.c_uint32),
+            POINTER(ctypes.c_uint64),
+            POINTER(ctypes.c_uint64),
+        ),
+    ),
+    # The name of a shard's index file. Writes its ASCII bytes, at most 14 and
+    # with no 0 byte behind them, to the front of `out`, and their number to
+    # `length`.
+    # Refusals: 1, 5, 13 where `out` is shorter than the name
+    "coronagamba_index_name": (
+        ctypes.c_uint64,
+        (
+            Sharding,
+            ctypes.c_uint64,
+            POINTER(ctypes.c_uint8),
+            ctypes.c_size_t,
+            POINTER(ctypes.c_uint64),
+        ),
+    ),
+    # The name of its data file, at most 13 bytes, in the same way.
+    # Refusals: 1, 5, 13 where `out` is shorter than the name
+    "coronagamba_data_name": (
+        ctypes.c_uint64,
+        (
+            Sharding,
+            ctypes.c_uint64,
             POINTER(ctypes.c_uint8),
             ctypes.c_size_t,
             POINTER(ctypes.c_uint64),

@@ -97,6 +97,13 @@ class Numbers:
     # drop such bytes; after all that the check refuses and before 13
     UNLISTED_BYTES = 22
 
+    # of a shard of the earlier two-file edition, the index file is not exactly
+    # as long as the shard index; right after 5
+    INDEX_FILE_LENGTH = 23
+
+    # a range crosses the seam, is reversed or passes the end
+    NO_SUCH_RANGE = 24
+
 
 # Each number with its sentence, rising.
 SENTENCES: Dict[int, str] = {
@@ -133,5 +140,10 @@ SENTENCES: Dict[int, str] = {
     22: (
         "The shard has bytes that nothing lists, and dropping them was not "
         "asked for."
+    ),
+    23: "The index file of a pair is not exactly as long as the shard index.",
+    24: (
+        "The range crosses the seam of the two files, is reversed or passes "
+        "the end."
     ),
 }

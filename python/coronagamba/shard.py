@@ -1,12 +1,14 @@
 """Shard files: lookup, fragments, the whole-shard check, listings, unlisted
-bytes and settling."""
+bytes and settling. What a shard in one file and one in two files have in
+common is said once, in `Stored`."""
 
 from __future__ import annotations
 
 from ctypes import byref, c_uint64
-from typing import Any, List, NamedTuple, Tuple
+from typing import Any, List, NamedTuple
 
-from ._buffers import Held, Lent, ReadableBuffer, WriteableBuffer, own, zeros
+from ._buffers import Lent, Loan, ReadableBuffer, Releasing, WriteableBuffer
+from ._buffers import byte_view, own, zeros
 from ._library import library
 from ._numbers import flag, item, u64
 from .refusal import answer
@@ -15,7 +17,7 @@ from .sharding import Sharding
 
 class Span(NamedTuple):
     """The place of a chunk or a fragment, counted from the start of the
-    file."""
+    file, of a pair from the start of the index file."""
 
     start: int
     length: int
@@ -28,7 +30,182 @@ class Listed(NamedTuple):
     span: Span
 
 
-class Shard(Held):
+class Stored(Releasing):
+    """The calls on a shard, which are alike in one file and in two."""
+
+    __slots__ = ("_sharding", "_number")
+
+    # What the names of the C functions begin with.
+    _CALLS: str
+
+    def __init__(self, sharding: Sharding, number: int) -> None:
+        if not isinstance(sharding, Sharding):
+            raise TypeError(
+                f"sharding must be a Sharding, not {type(sharding).__name__}"
+            )
+        self._sharding = sharding
+        self._number = u64("number", number)
+
+    @property
+    def sharding(self) -> Sharding:
+        """The specification."""
+        return self._sharding
+
+    @property
+    def number(self) -> int:
+        """The shard number."""
+        return self._number
+
+    def _lent(self) -> Loan:
+        """The bytes, for a call."""
+        raise NotImplementedError
+
+    def _part(self, span: Span) -> memoryview:
+        """The bytes at a place that the library gave."""
+        raise NotImplementedError
+
+    def _ask(self, name: str, loan: Loan, *rest: Any) -> None:
+        """Makes a call on the bytes that are lent."""
+        call = getattr(library, self._CALLS + name)
+        front = self._sharding._struct(), self._number
+        answer(call(*front, *loan.arguments, *rest))
+
+    def lookup(self, id: int) -> Span:
+        """The place of an id's chunk; in a mesh it is a manifest. Refusals 1,
+        5, of a pair 23, 6, 7 to 11 and, in a mesh, 15 to 17 and 21 of the id's
+        minishard with a position, and 12, which is `Absent`."""
+        start, length = c_uint64(), c_uint64()
+        with self._lent() as loan:
+            self._ask(
+                "lookup", loan, u64("id", id), byref(start), byref(length)
+            )
+        return Span(start.value, length.value)
+
+    def chunk(self, id: int) -> memoryview:
+        """An id's chunk, as a read-only part of the caller's bytes, refused
+        as `lookup` is."""
+        return self._part(self.lookup(id))
+
+    def lookup_fragment(self, id: int, level: int, node: int) -> Span:
+        """The place of the fragment of a node in a mesh shard, by the id of
+        its manifest, its level and its number, both counted from 0. Refused
+        as `lookup` is, then with 18 where there is no such node, or where the
+        kind is a volume.
+
+        A manifest's fragments are the bytes right before it, one after the
+        other in the order of its nodes; no index lists them."""
+        start, length = c_uint64(), c_uint64()
+        with self._lent() as loan:
+            self._ask(
+                "fragment",
+                loan,
+                u64("id", id),
+                item("level", level),
+                item("node", node),
+                byref(start),
+                byref(length),
+            )
+        return Span(start.value, length.value)
+
+    def fragment(self, id: int, level: int, node: int) -> memoryview:
+        """The fragment of a node, as a read-only part of the caller's bytes,
+        refused as `lookup_fragment` is."""
+        return self._part(self.lookup_fragment(id, level, node))
+
+    def check(self) -> None:
+        """Passes exactly the sound shards. Refusals 1, 5, of a pair 23, 6, and
+        7 to 11 and, in a mesh, 15 to 17 and 21 with the first minishard that
+        has a fault, and a position."""
+        with self._lent() as loan:
+            self._ask("check", loan)
+
+    def listed_count(self, minishard: int) -> int:
+        """How many chunks a minishard lists. Refusals 1, 5 (also for a
+        minishard that is not there), of a pair 23, 6, 7 to 11 and, in a mesh,
+        15 to 17 and 21 of that minishard with a position."""
+        chunks = c_uint64()
+        with self._lent() as loan:
+            self._ask(
+                "listed_count",
+                loan,
+                u64("minishard", minishard),
+                byref(chunks),
+            )
+        return chunks.value
+
+    def listing(self, minishard: int) -> List[Listed]:
+        """The chunks that a minishard lists, in stored order, refused as
+        `listed_count` is."""
+        out = zeros("Q", 3 * self.listed_count(minishard))
+        length = c_uint64()
+        with self._lent() as loan:
+            self._ask(
+                "listing",
+                loan,
+                u64("minishard", minishard),
+                own(c_uint64, out),
+                len(out),
+                byref(length),
+            )
+        return [
+            Listed(id, Span(start, size))
+            for id, start, size in zip(out[::3], out[1::3], out[2::3])
+        ]
+
+    def unlisted(self) -> int:
+        """How many bytes of a sound shard are unlisted: they lie past the
+        shard index in no listed chunk, no fragment and no nonempty minishard
+        index. Refusals 1, 5, of a pair 23, 6, 7 to 11 and, in a mesh, 15 to 17
+        and 21 with a position."""
+        count = c_uint64()
+        with self._lent() as loan:
+            self._ask("unlisted", loan, byref(count))
+        return count.value
+
+    def settled_length(self, *, drop_unlisted: bool = False) -> int:
+        """The length of the settled form, which is one file, also of a pair.
+        Refusals 1, 5, of a pair 23, 6, 7 to 11 and, in a mesh, 15 to 17 and 21
+        with a position, 22 where bytes are `unlisted` and not to be dropped,
+        and 13 where the form would pass 1 GiB."""
+        length = c_uint64()
+        with self._lent() as loan:
+            self._ask(
+                "settled_length",
+                loan,
+                flag("drop_unlisted", drop_unlisted),
+                byref(length),
+            )
+        return length.value
+
+    def settled(self, *, drop_unlisted: bool = False) -> bytearray:
+        """The settled form, refused as `settled_length` is."""
+        form = bytearray(self.settled_length(drop_unlisted=drop_unlisted))
+        self.settle(form, drop_unlisted=drop_unlisted)
+        return form
+
+    def settle(
+        self, out: WriteableBuffer, *, drop_unlisted: bool = False
+    ) -> int:
+        """Writes the settled form to the front of `out` and gives its length.
+        Refused as `settled_length` is, and with 13 where `out` is too short.
+        `out` and the shard's bytes must have no memory in common."""
+        dropping = flag("drop_unlisted", drop_unlisted)
+        length = c_uint64()
+        with self._lent() as loan, Lent("out", out, True) as room:
+            if loan.overlaps(room):
+                raise ValueError("out overlaps the bytes of the shard")
+            self._ask(
+                "settle",
+                loan,
+                dropping,
+                room.bytes,
+                room.count,
+                byref(length),
+            )
+        return length.value
+
+
+class Shard(Stored):
     """A shard file with its specification and number, to be asked many times.
 
     The bytes stay the caller's: they are not copied, and must not change
@@ -47,180 +224,23 @@ class Shard(Held):
     True
     """
 
-    __slots__ = ("_sharding", "_number")
+    __slots__ = ("_view",)
 
-    _NAME = "file"
+    _CALLS = "coronagamba_"
 
     def __init__(
         self, sharding: Sharding, number: int, file: ReadableBuffer
     ) -> None:
-        if not isinstance(sharding, Sharding):
-            raise TypeError(
-                f"sharding must be a Sharding, not {type(sharding).__name__}"
-            )
-        self._sharding = sharding
-        self._number = u64("number", number)
-        super().__init__(file)
+        super().__init__(sharding, number)
+        self._view = byte_view("file", file)
 
-    @property
-    def sharding(self) -> Sharding:
-        """The specification."""
-        return self._sharding
+    def release(self) -> None:
+        """Lets the caller's buffer go. Every later call raises ValueError;
+        chunks handed out before hold the buffer for themselves."""
+        self._view.release()
 
-    @property
-    def number(self) -> int:
-        """The shard number."""
-        return self._number
+    def _lent(self) -> Loan:
+        return Loan(Lent("file", self._view))
 
-    def _arguments(self, lent: Lent) -> Tuple[Any, ...]:
-        """What every call on a shard begins with."""
-        return self._sharding._struct(), self._number, lent.bytes, lent.count
-
-    def lookup(self, id: int) -> Span:
-        """The place of an id's chunk; in a mesh it is a manifest. Refusals 1,
-        5, 6, 7 to 11 and, in a mesh, 15 to 17 and 21 of the id's minishard
-        with a position, and 12, which is `Absent`."""
-        start, length = c_uint64(), c_uint64()
-        with self._lent() as lent:
-            answer(
-                library.coronagamba_lookup(
-                    *self._arguments(lent),
-                    u64("id", id),
-                    byref(start),
-                    byref(length),
-                )
-            )
-        return Span(start.value, length.value)
-
-    def chunk(self, id: int) -> memoryview:
-        """An id's chunk, as a read-only part of the caller's bytes, refused
-        as `lookup` is."""
-        start, length = self.lookup(id)
-        return self._view[start:start + length]
-
-    def lookup_fragment(self, id: int, level: int, node: int) -> Span:
-        """The place of the fragment of a node in a mesh shard, by the id of
-        its manifest, its level and its number, both counted from 0. Refused
-        as `lookup` is, then with 18 where there is no such node, or where the
-        kind is a volume.
-
-        A manifest's fragments are the bytes right before it, one after the
-        other in the order of its nodes; no index lists them."""
-        start, length = c_uint64(), c_uint64()
-        with self._lent() as lent:
-            answer(
-                library.coronagamba_fragment(
-                    *self._arguments(lent),
-                    u64("id", id),
-                    item("level", level),
-                    item("node", node),
-                    byref(start),
-                    byref(length),
-                )
-            )
-        return Span(start.value, length.value)
-
-    def fragment(self, id: int, level: int, node: int) -> memoryview:
-        """The fragment of a node, as a read-only part of the caller's bytes,
-        refused as `lookup_fragment` is."""
-        start, length = self.lookup_fragment(id, level, node)
-        return self._view[start:start + length]
-
-    def check(self) -> None:
-        """Passes exactly the sound shards. Refusals 1, 5, 6, and 7 to 11 and,
-        in a mesh, 15 to 17 and 21 with the first minishard that has a fault,
-        and a position."""
-        with self._lent() as lent:
-            answer(library.coronagamba_check(*self._arguments(lent)))
-
-    def listed_count(self, minishard: int) -> int:
-        """How many chunks a minishard lists. Refusals 1, 5 (also for a
-        minishard that is not there), 6, 7 to 11 and, in a mesh, 15 to 17 and
-        21 of that minishard with a position."""
-        chunks = c_uint64()
-        with self._lent() as lent:
-            answer(
-                library.coronagamba_listed_count(
-                    *self._arguments(lent),
-                    u64("minishard", minishard),
-                    byref(chunks),
-                )
-            )
-        return chunks.value
-
-    def listing(self, minishard: int) -> List[Listed]:
-        """The chunks that a minishard lists, in stored order, refused as
-        `listed_count` is."""
-        out = zeros("Q", 3 * self.listed_count(minishard))
-        length = c_uint64()
-        with self._lent() as lent:
-            answer(
-                library.coronagamba_listing(
-                    *self._arguments(lent),
-                    u64("minishard", minishard),
-                    own(c_uint64, out),
-                    len(out),
-                    byref(length),
-                )
-            )
-        return [
-            Listed(id, Span(start, size))
-            for id, start, size in zip(out[::3], out[1::3], out[2::3])
-        ]
-
-    def unlisted(self) -> int:
-        """How many bytes of a sound shard are unlisted: they lie past the
-        shard index in no listed chunk, no fragment and no nonempty minishard
-        index. Refusals 1, 5, 6, 7 to 11 and, in a mesh, 15 to 17 and 21 with
-        a position."""
-        count = c_uint64()
-        with self._lent() as lent:
-            answer(
-                library.coronagamba_unlisted(
-                    *self._arguments(lent), byref(count)
-                )
-            )
-        return count.value
-
-    def settled_length(self, *, drop_unlisted: bool = False) -> int:
-        """The length of the settled form. Refusals 1, 5, 6, 7 to 11 and, in a
-        mesh, 15 to 17 and 21 with a position, 22 where bytes are `unlisted`
-        and not to be dropped, and 13 where the form would pass 1 GiB."""
-        length = c_uint64()
-        with self._lent() as lent:
-            answer(
-                library.coronagamba_settled_length(
-                    *self._arguments(lent),
-                    flag("drop_unlisted", drop_unlisted),
-                    byref(length),
-                )
-            )
-        return length.value
-
-    def settled(self, *, drop_unlisted: bool = False) -> bytearray:
-        """The settled form, refused as `settled_length` is."""
-        form = bytearray(self.settled_length(drop_unlisted=drop_unlisted))
-        self.settle(form, drop_unlisted=drop_unlisted)
-        return form
-
-    def settle(
-        self, out: WriteableBuffer, *, drop_unlisted: bool = False
-    ) -> int:
-        """Writes the settled form to the front of `out` and gives its length.
-        Refused as `settled_length` is, and with 13 where `out` is too short.
-        `out` and the shard's bytes must have no memory in common."""
-        dropping = flag("drop_unlisted", drop_unlisted)
-        length = c_uint64()
-        with self._lent() as lent, Lent("out", out, True) as room:
-            if room.overlaps(lent):
-                raise ValueError("out overlaps the bytes of the shard")
-            answer(
-                library.coronagamba_settle(
-                    *self._arguments(lent),
-                    dropping,
-                    room.bytes,
-                    room.count,
-                    byref(length),
-                )
-            )
-        return length.value
+    def _part(self, span: Span) -> memoryview:
+        return self._view[span.start:span.start + span.length]

@@ -1,10 +1,10 @@
-"""From an id to its shard and minishard, and the names of shard files."""
+"""From an id to its shard and minishard, and the names of shards' files."""
 
 from __future__ import annotations
 
 from ctypes import byref, c_uint8, c_uint64
 from dataclasses import dataclass, fields
-from typing import Iterable, NamedTuple, Tuple, Union
+from typing import Any, Iterable, NamedTuple, Tuple, Union
 
 from . import _declared
 from ._buffers import Lent, Numbers, ReadableBuffer, own, u64s, zeros
@@ -21,7 +21,7 @@ MURMUR = _declared.HASH_MURMUR
 VOLUME = _declared.KIND_VOLUME
 MESH = _declared.KIND_MESH
 
-# 8 digits and `.shard`.
+# 8 digits and `.shard` or `.index`.
 _Name = c_uint8 * (8 + 6)
 
 
@@ -47,6 +47,8 @@ class Sharding:
     Place(shard=10, minishard=1)
     >>> sharding.shard_name(10)
     'a.shard'
+    >>> sharding.index_name(10), sharding.data_name(10)
+    ('a.index', 'a.data')
     """
 
     preshift: int
@@ -104,9 +106,22 @@ class Sharding:
 
     def shard_name(self, shard: int) -> str:
         """The file name of a shard. Refusals 1, 5."""
+        return self._name(library.coronagamba_shard_name, shard)
+
+    def index_name(self, shard: int) -> str:
+        """The name of the index file that a shard has in the earlier edition.
+        Refusals 1, 5."""
+        return self._name(library.coronagamba_index_name, shard)
+
+    def data_name(self, shard: int) -> str:
+        """The name of the data file beside it. Refusals 1, 5."""
+        return self._name(library.coronagamba_data_name, shard)
+
+    def _name(self, write: Any, shard: int) -> str:
+        """The name of a shard's file, as this function writes it."""
         name, length = _Name(), c_uint64()
         answer(
-            library.coronagamba_shard_name(
+            write(
                 self._struct(),
                 u64("shard", shard),
                 name,

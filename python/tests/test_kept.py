@@ -29,6 +29,12 @@ LISTED = (ALLOWED, 0, LISTING, 56)
 # One that lists nothing, with a byte behind its shard index.
 MORE = (c_uint8 * 33)()
 UNLISTED = (ALLOWED, 0, MORE, 33)
+# The same three in two files each, and the length of an index file.
+PAIR = (ALLOWED, 0, FILE, 32, None, 0)
+ROWS = (c_uint8 * 24)()
+LISTED_PAIR = (ALLOWED, 0, LISTING, 32, ROWS, 24)
+UNLISTED_PAIR = (ALLOWED, 0, MORE, 32, MORE, 1)
+LONG = (ALLOWED, 0, MORE, 33, MORE, 1)
 NO_SCALES = (c_uint8 * 2).from_buffer_copy(b"{}")
 MANIFEST = (c_uint8 * 28).from_buffer_copy(manifest((1, 1, 1), (0, 0, 0), []))
 CELLS = (c_uint32 * 6)()
@@ -44,6 +50,7 @@ U64 = c_uint64
 THREE_U32 = c_uint32 * 3
 THREE_I64 = c_int64 * 3
 TWO_U64 = c_uint64 * 2
+RANGE = [c_uint32, c_uint64, c_uint64]
 # The word of a fault in the second entry of the shard index.
 SECOND = 7 + (16 + 1 << 32)
 # A refusing call: its word, the function, what it is given in front, and
@@ -78,6 +85,27 @@ CALLS = [
     (1, "shard_name", (FORBIDDEN, 0), [(c_uint8 * 20, 20), U64]),
     (5, "shard_name", (ALLOWED, 1), [(c_uint8 * 20, 20), U64]),
     (13, "shard_name", (ALLOWED, 0), [(c_uint8 * 6, 6), U64]),
+    (1, "index_name", (FORBIDDEN, 0), [(c_uint8 * 20, 20), U64]),
+    (13, "index_name", (ALLOWED, 0), [(c_uint8 * 6, 6), U64]),
+    (5, "data_name", (ALLOWED, 1), [(c_uint8 * 20, 20), U64]),
+    (13, "data_name", (ALLOWED, 0), [(c_uint8 * 5, 5), U64]),
+    (SECOND, "pair_lookup", PAIR + (1,), [U64, U64]),
+    (12, "pair_lookup", PAIR + (2,), [U64, U64]),
+    (23, "pair_lookup", LONG + (2,), [U64, U64]),
+    (SECOND, "pair_fragment", PAIR + (1, 0, 0), [U64, U64]),
+    (18, "pair_fragment", LISTED_PAIR + (0, 0, 0), [U64, U64]),
+    (SECOND, "pair_listed_count", PAIR + (1,), [U64]),
+    (SECOND, "pair_listing", PAIR + (1,), [(c_uint64 * 3, 3), U64]),
+    (23, "pair_listing", LONG + (1,), [(c_uint64 * 3, 3), U64]),
+    (SECOND, "pair_unlisted", PAIR, [U64]),
+    (SECOND, "pair_settled_length", PAIR + (1,), [U64]),
+    (22, "pair_settled_length", UNLISTED_PAIR + (0,), [U64]),
+    (22, "pair_settle", UNLISTED_PAIR + (0,), [(c_uint8 * 31, 31), U64]),
+    (13, "pair_settle", UNLISTED_PAIR + (1,), [(c_uint8 * 31, 31), U64]),
+    (23, "pair_settle", LONG + (1,), [(c_uint8 * 40, 40), U64]),
+    (24, "pair_range", (ALLOWED, FILE, 32, MORE, 9, 31, 33), RANGE),
+    (23, "pair_range", (ALLOWED, MORE, 33, MORE, 9, 0, 0), RANGE),
+    (1, "pair_range", (FORBIDDEN, FILE, 32, MORE, 9, 0, 0), RANGE),
     (SECOND, "lookup", SHARD + (1,), [U64, U64]),
     (12, "lookup", SHARD + (2,), [U64, U64]),
     (SECOND, "fragment", SHARD + (1, 0, 0), [U64, U64]),
@@ -140,10 +168,12 @@ class Kept(unittest.TestCase):
                     self.assertEqual(set(bytes(value)), {KEPT})
 
     def test_every_function_with_results_is_tried(self):
-        without = {"version", "check", "manifest_check"}
+        without = {"version", "check", "pair_check", "manifest_check"}
         tried = {f"coronagamba_{name}" for _, name, *_ in CALLS}
         tried |= {f"coronagamba_{name}" for name in without}
         self.assertEqual(tried, set(_declared.FUNCTIONS))
 
     def test_the_checks_word_carries_the_minishard_too(self):
-        self.assertEqual(library.coronagamba_check(*SHARD), SECOND + 256 * 2)
+        word = SECOND + 256 * 2
+        self.assertEqual(library.coronagamba_check(*SHARD), word)
+        self.assertEqual(library.coronagamba_pair_check(*PAIR), word)

@@ -2,13 +2,14 @@
 
 import unittest
 
-from coronagamba import Card, Manifest, Shard, Sharding, Volume
+from coronagamba import Card, Manifest, Pair, Shard, Sharding, Volume
 
 from .shards import u64s
 
 SHARDING = Sharding(0, 0, 0, 0, 0)
 VOLUME = Volume((9, 9, 9), (1, 1, 1))
 SHARD = Shard(SHARDING, 0, bytes(16))
+PAIR = Pair(SHARDING, 0, bytes(16), b"")
 MANIFEST = Manifest(bytes(28))
 
 # For each number that a caller gives: its name, its range and a call of it.
@@ -25,6 +26,8 @@ ARGUMENTS = [
     ("id", U64, SHARDING.place),
     ("ids[1]", U64, lambda n: SHARDING.places([0, n])),
     ("shard", U64, SHARDING.shard_name),
+    ("shard", U64, SHARDING.index_name),
+    ("shard", U64, SHARDING.data_name),
     ("size x", U32, lambda n: Volume((n, 1, 1), (1, 1, 1))),
     ("size y", U32, lambda n: Volume((1, n, 1), (1, 1, 1))),
     ("chunk z", U32, lambda n: Volume((1, 1, 1), (1, 1, n))),
@@ -40,6 +43,11 @@ ARGUMENTS = [
     ("id", U64, SHARD.chunk),
     ("minishard", U64, SHARD.listed_count),
     ("minishard", U64, SHARD.listing),
+    ("number", U64, lambda n: Pair(SHARDING, n, b"", b"")),
+    ("id", U64, PAIR.chunk),
+    ("minishard", U64, PAIR.listing),
+    ("start", U64, lambda n: PAIR.range(n, 0)),
+    ("end", U64, lambda n: PAIR.locate_range(0, n)),
     ("scale", U64, lambda n: Card.read_info(b"", n)),
     ("number", U64, MANIFEST.field),
     ("level", U64, lambda n: MANIFEST.node(n, 0)),

@@ -5,8 +5,8 @@ import pickle
 import struct
 import unittest
 
-from coronagamba import Absent, Card, Manifest, Refused, Shard, Sharding
-from coronagamba import Volume
+from coronagamba import Absent, Card, Manifest, Pair, Refused, Shard
+from coronagamba import Sharding, Volume
 from coronagamba._refusals import SENTENCES
 from coronagamba.refusal import answer
 
@@ -66,7 +66,10 @@ CALLS = {
     ],
     5: [
         lambda: Sharding(0, 0, 0, 4, 0).shard_name(16),
+        lambda: Sharding(0, 0, 0, 4, 0).index_name(16),
+        lambda: Sharding(0, 0, 0, 4, 0).data_name(16),
         lambda: shard(bytes(16), ONE, 1).check(),
+        lambda: Pair(ONE, 1, b"", b"").check(),
         lambda: shard(bytes(16), Sharding(0, 0, 0, 1, 0)).lookup(1),
         lambda: shard(bytes(16)).listing(1),
     ],
@@ -75,6 +78,8 @@ CALLS = {
         lambda: shard(bytes(15)).lookup(0),
         lambda: shard(bytes(31), TWO).settled_length(),
         lambda: shard(mmap.mmap(-1, 2**30 + 1)).listing(0),
+        lambda: Pair(ONE, 0, bytes(16), mmap.mmap(-1, 2**30)).check(),
+        lambda: Pair(ONE, 0, bytes(16), mmap.mmap(-1, 2**30)).range(9, 0),
     ],
     7: [
         lambda: shard(u64s(1, 0)).check(),
@@ -174,6 +179,22 @@ CALLS = {
         lambda: shard(bytes(17)).settled_length(),
         lambda: shard(bytes(17)).settle(bytearray(15)),
         lambda: shard(bytes(17)).settled(drop_unlisted=False),
+        lambda: Pair(ONE, 0, bytes(16), bytes(1)).settled(),
+    ],
+    23: [
+        lambda: Pair(ONE, 0, b"", bytes(16)).check(),
+        lambda: Pair(ONE, 0, bytes(15), b"").lookup(0),
+        lambda: Pair(ONE, 0, bytes(17), b"").listing(0),
+        lambda: Pair(TWO, 0, bytes(16), bytes(16)).settled_length(),
+        lambda: Pair(ONE, 0, bytes(17), b"").range(0, 0),
+        lambda: Pair(ONE, 1, bytes(17), b"").range(9, 0),
+        lambda: Pair(ONE, 0, b"", mmap.mmap(-1, 2**30 + 1)).check(),
+    ],
+    24: [
+        lambda: Pair(ONE, 0, bytes(16), b"ab").range(15, 17),
+        lambda: Pair(ONE, 0, bytes(16), b"ab").range(1, 0),
+        lambda: Pair(ONE, 0, bytes(16), b"ab").locate_range(16, 19),
+        lambda: Pair(ONE, 0, bytes(16), b"").range(2**64 - 1, 2**64 - 1),
     ],
 }
 
@@ -247,6 +268,15 @@ class Places(unittest.TestCase):
             with self.subTest(number=number, byte=byte):
                 shard = Shard(TWO, 0, file)
                 self.assert_refused(shard.check, number, 1, byte)
+
+    def test_a_pair_gives_the_places_of_the_joined_file(self):
+        for number, byte, file in FAULTY:
+            with self.subTest(number=number, byte=byte):
+                pair = Pair(TWO, 0, file[:32], file[32:])
+                self.assert_refused(pair.check, number, 1, byte)
+                self.assert_refused(
+                    lambda: pair.chunk(5), number, None, byte
+                )
 
     def test_the_others_pass_the_position_on(self):
         for number, byte, file in FAULTY:

@@ -1,4 +1,5 @@
 pub mod Checked
+pub mod Paired
 pub mod Patterned
 pub mod Told
 pub mod Writing

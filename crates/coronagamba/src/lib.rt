@@ -4,6 +4,7 @@ pub mod cells;
 pub mod infos;
 pub mod manifests;
 mod numbers;
+pub mod pairs;
 pub mod places;
 pub mod shards;
 pub mod texts;

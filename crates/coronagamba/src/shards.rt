@@ -18,7 +18,7 @@ use sharding::Sharding;
 use unlisted::UnlistedAnswer;
 
 // The word has 32 bits for the position and one.
-fn position_word(refusal: u8, position: u64) -> u64
+pub fn position_word(refusal: u8, position: u64) -> u64
     requires { ⌜ position + 1 < 4294967296 ⌝ }
     ensures { λ r. ⌜ r ≡ word refusal none (some position) ⌝ }
 {
@@ -26,7 +26,7 @@ fn position_word(refusal: u8, position: u64) -> u64
 }
 
 // It has 24 bits for the minishard and one.
-fn fault_word(refusal: u8, minishard: u64, position: u64) -> u64
+pub fn fault_word(refusal: u8, minishard: u64, position: u64) -> u64
     requires { ⌜ (minishard + 1 < 16777216) × (position + 1 < 4294967296) ⌝ }
     ensures { λ r. ⌜ r ≡ word refusal (some minishard) (some position) ⌝ }
 {

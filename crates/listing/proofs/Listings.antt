@@ -9,7 +9,7 @@ use lib.ListN.{length, take}
 use lib.Dec.{leb}
 use borrow.Author.Tests.{le-leb, lt-leb, leb-false, lt-ltb, le-ltb}
 use Rattle.refusal.specs.Choice.{pick}
-use Rattle.refusal.specs.Checks.{firstNumber, firstPosition, unless, refusal}
+use Rattle.refusal.specs.Checks.{firstNumber, firstPosition, unless, answered, refusal}
 use Rattle.refusal.proofs.Tests.{neither, told-no, told-yes}
 use Rattle.refusal.proofs.Refusing.{first-both}
 use Rattle.refusal.proofs.Positions.{at-both}
@@ -27,7 +27,7 @@ use Rattle.index.specs.Reading.{Readable, ReadableIn}
 use Rattle.shard.proofs.Judged.{passes-minishard}
 use Rattle.shard.proofs.Numbers.{or-none, unless-some, unless-none, minishard-number, minishard-answer, file-in, file-picks, file-answer, file-called}
 use Rattle.shard.proofs.Passed.{sound-readable}
-use Rattle.shard.proofs.Split.{restOf, rest-whole, rest-short, front-index, length-short, length-long, length-good, index-short, parts-fault}
+use Rattle.shard.proofs.Split.{restOf, rest-whole, rest-short, front-index, length-short, length-long, length-good, index-short}
 use Rattle.listing.specs.declared.CountAnswer.{CountAnswer}
 use Rattle.listing.specs.declared.CountAnswer.the-variants.{Count, Refused, Faulty}
 use Rattle.listing.specs.Listing.{entriesFrom, listingIn, listingOf, listedCount, countIn, countChecks, countAnswer, listingAnswer, listingLeft}
@@ -46,23 +46,24 @@ in-parts : (spec : Sharding) (shard : ℕ) (x d : List ℕ) (m : ℕ)
 unfolding countIn
 in-parts spec shard x d m = minishard-answer spec shard x d Refused Faulty m _
 
--- a file by its two parts, as the code takes them
-module _ (spec : Sharding) (file : List ℕ) (shard m : ℕ) {n : ℕ} (e : n ≡ indexLength spec) {r : Fault} (p : r ≡ faultOf spec shard (take n file) (restOf n file) m) where
-  own : r ≡ faultOf spec shard (indexPart spec file) (dataPart spec file) m
-  own = parts-fault spec file e shard m p
-
-  pub in-fault : (r .number ≡ 0 → ⊥) → Faulty (r .number) (r .position) ≡ countIn spec shard (indexPart spec file) (dataPart spec file) m
-  in-fault h = rw (in-parts spec shard (indexPart spec file) (dataPart spec file) m, ← own) (unless-some (λ k. Faulty k (r .position)) _ _ h)
+module _ (spec : Sharding) (shard m : ℕ) (x d : List ℕ) {r : Fault} (p : r ≡ faultOf spec shard x d m) where
+  pub in-fault : (r .number ≡ 0 → ⊥) → Faulty (r .number) (r .position) ≡ countIn spec shard x d m
+  in-fault h = rw (in-parts spec shard x d m, ← p) (unless-some (λ k. Faulty k (r .position)) _ _ h)
 
   module _ (z : r .number ≡ 0) where
-    pub in-count : {k : ℕ} → k ≡ countOf (take n file) m → Count k ≡ countIn spec shard (indexPart spec file) (dataPart spec file) m
-    in-count q = rw (in-parts spec shard (indexPart spec file) (dataPart spec file) m, ← own) (ap Count (rw e at q) ∙ unless-none (λ k. Faulty k (r .position)) _ _ z)
+    pub in-count : {k : ℕ} → k ≡ countOf x m → Count k ≡ countIn spec shard x d m
+    in-count q = rw (in-parts spec shard x d m, ← p) (ap Count q ∙ unless-none (λ k. Faulty k (r .position)) _ _ z)
 
-    pub in-entry : m < minishardCount spec → indexLength spec ≤ length file → 16 * m + 16 ≤ length (take n file)
-    in-entry l h = omega (arith, front-index spec file e h)
+    pub in-entry : m < minishardCount spec → length x ≡ indexLength spec → 16 * m + 16 ≤ length x
+    in-entry l h = omega arith
 
-    pub in-order : entryStart (take n file) m ≤ entryEnd (take n file) m
-    in-order = passes-minishard spec shard (take n file) (restOf n file) m (ap (λ (f : Fault). f .number) (sym p) ∙ z) .ordered
+    pub in-order : entryStart x m ≤ entryEnd x m
+    in-order = passes-minishard spec shard x d m (ap (λ (f : Fault). f .number) (sym p) ∙ z) .ordered
+
+-- a file by its two parts, as the code takes them
+pub parts-count : (spec : Sharding) (file : List ℕ) (shard m : ℕ) {n : ℕ} → n ≡ indexLength spec → {a : CountAnswer}
+    → a ≡ countIn spec shard (take n file) (restOf n file) m → a ≡ countIn spec shard (indexPart spec file) (dataPart spec file) m
+parts-count spec file shard m {n} e r = rw (rest-whole n file, e) at r
 
 -- ---- over two parts: the entry as it was read
 
@@ -90,16 +91,19 @@ module _ (x d : List ℕ) (m : ℕ) {s e : ℕ} (u : s ≡ entryStart x m) (v : 
 -- ---- in a file: 1, 5, 6, then as above
 
 module _ (spec : Sharding) (shard : ℕ) (file : List ℕ) (m : ℕ) where
+  pub count-files : countAnswer spec shard file m
+      ≡ answered Refused (fileChecks spec (noSuchShard spec shard || leb (minishardCount spec) m) file) (countIn spec shard (indexPart spec file) (dataPart spec file) m)
+  unfolding countAnswer countChecks countIn
+  count-files =
+      let five = noSuchShard spec shard || leb (minishardCount spec) m in
+      at-both Refused Faulty (fileChecks spec five file) (minishardChecks spec shard (indexPart spec file) (dataPart spec file) m) _ (file-in spec five file)
+      ∙ file-answer spec five file Refused Faulty _
+
   count-picks : countAnswer spec shard file m
       ≡ pick (not (allowed spec)) (Refused 1)
       (pick (noSuchShard spec shard || leb (minishardCount spec) m) (Refused 5)
       (pick (badFileLength spec (length file)) (Refused 6) (countIn spec shard (indexPart spec file) (dataPart spec file) m)))
-  unfolding countAnswer countChecks countIn
-  count-picks =
-      let five = noSuchShard spec shard || leb (minishardCount spec) m in
-      at-both Refused Faulty (fileChecks spec five file) (minishardChecks spec shard (indexPart spec file) (dataPart spec file) m) _ (file-in spec five file)
-      ∙ file-answer spec five file Refused Faulty _
-      ∙ file-picks spec five file Refused _
+  count-picks = count-files ∙ file-picks spec (noSuchShard spec shard || leb (minishardCount spec) m) file Refused _
 
   module _ {b : Bool} (p : b ≡ allowed spec) where
     pub count-spec : not b ≡ true → Refused 1 ≡ countAnswer spec shard file m

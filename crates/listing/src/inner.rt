@@ -1,4 +1,4 @@
-// The count of a minishard of a file, once the call is allowed.
+// The count of a minishard, once the call is allowed.
 ghost use mathlib.Core.Path.{_≡_};
 ghost use mathlib.Core.Bool.{true};
 ghost use Prim.Native.Nat.{_<_, _≤_};
@@ -13,7 +13,24 @@ use shard::inner::index_length;
 use shard::judge::judge;
 use sharding::Sharding;
 
-// How many chunks minishard m lists, or its fault, in a file whose length was tested.
+// How many chunks minishard m lists, or its fault, in a shard of two parts.
+pub fn count_parts(spec: Sharding, shard: u64, index: &[u8], data: &[u8], m: u64) -> CountAnswer
+    requires { ⌜ allowed spec ≡ true ⌝ }
+    requires { ⌜ (length (now index) ≡ indexLength spec) × (length (now «data») ≤ mostShardBytes) ⌝ }
+    requires { ⌜ m < minishardCount spec ⌝ }
+    ensures { λ r. ⌜ r ≡ countIn spec shard (now (index .entry)) (now («data» .entry)) m ⌝ }
+{
+    let fault = judge(spec, shard, index, data, m);
+    if fault.number != 0 {
+        return CountAnswer::Faulty {
+            number: fault.number,
+            position: fault.position,
+        };
+    }
+    CountAnswer::Count(count_in(index, m))
+}
+
+// The same in one file whose length was tested.
 pub fn count_file(spec: Sharding, shard: u64, file: &[u8], m: u64) -> CountAnswer
     requires { ⌜ allowed spec ≡ true ⌝ }
     requires { ⌜ (indexLength spec ≤ length (now file)) × (length (now file) ≤ mostShardBytes) ⌝ }
@@ -21,12 +38,5 @@ pub fn count_file(spec: Sharding, shard: u64, file: &[u8], m: u64) -> CountAnswe
     ensures { λ r. ⌜ r ≡ countIn spec shard (indexPart spec (now (file .entry))) (dataPart spec (now (file .entry))) m ⌝ }
 {
     let n = index_length(spec);
-    let fault = judge(spec, shard, &file[..n], &file[n..], m);
-    if fault.number != 0 {
-        return CountAnswer::Faulty {
-            number: fault.number,
-            position: fault.position,
-        };
-    }
-    CountAnswer::Count(count_in(&file[..n], m))
+    count_parts(spec, shard, &file[..n], &file[n..], m)
 }

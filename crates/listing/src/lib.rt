@@ -1,6 +1,6 @@
 // The listing of a minishard: how many chunks it lists, and the id, place and length of each.
-mod inner;
-mod rows;
+pub mod inner;
+pub mod rows;
 
 ghost use mathlib.Core.Path.{_≡_};
 ghost use Rattle.listing.specs.Listing.{countAnswer, listingAnswer, listingLeft};

@@ -7,7 +7,7 @@ use Rattle.grid.specs.Grid.{gridSize, gridOf, hasZero, zeroExtent, inGrid}
 use Rattle.grid.specs.Key.{bitOf, used, step, steps, keyOf, keyBits, tooManyBits}
 use Rattle.grid.specs.Answers.{noCell, keyChecks, keyAnswer}
 use Rattle.digits.specs.Digits.{digitByte, digits, countTo, digitCount, decimal}
-use Rattle.names.specs.Shards.{shardDigits, shardName}
+use Rattle.names.specs.Shards.{shardDigits, fileName}
 use Rattle.sharding.specs.Specification.{volume, mesh, allowed}
 use Rattle.sharding.specs.Place.{hashedId, minishardOf, shardOf}
 use Rattle.refusal.specs.Checks.{firstNumber, unless}
@@ -37,5 +37,5 @@ lines =
     ∷ 114 ∷ 101 ∷ 102 ∷ 117 ∷ 115 ∷ 101 ∷ 100 ∷ 32 ∷ 50 ∷ 10 ∷ []
 
 pub paper-case : (output (input volume 46) ≡ lines) × (output (input mesh 50) ≡ lines)
-unfolding input lines card head field oneByte three isZero shardingBytes extentsBytes noOffset offsetBytes volumeBytes kindBytes cardBytes fieldAt sixFields kindField extentsAt wellFormed kindIn shardingIn offsetIn volumeIn cardIn firstNumber unless recordChecks readChecks readAnswer ending refusedLine filed keyed lineFor lineOf cellAt linesBy cutAfter textBy cellsText framed printed output le leAt gridSize gridOf hasZero zeroExtent inGrid bitOf used step steps keyOf keyBits tooManyBits noCell keyChecks keyAnswer digitByte digits countTo digitCount decimal shardDigits shardName allowed hashedId minishardOf shardOf
+unfolding input lines card head field oneByte three isZero shardingBytes extentsBytes noOffset offsetBytes volumeBytes kindBytes cardBytes fieldAt sixFields kindField extentsAt wellFormed kindIn shardingIn offsetIn volumeIn cardIn firstNumber unless recordChecks readChecks readAnswer ending refusedLine filed keyed lineFor lineOf cellAt linesBy cutAfter textBy cellsText framed printed output le leAt gridSize gridOf hasZero zeroExtent inGrid bitOf used step steps keyOf keyBits tooManyBits noCell keyChecks keyAnswer digitByte digits countTo digitCount decimal shardDigits fileName allowed hashedId minishardOf shardOf
 paper-case = (refl, refl)

@@ -40,7 +40,7 @@ fn put_filed(out: &mut [u8], at: usize, spec: Sharding, place: Place) -> usize
     ensures { λ r. ⌜ r ≡ at + length (filed spec place) ⌝ }
     ensures { λ _. ⌜ now (out .exit) ≡ paste at (filed spec place) (now (out .entry)) ⌝ }
 {
-    let m = names::inner::put_shard_name(out, at, spec, place.shard);
+    let m = names::inner::put_file_name(out, at, spec, place.shard, names::FileKind::Shard);
     inner::put_byte(out, m, b' ');
     put_ending(out, m + 1, place.minishard)
 }

@@ -10,7 +10,7 @@ use Rattle.digits.specs.Digits.{digitByte, digits, countTo, digitCount, decimal
 use Rattle.digits.specs.Signs.{negative, signed, signedText}
 use Rattle.names.specs.Spans.{spanOf, spanText, twoText, spansText}
 use Rattle.names.specs.Chunks.{boundsName, chunkName}
-use Rattle.names.specs.Shards.{shardDigits, shardName}
+use Rattle.names.specs.Shards.{shardDigits, fileName, shardName}
 
 -- a shard of a specification with so many shard bits, or a cell of the volume below, and its name
 pub data Case : Type 0 where
@@ -43,5 +43,5 @@ table =
     ∷ []
 
 pub cases : map answered table ≡ table
-unfolding table answered volume withBits shardName shardDigits digits digitByte chunkName boundsName boundsOf beginPoint endPoint beginOf endOf spanOf spansText twoText spanText signedText signed negative decimal digitCount countTo
+unfolding table answered volume withBits fileName shardDigits digits digitByte chunkName boundsName boundsOf beginPoint endPoint beginOf endOf spanOf spansText twoText spanText signedText signed negative decimal digitCount countTo
 cases = refl

@@ -8,7 +8,8 @@ ghost use Rattle.sharding.specs.Specification.{allowed, noSuchShard};
 ghost use Rattle.names.specs.Spans.{spanOf, spanText, twoText, spansText};
 ghost use Rattle.refusal.specs.Buffer.{written, leftBy};
 ghost use Rattle.names.specs.Chunks.{boundsName};
-ghost use Rattle.names.specs.Shards.{shardDigits, suffix, shardName};
+ghost use Rattle.names.specs.Shards.{shardDigits, suffixOf, fileName, fileNameAnswer, fileNameLeft};
+use crate::FileKind;
 use bounds::Bounds;
 use digits::inner::Signed;
 use endian::inner;
@@ -120,39 +121,75 @@ fn shard_digits(spec: Sharding) -> usize
     (spec.shard_bits as usize + 3) / 4
 }
 
-fn shard_name_len(spec: Sharding) -> usize
-    ensures { λ r. ⌜ (r ≡ shardDigits spec + 6) × (r ≤ 70) ⌝ }
+fn suffix_len(kind: FileKind) -> usize
+    ensures { λ r. ⌜ (r ≡ length (suffixOf kind)) × (r ≤ 6) ⌝ }
 {
-    shard_digits(spec) + 6
+    match kind {
+        FileKind::Shard => 6,
+        FileKind::Index => 6,
+        FileKind::Data => 5,
+    }
 }
 
-// `.sha` and `rd`, as the numbers whose bytes they are.
-fn put_suffix(out: &mut [u8], at: usize)
-    requires { ⌜ at + 6 ≤ length (now out) ⌝ }
-    ensures { λ _. ⌜ now (out .exit) ≡ paste at suffix (now (out .entry)) ⌝ }
+fn file_name_len(spec: Sharding, kind: FileKind) -> usize
+    ensures { λ r. ⌜ (r ≡ shardDigits spec + length (suffixOf kind)) × (r ≤ 70) ⌝ }
 {
-    inner::put_u32(out, at, 0x6168_732e);
-    inner::put_u16(out, at + 4, 0x6472);
+    shard_digits(spec) + suffix_len(kind)
 }
 
-pub fn put_shard_name(out: &mut [u8], at: usize, spec: Sharding, shard: u64) -> usize
-    requires { ⌜ at + length (shardName spec shard) ≤ length (now out) ⌝ }
-    ensures { λ r. ⌜ r ≡ at + length (shardName spec shard) ⌝ }
-    ensures { λ _. ⌜ now (out .exit) ≡ paste at (shardName spec shard) (now (out .entry)) ⌝ }
+// `.sha` and `rd`, `.ind` and `ex`, `.dat` and `a`, as the numbers whose bytes they are.
+fn put_suffix(out: &mut [u8], at: usize, kind: FileKind)
+    requires { ⌜ at + length (suffixOf kind) ≤ length (now out) ⌝ }
+    ensures { λ _. ⌜ now (out .exit) ≡ paste at (suffixOf kind) (now (out .entry)) ⌝ }
+{
+    match kind {
+        FileKind::Shard => {
+            inner::put_u32(out, at, 0x6168_732e);
+            inner::put_u16(out, at + 4, 0x6472);
+        }
+        FileKind::Index => {
+            inner::put_u32(out, at, 0x646e_692e);
+            inner::put_u16(out, at + 4, 0x7865);
+        }
+        FileKind::Data => {
+            inner::put_u32(out, at, 0x7461_642e);
+            inner::put_byte(out, at + 4, b'a');
+        }
+    }
+}
+
+pub fn put_file_name(out: &mut [u8], at: usize, spec: Sharding, shard: u64, kind: FileKind) -> usize
+    requires { ⌜ at + length (fileName kind spec shard) ≤ length (now out) ⌝ }
+    ensures { λ r. ⌜ r ≡ at + length (fileName kind spec shard) ⌝ }
+    ensures { λ _. ⌜ now (out .exit) ≡ paste at (fileName kind spec shard) (now (out .entry)) ⌝ }
 {
     let n = shard_digits(spec);
     digits::inner::put_digits(out, at, 16, n, shard);
-    put_suffix(out, at + n);
-    at + n + 6
+    put_suffix(out, at + n, kind);
+    at + n + suffix_len(kind)
 }
 
-// The name of a shard's file at the front of the buffer.
-pub fn file_name(spec: Sharding, shard: u64, out: &mut [u8]) -> Written
-    ensures { λ r. ⌜ r ≡ written (shardName spec shard) (now (out .entry)) ⌝ }
-    ensures { λ _. ⌜ now (out .exit) ≡ leftBy (shardName spec shard) (now (out .entry)) ⌝ }
+// The name of one of a shard's files at the front of the buffer.
+fn file_name(spec: Sharding, shard: u64, kind: FileKind, out: &mut [u8]) -> Written
+    ensures { λ r. ⌜ r ≡ written (fileName kind spec shard) (now (out .entry)) ⌝ }
+    ensures { λ _. ⌜ now (out .exit) ≡ leftBy (fileName kind spec shard) (now (out .entry)) ⌝ }
 {
-    if out.len() < shard_name_len(spec) {
+    if out.len() < file_name_len(spec, kind) {
         return Written::Refused(13);
     }
-    Written::Length(put_shard_name(out, 0, spec, shard))
+    Written::Length(put_file_name(out, 0, spec, shard, kind))
+}
+
+// The same, refused with 1 or 5 first.
+pub fn name_of(spec: Sharding, shard: u64, kind: FileKind, out: &mut [u8]) -> Written
+    ensures answer { λ r. ⌜ r ≡ fileNameAnswer kind spec shard (now (out .entry)) ⌝ }
+    ensures out { λ _. ⌜ now (out .exit) ≡ fileNameLeft kind spec shard (now (out .entry)) ⌝ }
+{
+    if !sharding::inner::is_allowed(spec) {
+        return Written::Refused(1);
+    }
+    if no_such_shard(spec, shard) {
+        return Written::Refused(5);
+    }
+    file_name(spec, shard, kind, out)
 }

@@ -3,7 +3,8 @@ pub mod inner;
 
 ghost use mathlib.Core.Path.{_≡_};
 ghost use Rattle.names.specs.Chunks.{chunkNameAnswer, chunkNameLeft};
-ghost use Rattle.names.specs.Shards.{shardNameAnswer, shardNameLeft};
+ghost use Rattle.names.specs.Shards.{fileNameAnswer, fileNameLeft, shardNameAnswer, shardNameLeft};
+ghost use Rattle.names.specs.declared.FileKind.the-variants.{Index, Data};
 use bounds::BoundsAnswer;
 use grid::Cell;
 use grid::Volume;
@@ -21,16 +22,32 @@ pub fn chunk_name(volume: Volume, cell: Cell, out: &mut [u8]) -> Written
     }
 }
 
+// A shard is one file, or in the earlier edition an index file and a data file.
+pub enum FileKind {
+    Shard,
+    Index,
+    Data,
+}
+
 // The name of a shard's file: refused with 1, 5 or 13.
 pub fn shard_name(spec: Sharding, shard: u64, out: &mut [u8]) -> Written
     ensures answer { λ r. ⌜ r ≡ shardNameAnswer spec shard (now (out .entry)) ⌝ }
     ensures out { λ _. ⌜ now (out .exit) ≡ shardNameLeft spec shard (now (out .entry)) ⌝ }
 {
-    if !sharding::inner::is_allowed(spec) {
-        return Written::Refused(1);
-    }
-    if inner::no_such_shard(spec, shard) {
-        return Written::Refused(5);
-    }
-    inner::file_name(spec, shard, out)
+    inner::name_of(spec, shard, FileKind::Shard, out)
+}
+
+// The names of its two files in the earlier edition: refused alike.
+pub fn index_name(spec: Sharding, shard: u64, out: &mut [u8]) -> Written
+    ensures answer { λ r. ⌜ r ≡ fileNameAnswer Index spec shard (now (out .entry)) ⌝ }
+    ensures out { λ _. ⌜ now (out .exit) ≡ fileNameLeft Index spec shard (now (out .entry)) ⌝ }
+{
+    inner::name_of(spec, shard, FileKind::Index, out)
+}
+
+pub fn data_name(spec: Sharding, shard: u64, out: &mut [u8]) -> Written
+    ensures answer { λ r. ⌜ r ≡ fileNameAnswer Data spec shard (now (out .entry)) ⌝ }
+    ensures out { λ _. ⌜ now (out .exit) ≡ fileNameLeft Data spec shard (now (out .entry)) ⌝ }
+{
+    inner::name_of(spec, shard, FileKind::Data, out)
 }

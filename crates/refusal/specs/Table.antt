@@ -3,7 +3,7 @@ use Prim.Native.Nat.{ℕ, _≤_}
 
 -- the last number of the table
 abbrev pub last : ℕ
-last = 22
+last = 30
 
 abbrev pub InTable : ℕ → Type 0
 InTable k = (1 ≤ k) × (k ≤ last)

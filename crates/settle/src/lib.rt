@@ -17,7 +17,8 @@ pub enum SettleAnswer {
     Faulty { number: u8, position: u64 },
 }
 
-fn answer_of(written: Written) -> SettleAnswer
+// What a writer over two parts answered, as an answer of settling.
+pub fn answer_of(written: Written) -> SettleAnswer
     ensures { λ r. ⌜ r ≡ answerOf written ⌝ }
 {
     match written {

@@ -23,7 +23,8 @@ use Rattle.sharding.specs.declared.PlaceAnswer.the-variants as P
 use Rattle.sharding.specs.Place.{placeChecks, placeAnswer}
 use Rattle.sharding.specs.Batch.{placesChecks, placesAnswer, shardsLeft, minishardsLeft}
 use Rattle.names.specs.Chunks.{chunkNameChecks, chunkNameAnswer, chunkNameLeft}
-use Rattle.names.specs.Shards.{shardNameChecks, shardNameAnswer, shardNameLeft}
+use Rattle.names.specs.Shards.{fileNameChecks, fileNameAnswer, fileNameLeft}
+use Rattle.names.specs.declared.FileKind.{FileKind}
 use Rattle.card.specs.declared.Card.{Card}
 use Rattle.card.specs.declared.CardAnswer.the-variants as D
 use Rattle.card.specs.Answers.{recordChecks, readChecks, readAnswer, writeChecks, writeAnswer, writeLeft}
@@ -98,13 +99,13 @@ module _ (spec : Sharding) where
       let checks = placesChecks spec ids shards minishards in
       (keeping Refused checks _ _ shards k (λ h. cc) e, keeping Refused checks _ _ minishards k (λ h. cc) e)
 
-  pub shard-name-refuses : (shard : ℕ) (out : List ℕ) → Refuses (shardNameAnswer spec shard out) Refused (shardNameChecks spec shard out)
-  unfolding shardNameAnswer shardNameChecks
-  shard-name-refuses shard out = refuses Refused (λ j k e. cc) (shardNameChecks spec shard out) _ refl (λ k e. cc)
+  pub file-name-refuses : (kind : FileKind) (shard : ℕ) (out : List ℕ) → Refuses (fileNameAnswer kind spec shard out) Refused (fileNameChecks kind spec shard out)
+  unfolding fileNameAnswer fileNameChecks
+  file-name-refuses kind shard out = refuses Refused (λ j k e. cc) (fileNameChecks kind spec shard out) _ refl (λ k e. cc)
 
-  pub shard-name-kept : (shard : ℕ) (out : List ℕ) (k : ℕ) → shardNameAnswer spec shard out ≡ Refused k → shardNameLeft spec shard out ≡ out
-  unfolding shardNameAnswer shardNameLeft
-  shard-name-kept shard out k e = keeping Refused (shardNameChecks spec shard out) _ _ out k (λ h. cc) e
+  pub file-name-kept : (kind : FileKind) (shard : ℕ) (out : List ℕ) (k : ℕ) → fileNameAnswer kind spec shard out ≡ Refused k → fileNameLeft kind spec shard out ≡ out
+  unfolding fileNameAnswer fileNameLeft
+  file-name-kept kind shard out k e = keeping Refused (fileNameChecks kind spec shard out) _ _ out k (λ h. cc) e
 
 -- ---- cards
 

@@ -27,11 +27,14 @@ use Rattle.form.proofs.Demand3.{file-form-length, demand-3-one-form, demand-3-s
 use Rattle.settle.specs.declared.SettleAnswer.the-variants.{Length}
 use Rattle.settle.proofs.Refused.{length-refuses, settle-refuses, settle-kept}
 use Rattle.settle.proofs.Demand3.{demand-3-form-settles, demand-3-length, demand-3-length-refused, demand-3-refused, demand-3-written}
+use Rattle.seam.proofs.Ranges.{range-refuses}
+use Rattle.pair.proofs.Laws.{check-refuses-pair, lookup-refuses-pair, fragment-refuses-pair}
+use Rattle.pairform.proofs.Laws.{count-refuses-pair, listing-refuses-pair, listing-kept-pair, unlisted-refuses-pair, length-refuses-pair, settle-refuses-pair, settle-kept-pair}
 use Rattle.card.proofs.Meaning.{one-meaning-one-card}
 use Rattle.document.proofs.Meaning.{meaning}
 use Rattle.nodes.proofs.Each.{node-numbers}
 use Rattle.theorems.specs.Demands.{Demand1, Demand2, Ready, Demand3}
-use Rattle.theorems.proofs.Calls.{grid-refuses, key-refuses, keys-refuses, keys-kept, cover-refuses, cover-kept, cell-refuses, bounds-refuses, chunk-name-refuses, chunk-name-kept, place-refuses, places-refuses, places-kept, shard-name-refuses, shard-name-kept, card-read-refuses, card-write-refuses, card-kept, manifest-refuses, header-refuses, field-refuses, node-refuses, nodes-refuses, nodes-kept, corners-refuses}
+use Rattle.theorems.proofs.Calls.{grid-refuses, key-refuses, keys-refuses, keys-kept, cover-refuses, cover-kept, cell-refuses, bounds-refuses, chunk-name-refuses, chunk-name-kept, place-refuses, places-refuses, places-kept, file-name-refuses, file-name-kept, card-read-refuses, card-write-refuses, card-kept, manifest-refuses, header-refuses, field-refuses, node-refuses, nodes-refuses, nodes-kept, corners-refuses}
 
 pub demand-1 : Demand1
 demand-1 =
@@ -45,7 +48,7 @@ demand-1 =
       place = place-refuses;
       places = places-refuses;
       chunkName = chunk-name-refuses;
-      shardName = shard-name-refuses;
+      fileName = λ kind spec. file-name-refuses spec kind;
       lookup = lookup-refuses;
       fragment = fragment-refuses;
       count = count-refuses;
@@ -57,6 +60,15 @@ demand-1 =
       formLength = length-refuses;
       settle = settle-refuses;
       unlisted = unlisted-refuses;
+      checkOfPair = check-refuses-pair;
+      lookupOfPair = lookup-refuses-pair;
+      fragmentOfPair = fragment-refuses-pair;
+      countOfPair = count-refuses-pair;
+      listingOfPair = listing-refuses-pair;
+      unlistedOfPair = unlisted-refuses-pair;
+      formLengthOfPair = length-refuses-pair;
+      settleOfPair = settle-refuses-pair;
+      range = range-refuses;
       cardRead = card-read-refuses;
       cardWritten = card-write-refuses;
       infoRead = meaning .refused;
@@ -70,9 +82,11 @@ demand-1 =
       coverKept = cover-kept;
       placesKept = places-kept;
       chunkNameKept = chunk-name-kept;
-      shardNameKept = shard-name-kept;
+      fileNameKept = λ kind spec. file-name-kept spec kind;
       listingKept = listing-kept;
       settleKept = settle-kept;
+      listingOfPairKept = listing-kept-pair;
+      settleOfPairKept = settle-kept-pair;
       cardKept = card-kept;
       nodesKept = nodes-kept;
     }

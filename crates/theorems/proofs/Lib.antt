@@ -3,3 +3,4 @@ pub mod MeshTable
 pub mod Calls
 pub mod Demands
 pub mod Orders
+pub mod Pairs

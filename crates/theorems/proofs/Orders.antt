@@ -16,7 +16,7 @@ use Rattle.sharding.specs.Batch.{shardsOf, minishardsOf, placesChecks}
 use Rattle.sharding.specs.Before.{allowedBefore}
 use Rattle.sharding.proofs.Allowed.{allowed-within}
 use Rattle.sharding.proofs.Before.{same-before}
-use Rattle.names.specs.Shards.{shardName, shardNameChecks}
+use Rattle.names.specs.Shards.{fileNameChecks, shardName, shardNameChecks}
 use Rattle.shard.specs.File.{indexPart, dataPart, badFileLength, fileChecks, shardChecks}
 use Rattle.card.specs.declared.Card.{Card}
 use Rattle.card.specs.declared.CardAnswer.the-variants.{Says, Refused}
@@ -65,7 +65,7 @@ module _ (spec : Sharding) (e : allowedBefore spec ≡ true) where
 
   same-name : (shard : ℕ) (out : List ℕ)
       → shardNameChecks spec shard out ≡ check 1 (not (allowedBefore spec)) ∷ check 5 (noSuchShard spec shard) ∷ room (shardName spec shard) out ∷ []
-  unfolding shardNameChecks
+  unfolding fileNameChecks
   same-name shard out = rw (same-before spec e)
 
   same-file : (five : Bool) (file : List ℕ)

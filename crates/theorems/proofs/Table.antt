@@ -18,7 +18,7 @@ use Rattle.grid.proofs.Laws.{only-key-0}
 use Rattle.sharding.specs.Specification.{allowed}
 use Rattle.sharding.specs.Place.{hashedId, shardOf, minishardOf, placeChecks, placeAnswer}
 use Rattle.digits.specs.Digits.{digitByte, digits}
-use Rattle.names.specs.Shards.{shardDigits, shardName, shardNameChecks, shardNameAnswer, shardNameLeft}
+use Rattle.names.specs.Shards.{shardDigits, fileName, fileNameChecks, fileNameAnswer, fileNameLeft}
 use Rattle.twice.specs.Twice.{repeats}
 use Rattle.index.specs.Index.{idAt, startAt}
 use Rattle.shard.specs.Faults.{badEntry, badLength, foreign, foreignAt, outside, entryTests}
@@ -51,5 +51,5 @@ others [] = []
 others (x ∷ xs) = xs
 
 pub cases-hold : map answered table ≡ table
-unfolding others answered table voxels shifted buffer content settledFile otherFile zeros real items manifest ofBits toBits add mul ofInt firstNumber firstPosition unless le leAt row sumTo every anyBelow first gridSize gridOf hasZero zeroExtent inGrid bitOf used count step steps keyOf keyBits tooManyBits into stepBack stepsBack cellOf isKey beginOf endOf beginPoint endPoint boundsOf noCell gridChecks gridAnswer keyChecks keyAnswer cellChecks cellAnswer boundsChecks boundsAnswer allowed hashedId shardOf minishardOf placeChecks placeAnswer digitByte digits shardDigits shardName shardNameChecks shardNameAnswer shardNameLeft idAt startAt badEntry badLength repeats foreign foreignAt outside entryTests entryChecks minishardChecks minishardsChecks badFileLength fileChecks shardChecks leadLength itemOf itemAt isId chunkOf chosenChecks chosenChunk lookupChecks lookupAnswer notAbove insertBy sortBy chunksOf chunksLength idRow startRow sizeRow indexOf partOf partLength partsFrom partsLength entryBegin entryFinish entriesFrom settled settledLength itemsFrom itemsAt byId contentFrom contentOf formOf formLength within miss itemStart inItem inItems inMinishard coveredBy coveredIn coveredAt unlistedBytes losesBytes unlistedCheck tooLong settleCheck settleChecks settleAnswer settleLeft zDigit zFrom wordAt isReal countOf sizeAt finiteBits aboveZero realAt rightLength realFits realsFit inOrder levelRises riseAt nodesRise manifestChecks headerAt hasNode levelBytes fragmentStart nodeIn nodeAt nodeChecks finite nearOf farOf nearCorner farCorner boxOf placed finiteCorner boxChecks cornersChecks cornersAnswer
+unfolding others answered table voxels shifted buffer content settledFile otherFile zeros real items manifest ofBits toBits add mul ofInt firstNumber firstPosition unless le leAt row sumTo every anyBelow first gridSize gridOf hasZero zeroExtent inGrid bitOf used count step steps keyOf keyBits tooManyBits into stepBack stepsBack cellOf isKey beginOf endOf beginPoint endPoint boundsOf noCell gridChecks gridAnswer keyChecks keyAnswer cellChecks cellAnswer boundsChecks boundsAnswer allowed hashedId shardOf minishardOf placeChecks placeAnswer digitByte digits shardDigits fileName fileNameChecks fileNameAnswer fileNameLeft idAt startAt badEntry badLength repeats foreign foreignAt outside entryTests entryChecks minishardChecks minishardsChecks badFileLength fileChecks shardChecks leadLength itemOf itemAt isId chunkOf chosenChecks chosenChunk lookupChecks lookupAnswer notAbove insertBy sortBy chunksOf chunksLength idRow startRow sizeRow indexOf partOf partLength partsFrom partsLength entryBegin entryFinish entriesFrom settled settledLength itemsFrom itemsAt byId contentFrom contentOf formOf formLength within miss itemStart inItem inItems inMinishard coveredBy coveredIn coveredAt unlistedBytes losesBytes unlistedCheck tooLong settleCheck settleChecks settleAnswer settleLeft zDigit zFrom wordAt isReal countOf sizeAt finiteBits aboveZero realAt rightLength realFits realsFit inOrder levelRises riseAt nodesRise manifestChecks headerAt hasNode levelBytes fragmentStart nodeIn nodeAt nodeChecks finite nearOf farOf nearCorner farCorner boxOf placed finiteCorner boxChecks cornersChecks cornersAnswer
 cases-hold = λ i. cells (voxels 1 1 1) (λ k. only k i) ∷ others table

@@ -29,7 +29,8 @@ use Rattle.sharding.specs.Specification.{isMesh, noSuchShard}
 use Rattle.sharding.specs.Place.{minishardOf, placeChecks, placeAnswer}
 use Rattle.sharding.specs.Batch.{placesChecks, placesAnswer, shardsLeft, minishardsLeft}
 use Rattle.names.specs.Chunks.{chunkNameChecks, chunkNameAnswer, chunkNameLeft}
-use Rattle.names.specs.Shards.{shardNameChecks, shardNameAnswer, shardNameLeft}
+use Rattle.names.specs.Shards.{fileNameChecks, fileNameAnswer, fileNameLeft}
+use Rattle.names.specs.declared.FileKind.{FileKind}
 use Rattle.shard.specs.declared.CheckAnswer.the-variants.{Sound, Faulty, Refused as CheckRefused}
 use Rattle.index.specs.Index.{mostShardBytes}
 use Rattle.shard.specs.File.{indexLength, indexPart, dataPart, fileChecks, shardChecks, checkAnswer, checkNumber}
@@ -50,6 +51,11 @@ use Rattle.listing.specs.Triples.{Says}
 use Rattle.form.specs.Content.{fileForm, fileFormLength}
 use Rattle.settle.specs.declared.SettleAnswer.the-variants as S
 use Rattle.settle.specs.Answers.{lengthChecks, lengthAnswer, settleChecks, settleAnswer, settleLeft}
+use Rattle.seam.specs.Pair.{pairChecks}
+use Rattle.seam.specs.declared.RangeAnswer.the-variants as R
+use Rattle.seam.specs.Range.{rangeChecks, rangeAnswer}
+use Rattle.pair.specs.Answers.{otherShard, pairCheck, pairLookup, pairFragment}
+use Rattle.pairform.specs.Answers.{noMinishard, pairCount, pairListing, pairListingLeft, pairUnlisted, pairLength, pairSettle, pairSettleLeft}
 use Rattle.card.specs.declared.Card.{Card}
 use Rattle.card.specs.declared.CardAnswer.the-variants as D
 use Rattle.card.specs.Answers.{readChecks, readAnswer, writeChecks, writeAnswer, writeLeft}
@@ -83,7 +89,7 @@ pub record Demand1 : Type 0 where
   pub place : (spec : Sharding) (id : ℕ) → Refuses (placeAnswer spec id) P.Refused (placeChecks spec)
   pub places : (spec : Sharding) (ids shards minishards : List ℕ) → Refuses (placesAnswer spec ids shards minishards) Refused (placesChecks spec ids shards minishards)
   pub chunkName : (v : Volume) (c : Cell) (out : List ℕ) → Refuses (chunkNameAnswer v c out) Refused (chunkNameChecks v c out)
-  pub shardName : (spec : Sharding) (shard : ℕ) (out : List ℕ) → Refuses (shardNameAnswer spec shard out) Refused (shardNameChecks spec shard out)
+  pub fileName : (kind : FileKind) (spec : Sharding) (shard : ℕ) (out : List ℕ) → Refuses (fileNameAnswer kind spec shard out) Refused (fileNameChecks kind spec shard out)
   pub lookup : (spec : Sharding) (shard : ℕ) (file : List ℕ) (id : ℕ) → RefusesAt (lookupAnswer spec shard file id) L.Refused L.Faulty (lookupChecks spec shard file id)
   pub fragment : (spec : Sharding) (shard : ℕ) (file : List ℕ) (id level node : ℕ) → RefusesAt (fragmentAnswer spec shard file id level node) L.Refused L.Faulty (fragmentChecks spec shard file id level node)
   pub count : (spec : Sharding) (shard : ℕ) (file : List ℕ) (m : ℕ) → RefusesAt (countAnswer spec shard file m) N.Refused N.Faulty (countChecks spec shard file m)
@@ -96,6 +102,16 @@ pub record Demand1 : Type 0 where
   pub formLength : (spec : Sharding) (shard : ℕ) (file : List ℕ) (dropping : Bool) → RefusesAt (lengthAnswer spec shard file dropping) S.Refused S.Faulty (lengthChecks spec shard file dropping)
   pub settle : (spec : Sharding) (shard : ℕ) (file : List ℕ) (dropping : Bool) (out : List ℕ) → RefusesAt (settleAnswer spec shard file dropping out) S.Refused S.Faulty (settleChecks spec shard file dropping out)
   pub unlisted : (spec : Sharding) (shard : ℕ) (file : List ℕ) → RefusesAt (unlistedAnswer spec shard file) U.Refused U.Faulty (shardChecks spec shard file)
+  -- (of a pair: 1, 5, 23, then those of the joined file, whose 1 and 5 are the same tests; order 10)
+  pub checkOfPair : (spec : Sharding) (shard : ℕ) (index d : List ℕ) → Refuses (pairCheck spec shard index d) CheckRefused (pairChecks spec (noSuchShard spec shard) index ++ fileChecks spec (noSuchShard spec shard) (index ++ d))
+  pub lookupOfPair : (spec : Sharding) (shard : ℕ) (index d : List ℕ) (id : ℕ) → RefusesAt (pairLookup spec shard index d id) L.Refused L.Faulty (pairChecks spec (otherShard spec shard id) index ++ lookupChecks spec shard (index ++ d) id)
+  pub fragmentOfPair : (spec : Sharding) (shard : ℕ) (index d : List ℕ) (id level node : ℕ) → RefusesAt (pairFragment spec shard index d id level node) L.Refused L.Faulty (pairChecks spec (otherShard spec shard id) index ++ fragmentChecks spec shard (index ++ d) id level node)
+  pub countOfPair : (spec : Sharding) (shard : ℕ) (index d : List ℕ) (m : ℕ) → RefusesAt (pairCount spec shard index d m) N.Refused N.Faulty (pairChecks spec (noMinishard spec shard m) index ++ countChecks spec shard (index ++ d) m)
+  pub listingOfPair : (spec : Sharding) (shard : ℕ) (index d : List ℕ) (m : ℕ) (out : List ℕ) → RefusesAt (pairListing spec shard index d m out) N.Refused N.Faulty (pairChecks spec (noMinishard spec shard m) index ++ listingChecks spec shard (index ++ d) m out)
+  pub unlistedOfPair : (spec : Sharding) (shard : ℕ) (index d : List ℕ) → RefusesAt (pairUnlisted spec shard index d) U.Refused U.Faulty (pairChecks spec (noSuchShard spec shard) index ++ shardChecks spec shard (index ++ d))
+  pub formLengthOfPair : (spec : Sharding) (shard : ℕ) (index d : List ℕ) (dropping : Bool) → RefusesAt (pairLength spec shard index d dropping) S.Refused S.Faulty (pairChecks spec (noSuchShard spec shard) index ++ lengthChecks spec shard (index ++ d) dropping)
+  pub settleOfPair : (spec : Sharding) (shard : ℕ) (index d : List ℕ) (dropping : Bool) (out : List ℕ) → RefusesAt (pairSettle spec shard index d dropping out) S.Refused S.Faulty (pairChecks spec (noSuchShard spec shard) index ++ settleChecks spec shard (index ++ d) dropping out)
+  pub range : (spec : Sharding) (index d : List ℕ) (start end : ℕ) → Refuses (rangeAnswer spec index d start end) R.Refused (rangeChecks spec index d start end)
   pub cardRead : (s : List ℕ) → Refuses (readAnswer s) D.Refused (readChecks s)
   pub cardWritten : (c : Card) (out : List ℕ) → Refuses (writeAnswer c out) Refused (writeChecks c out)
   pub infoRead : (s : List ℕ) (k : ℕ) → Refuses (infoAnswer s k) D.Refused (infoChecks s k)
@@ -111,9 +127,11 @@ pub record Demand1 : Type 0 where
   pub placesKept : (spec : Sharding) (ids shards minishards : List ℕ) (k : ℕ) → placesAnswer spec ids shards minishards ≡ Refused k
       → (shardsLeft spec ids shards minishards ≡ shards) × (minishardsLeft spec ids shards minishards ≡ minishards)
   pub chunkNameKept : (v : Volume) (c : Cell) (out : List ℕ) (k : ℕ) → chunkNameAnswer v c out ≡ Refused k → chunkNameLeft v c out ≡ out
-  pub shardNameKept : (spec : Sharding) (shard : ℕ) (out : List ℕ) (k : ℕ) → shardNameAnswer spec shard out ≡ Refused k → shardNameLeft spec shard out ≡ out
+  pub fileNameKept : (kind : FileKind) (spec : Sharding) (shard : ℕ) (out : List ℕ) (k : ℕ) → fileNameAnswer kind spec shard out ≡ Refused k → fileNameLeft kind spec shard out ≡ out
   pub listingKept : (spec : Sharding) (shard : ℕ) (file : List ℕ) (m : ℕ) (out : List ℕ) (k : ℕ) (p : Option ℕ) → listingAnswer spec shard file m out ≡ refusal N.Refused N.Faulty k p → listingLeft spec shard file m out ≡ out
   pub settleKept : (spec : Sharding) (shard : ℕ) (file : List ℕ) (dropping : Bool) (out : List ℕ) (k : ℕ) (p : Option ℕ) → settleAnswer spec shard file dropping out ≡ refusal S.Refused S.Faulty k p → settleLeft spec shard file dropping out ≡ out
+  pub listingOfPairKept : (spec : Sharding) (shard : ℕ) (index d : List ℕ) (m : ℕ) (out : List ℕ) (k : ℕ) (p : Option ℕ) → pairListing spec shard index d m out ≡ refusal N.Refused N.Faulty k p → pairListingLeft spec shard index d m out ≡ out
+  pub settleOfPairKept : (spec : Sharding) (shard : ℕ) (index d : List ℕ) (dropping : Bool) (out : List ℕ) (k : ℕ) (p : Option ℕ) → pairSettle spec shard index d dropping out ≡ refusal S.Refused S.Faulty k p → pairSettleLeft spec shard index d dropping out ≡ out
   pub cardKept : (c : Card) (out : List ℕ) (k : ℕ) → writeAnswer c out ≡ Refused k → writeLeft c out ≡ out
   pub nodesKept : (s : List ℕ) (l : ℕ) (out : List ℕ) (k : ℕ) → nodesAnswer s l out ≡ Refused k → nodesLeft s l out ≡ out
 

@@ -2,3 +2,4 @@ pub mod Cases
 pub mod MeshCases
 pub mod Demands
 pub mod Orders
+pub mod Pairs

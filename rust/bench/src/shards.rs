@@ -7,16 +7,16 @@ use reference::settle::settled_form;
 use std::hint::black_box;
 
 /// A shard of number 0, with the ids that it lists in random order.
-struct Sample {
-    sharding: Sharding,
-    ids: Vec<u64>,
-    file: Vec<u8>,
+pub struct Sample {
+    pub sharding: Sharding,
+    pub ids: Vec<u64>,
+    pub file: Vec<u8>,
     /// Its settled form, where it is not settled itself.
     form: Option<Vec<u8>>,
 }
 
 /// A shard of this many chunks of `length` bytes each.
-fn sample(hash: u8, minishard_bits: u8, chunks: usize, length: usize) -> Sample {
+pub fn sample(hash: u8, minishard_bits: u8, chunks: usize, length: usize) -> Sample {
     let sharding = reference::sharding::Sharding {
         preshift: 0,
         hash,
@@ -93,17 +93,17 @@ fn scattered(sample: Sample, length: usize) -> Sample {
 
 impl Sample {
     /// Its settled form.
-    fn settled(&self) -> &[u8] {
+    pub fn settled(&self) -> &[u8] {
         self.form.as_ref().unwrap_or(&self.file)
     }
 
     /// The library's view of it.
-    fn open(&self) -> Shard<'_> {
+    pub fn open(&self) -> Shard<'_> {
         Shard::open(self.sharding, 0, black_box(&self.file))
     }
 
     /// The shard index.
-    fn shard_index(&self) -> &[u8] {
+    pub fn shard_index(&self) -> &[u8] {
         &self.file[..16 << self.sharding.minishard_bits]
     }
 

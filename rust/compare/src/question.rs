@@ -342,6 +342,14 @@ impl Choice {
         }
     }
 
+    /// This number as it stands, now and then, else another choice.
+    pub fn draw_other(rng: &mut Rng, number: u64) -> Self {
+        Choice {
+            kind: *rng.pick(&[0, 1, 1, 2, 2, 2, 2, 3, 3]),
+            number,
+        }
+    }
+
     /// The number as it stands, one below the limit, the limit or a little
     /// more, or the one that is made elsewhere.
     fn below(&self, limit: u64, made: impl FnOnce() -> Option<u64>) -> u64 {
@@ -418,6 +426,33 @@ impl Choice {
     /// A number of this many: as it stands, one of them, or just beyond them.
     pub fn of(&self, count: u64) -> u64 {
         self.below(count, || count.checked_sub(1))
+    }
+
+    /// Where a file of this length is cut in two: where its shard index ends, a
+    /// few bytes from there, or anywhere.
+    pub fn seam(&self, sharding: &Sharding, length: usize) -> usize {
+        let end = match sharding.allowed() {
+            Ok(()) => sharding.index_end(),
+            Err(_) => 16,
+        };
+        let at = match self.kind % 4 {
+            2 => (end + self.number % 5).saturating_sub(2),
+            3 => self.number % (length as u64 + 1),
+            _ => end,
+        };
+        at.min(length as u64) as usize
+    }
+
+    /// Where a range of a joined file begins or ends: a number as it stands, one
+    /// in the file or just past it, or one a few bytes from the seam or from the
+    /// end.
+    pub fn bound(&self, seam: u64, all: u64) -> u64 {
+        match self.kind % 4 {
+            1 => self.number % (all + 2),
+            2 => (seam + self.number % 5).saturating_sub(2),
+            3 => (all + self.number % 5).saturating_sub(2),
+            _ => self.number,
+        }
     }
 
     /// A level of the manifest.
@@ -590,6 +625,26 @@ mod tests {
         let minishards =
             minishards.map(|(kind, number)| choice(kind, number).minishard(&sharding, &file));
         assert_eq!(minishards, [9, 1, 3, 1]);
+    }
+
+    #[test]
+    fn seams_and_ends_of_ranges_are_chosen() {
+        let sharding = Sharding {
+            preshift: 0,
+            hash: 0,
+            minishard_bits: 1,
+            shard_bits: 0,
+            kind: 0,
+        };
+        let seam = |kind, number, length| Choice { kind, number }.seam(&sharding, length);
+        let seams = [(0, 9, 90), (1, 9, 90), (2, 9, 90), (2, 0, 90), (3, 92, 90)];
+        let seams = seams.map(|(kind, number, length)| seam(kind, number, length));
+        assert_eq!(seams, [32, 32, 34, 30, 1]);
+        assert_eq!(seam(0, 0, 31), 31);
+        let bound = |kind, number| Choice { kind, number }.bound(32, 90);
+        let bounds = [(0, 500), (1, 91), (1, 92), (2, 0), (2, 4), (3, 2), (3, 3)];
+        let bounds = bounds.map(|(kind, number)| bound(kind, number));
+        assert_eq!(bounds, [500, 91, 0, 30, 34, 90, 91]);
     }
 
     #[test]

@@ -39,6 +39,9 @@ mod tests {
         // result goes to a live value.
         unsafe {
             assert_eq!(coronagamba_manifest_check(null(), 0), 15);
+            let index = [0; 16].as_ptr();
+            assert_eq!(coronagamba_pair_check(NO_BITS, 0, index, 16, null(), 0), 0);
+            assert_eq!(coronagamba_pair_check(NO_BITS, 0, null(), 0, index, 16), 23);
             assert_eq!(
                 coronagamba_settle(
                     NO_BITS,
@@ -135,6 +138,31 @@ mod tests {
                 assert_eq!(told, expected);
                 let (to, room) = (out.as_mut_ptr(), out.len());
                 let told = coronagamba_settle(NO_BITS, 0, bytes, 20, wish, to, room, &mut length);
+                assert_eq!(told, expected);
+                let data = file[16..].as_ptr();
+                let told = coronagamba_pair_settled_length(
+                    NO_BITS,
+                    0,
+                    bytes,
+                    16,
+                    data,
+                    4,
+                    wish,
+                    &mut length,
+                );
+                assert_eq!(told, expected);
+                let told = coronagamba_pair_settle(
+                    NO_BITS,
+                    0,
+                    bytes,
+                    16,
+                    data,
+                    4,
+                    wish,
+                    to,
+                    room,
+                    &mut length,
+                );
                 assert_eq!(told, expected);
             }
         }

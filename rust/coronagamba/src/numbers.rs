@@ -25,6 +25,12 @@ pub const FIELD_WHOLE: u32 = 0;
 /// The kind of a manifest's field that is a real.
 pub const FIELD_REAL: u32 = 1;
 
+/// A pair's index file.
+pub const FILE_INDEX: u32 = 0;
+
+/// A pair's data file.
+pub const FILE_DATA: u32 = 1;
+
 impl Refusal {
     /// Preshift above 63, hash neither identity nor murmur, minishard bits above 16, shard bits
     /// above 32, or a kind that is neither volume nor mesh.
@@ -104,6 +110,13 @@ impl Refusal {
     /// nonempty minishard index, and settling was not asked to drop such bytes; after all that the
     /// check refuses and before 13.
     pub const UNLISTED_BYTES: u8 = 22;
+
+    /// Of a shard of the earlier two-file edition, the index file is not exactly as long as the
+    /// shard index; right after 5.
+    pub const INDEX_FILE_LENGTH: u8 = 23;
+
+    /// A range crosses the seam, is reversed or passes the end.
+    pub const NO_SUCH_RANGE: u8 = 24;
 }
 
 /// Each number with its sentence, rising.
@@ -168,5 +181,13 @@ pub(crate) const SENTENCES: &[(u8, &str)] = &[
     (
         22,
         "The shard has bytes that nothing lists, and dropping them was not asked for.",
+    ),
+    (
+        23,
+        "The index file of a pair is not exactly as long as the shard index.",
+    ),
+    (
+        24,
+        "The range crosses the seam of the two files, is reversed or passes the end.",
     ),
 ];

@@ -25,7 +25,8 @@ pub struct Refusal {
     /// The minishard with the fault, from the whole-shard check only.
     pub minishard: Option<u64>,
     /// Of a shard, with 7 to 11, 15 to 17 and 21, the byte to look at, counted
-    /// from the start of the shard.
+    /// from the start of the shard, of a [`Pair`](crate::Pair) from the start of
+    /// the two files joined.
     ///
     /// With 7 and 8 the minishard's entry in the shard index begins there, 16
     /// bytes; with 9 and 10 the id step of the first entry that offends, with 11,

@@ -5,7 +5,7 @@ use crate::refusal::{given, written, Refusal};
 use crate::shard::Shard;
 
 /// What settling does with a shard that has unlisted bytes, which no settled form
-/// keeps (see [`Shard::unlisted`]).
+/// keeps (see [`Shard::unlisted`]); with a [`Pair`](crate::Pair) likewise.
 #[derive(Clone, Copy, Debug, PartialEq, Eq, Hash)]
 pub enum Unlisted {
     /// It is refused with 22.
@@ -16,12 +16,22 @@ pub enum Unlisted {
 
 impl Unlisted {
     /// The wish as the C interface takes it.
-    fn number(self) -> u8 {
+    pub(crate) fn number(self) -> u8 {
         match self {
             Unlisted::Refuse => 0,
             Unlisted::Drop => 1,
         }
     }
+}
+
+/// The settled form of this length, as the call writes it.
+pub(crate) fn form(
+    length: u64,
+    settle: impl FnOnce(&mut [u8]) -> Result<usize, Refusal>,
+) -> Result<Vec<u8>, Refusal> {
+    let mut form = vec![0; length as usize];
+    settle(&mut form)?;
+    Ok(form)
 }
 
 impl Shard<'_> {
@@ -115,10 +125,9 @@ impl Shard<'_> {
     /// [`settled_length`](Shard::settled_length), reserves that much in its
     /// own way and calls [`settle`](Shard::settle).
     pub fn settled(&self, unlisted: Unlisted) -> Result<Vec<u8>, Refusal> {
-        let mut form = vec![0; self.settled_length(unlisted)? as usize];
+        let length = self.settled_length(unlisted)?;
         // What would be refused was refused, so nothing is counted again.
-        self.settle(Unlisted::Drop, &mut form)?;
-        Ok(form)
+        form(length, |out| self.settle(Unlisted::Drop, out))
     }
 
     /// Writes the settled form to the front of `out` and gives its length,

@@ -2,12 +2,14 @@
 
 use crate::ffi;
 use crate::manifest::narrowed;
+use crate::pair::Pair;
 use crate::refusal::{answer, given, written, Refusal};
 use crate::sharding::Sharding;
 use std::iter::FusedIterator;
 use std::vec;
 
-/// The place of a chunk or of a fragment in a shard file.
+/// The place of a chunk or of a fragment in a shard file, or in the two files of a
+/// [`Pair`] joined.
 #[derive(Clone, Copy, Debug, Default, PartialEq, Eq, Hash)]
 pub struct Span {
     /// Where it starts, counted from the start of the file.
@@ -34,7 +36,8 @@ pub struct Chunk<'a> {
     pub id: u64,
     /// Its place in the file.
     pub span: Span,
-    /// Its bytes, as the part of the file; in a mesh a manifest.
+    /// Its bytes, as the part of the file, of a pair of the data file; in a mesh a
+    /// manifest.
     pub bytes: &'a [u8],
 }
 
@@ -283,13 +286,8 @@ impl<'a> Shard<'a> {
     /// # Ok::<(), coronagamba::Refusal>(())
     /// ```
     pub fn listing(&self, minishard: u64) -> Result<Vec<Listed>, Refusal> {
-        let mut numbers = vec![[0; 3]; self.listed_count(minishard)? as usize];
-        self.write_listing(minishard, numbers.as_flattened_mut())?;
-        let listed = |[id, start, length]: [u64; 3]| Listed {
-            id,
-            span: Span { start, length },
-        };
-        Ok(numbers.into_iter().map(listed).collect())
+        let count = self.listed_count(minishard)?;
+        listed(count, |out| self.write_listing(minishard, out))
     }
 
     /// All chunks of a sound shard: the minishards in number order, the chunks
@@ -313,24 +311,68 @@ impl<'a> Shard<'a> {
     /// ```
     pub fn chunks(&self) -> Result<Chunks<'a>, Refusal> {
         self.check()?;
-        Ok(Chunks {
-            shard: *self,
-            minishard: 0,
-            listed: self.listing(0)?.into_iter(),
-        })
+        Chunks::of(Edition::Shard(*self))
     }
 }
 
-/// The chunks of a sound shard, from [`Shard::chunks`]. It holds the listing of
-/// one minishard at a time, 24 bytes for each of its chunks.
+/// The listing of so many chunks, as the call writes it.
+pub(crate) fn listed(
+    count: u64,
+    write: impl FnOnce(&mut [u64]) -> Result<usize, Refusal>,
+) -> Result<Vec<Listed>, Refusal> {
+    let mut numbers = vec![[0; 3]; count as usize];
+    write(numbers.as_flattened_mut())?;
+    let listed = |[id, start, length]: [u64; 3]| Listed {
+        id,
+        span: Span { start, length },
+    };
+    Ok(numbers.into_iter().map(listed).collect())
+}
+
+/// A shard in one file or in two.
+#[derive(Clone, Copy, Debug)]
+pub(crate) enum Edition<'a> {
+    /// In one file.
+    Shard(Shard<'a>),
+    /// In an index file and a data file.
+    Pair(Pair<'a>),
+}
+
+impl<'a> Edition<'a> {
+    fn listing(&self, minishard: u64) -> Result<Vec<Listed>, Refusal> {
+        match self {
+            Edition::Shard(shard) => shard.listing(minishard),
+            Edition::Pair(pair) => pair.listing(minishard),
+        }
+    }
+
+    fn part(&self, span: Span) -> &'a [u8] {
+        match self {
+            Edition::Shard(shard) => shard.part(span),
+            Edition::Pair(pair) => pair.part(span),
+        }
+    }
+}
+
+/// The chunks of a sound shard, from [`Shard::chunks`] or [`Pair::chunks`]. It
+/// holds the listing of one minishard at a time, 24 bytes for each of its chunks.
 #[derive(Clone, Debug)]
 pub struct Chunks<'a> {
-    shard: Shard<'a>,
+    shard: Edition<'a>,
     minishard: u64,
     listed: vec::IntoIter<Listed>,
 }
 
 impl<'a> Chunks<'a> {
+    /// Those of a shard that has passed the check.
+    pub(crate) fn of(shard: Edition<'a>) -> Result<Self, Refusal> {
+        Ok(Chunks {
+            shard,
+            minishard: 0,
+            listed: shard.listing(0)?.into_iter(),
+        })
+    }
+
     /// Goes on to the next minishard; `None` where there are no more.
     fn advance(&mut self) -> Option<()> {
         let next = self.minishard + 1;

@@ -1,6 +1,8 @@
 //! Each refusal of the table, met by a call, with its sentence.
 
-use coronagamba::{Card, Manifest, Refusal, Shard, Sharding, Span, Unlisted, Volume};
+use coronagamba::{
+    Card, Half, Held, Manifest, Pair, Refusal, Shard, Sharding, Span, Unlisted, Volume,
+};
 use std::error::Error;
 
 /// Two minishards, one shard.
@@ -77,6 +79,13 @@ fn faulty_shard(number: u8, file: &[u8]) -> Shard<'_> {
     Shard::open(sharding, 0, file)
 }
 
+/// The same shard in two files, cut behind its shard index of 32 bytes.
+fn faulty_pair(number: u8, file: &[u8]) -> Pair<'_> {
+    let shard = faulty_shard(number, file);
+    let (index, data) = file.split_at(32);
+    Pair::open(shard.sharding(), shard.number(), index, data)
+}
+
 /// A manifest of one level with two nodes at these x positions, each with a
 /// fragment of 5 bytes.
 fn manifest(shape: f32, x: [u32; 2]) -> Vec<u8> {
@@ -118,6 +127,10 @@ fn refused(number: u8) -> Refusal {
         20 => Card::read_info(b"{}", 0).map(|_| ()),
         22 => Shard::open(TWO, 0, &[0; 33])
             .settled_length(Unlisted::Refuse)
+            .map(|_| ()),
+        23 => Pair::open(TWO, 0, &[0; 33], &[]).check(),
+        24 => Pair::open(TWO, 0, &[0; 32], &[0; 4])
+            .range(31, 33)
             .map(|_| ()),
         _ => panic!("no call of these tests gives {number}"),
     };
@@ -241,6 +254,133 @@ fn each_call_passes_the_position_on() {
     }
 }
 
+/// A pair's calls are refused as those of the joined file, byte for byte.
+#[test]
+fn a_pair_is_refused_as_the_joined_file() {
+    for number in FAULTS {
+        let (file, _) = faulty(number);
+        let (pair, shard) = (faulty_pair(number, &file), faulty_shard(number, &file));
+        assert_eq!(pair.check(), shard.check());
+        assert!(pair.check().is_err_and(|told| told.number == number));
+        let [of_pair, of_shard] = [pair.chunks().err(), shard.chunks().err()];
+        assert_eq!(of_pair, of_shard);
+        for id in [4, 5, 7] {
+            assert_eq!(pair.lookup(id), shard.lookup(id));
+            assert_eq!(pair.chunk(id), shard.chunk(id));
+            assert_eq!(
+                pair.lookup_fragment(id, 0, 0),
+                shard.lookup_fragment(id, 0, 0)
+            );
+            assert_eq!(pair.fragment(id, 0, 0), shard.fragment(id, 0, 0));
+        }
+        for minishard in 0..3 {
+            assert_eq!(pair.listed_count(minishard), shard.listed_count(minishard));
+            assert_eq!(pair.listing(minishard), shard.listing(minishard));
+        }
+        assert_eq!(pair.unlisted(), shard.unlisted());
+        for unlisted in [Unlisted::Refuse, Unlisted::Drop] {
+            assert_eq!(
+                pair.settled_length(unlisted),
+                shard.settled_length(unlisted)
+            );
+            assert_eq!(pair.settled(unlisted), shard.settled(unlisted));
+        }
+    }
+}
+
+/// 23 comes behind 1 and 5 and before 6, and in each call.
+#[test]
+fn an_index_file_of_another_length() {
+    let number = |answer: Result<(), Refusal>| answer.map_err(|refusal| refusal.number);
+    let long = vec![0; 1 << 30];
+    for index in [&[][..], &[0; 31], &[0; 33]] {
+        for data in [&[][..], &[0; 99], &long] {
+            let pair = Pair::open(TWO, 0, index, data);
+            assert_eq!(number(pair.check()), Err(23));
+            assert_eq!(number(pair.chunk(4).map(|_| ())), Err(23));
+            assert_eq!(number(pair.fragment(4, 0, 0).map(|_| ())), Err(23));
+            assert_eq!(number(pair.listing(0).map(|_| ())), Err(23));
+            assert_eq!(number(pair.listing(2).map(|_| ())), Err(5));
+            assert_eq!(number(pair.chunks().map(|_| ())), Err(23));
+            assert_eq!(number(pair.unlisted().map(|_| ())), Err(23));
+            assert_eq!(number(pair.settled(Unlisted::Drop).map(|_| ())), Err(23));
+            assert_eq!(number(pair.range(9, 3).map(|_| ())), Err(23));
+            let pair = Pair::open(TWO, 1, index, data);
+            assert_eq!(number(pair.check()), Err(5));
+            // A range belongs to no shard number.
+            assert_eq!(number(pair.range(0, 0).map(|_| ())), Err(23));
+            let spec = Sharding { hash: 2, ..TWO };
+            let pair = Pair::open(spec, 1, index, data);
+            assert_eq!(number(pair.check()), Err(1));
+            assert_eq!(number(pair.range(0, 0).map(|_| ())), Err(1));
+        }
+    }
+    let pair = Pair::open(TWO, 0, &[0; 32], &long);
+    assert_eq!(number(pair.check()), Err(6));
+    assert_eq!(number(pair.range(9, 3).map(|_| ())), Err(6));
+}
+
+/// Every range of a small pair: the bytes are the file's own, and where they are
+/// is told.
+#[test]
+fn ranges() {
+    let (index, data): (Vec<u8>, Vec<u8>) = ((0..32).collect(), (32..37).collect());
+    let joined = [&index[..], &data].concat();
+    let pair = Pair::open(TWO, 0, &index, &data);
+    for start in 0..40 {
+        for end in 0..40 {
+            let crosses = start < 32 && end > 32;
+            let told = pair.range(start, end).map_err(|refusal| refusal.number);
+            if crosses || start > end || end > 37 {
+                assert_eq!(told, Err(24), "{start} {end}");
+                continue;
+            }
+            let bytes = &joined[start as usize..end as usize];
+            assert_eq!(told, Ok(bytes), "{start} {end}");
+            let (file, start) = match start < 32 {
+                true => (Half::Index, start),
+                false => (Half::Data, start - 32),
+            };
+            let length = bytes.len() as u64;
+            let held = Held {
+                file,
+                start,
+                length,
+            };
+            assert_eq!(pair.locate_range(end - length, end), Ok(held));
+        }
+    }
+    for (start, end) in [(0, u64::MAX), (u64::MAX, u64::MAX), (u64::MAX, 0)] {
+        assert_eq!(pair.range(start, end).unwrap_err().number, 24);
+    }
+    // Uncopied, also where there is nothing to copy.
+    let seam = pair.range(32, 32).unwrap();
+    assert_eq!(seam.as_ptr(), data.as_ptr());
+    assert_eq!(pair.range(37, 37).unwrap().as_ptr(), data[5..].as_ptr());
+    assert_eq!(pair.range(31, 32).unwrap().as_ptr(), index[31..].as_ptr());
+}
+
+/// The chunks of a sound pair are parts of its data file.
+#[test]
+fn chunks_of_a_pair() {
+    let file = second([5, 53], &[5, 6, 0, 0, 2, 3]);
+    let (index, data) = file.split_at(32);
+    let pair = Pair::open(TWO, 0, index, data);
+    assert_eq!((pair.index(), pair.data()), (index, data));
+    assert_eq!((pair.sharding(), pair.number()), (TWO, 0));
+    let all = |chunks: Result<coronagamba::Chunks<'_>, Refusal>| -> Vec<_> {
+        let of_chunk = |chunk: coronagamba::Chunk| (chunk.id, chunk.span, chunk.bytes.as_ptr());
+        chunks.unwrap().map(of_chunk).collect()
+    };
+    // The files lie one behind the other here, so that the places are the same.
+    assert_eq!(all(pair.chunks()), all(Shard::open(TWO, 0, &file).chunks()));
+    assert_eq!(pair.chunk(11), Ok(&b"cde"[..]));
+    assert_eq!(pair.settled(Unlisted::Refuse), Ok(file.clone()));
+    let mut out = [7; 86];
+    assert_eq!(pair.settle(Unlisted::Refuse, &mut out), Ok(85));
+    assert_eq!((&out[..85], out[85]), (&file[..], 7));
+}
+
 #[test]
 fn the_untouched_shard_and_manifest_are_sound() {
     let sound = second([5, 53], &[5, 6, 0, 0, 2, 3]);
@@ -264,6 +404,7 @@ fn values_go_between_threads() {
     is_shared::<Refusal>();
     is_shared::<Card>();
     is_shared::<Shard>();
+    is_shared::<Pair>();
     is_shared::<coronagamba::Chunks>();
     is_shared::<Manifest>();
     is_shared::<coronagamba::manifest::Nodes>();

@@ -1,6 +1,6 @@
 //! How much stack a call needs: what the header says is enough.
 
-use coronagamba::{Bounds, Card, Manifest, Shard, Sharding, Unlisted, Volume};
+use coronagamba::{Bounds, Card, Manifest, Pair, Shard, Sharding, Unlisted, Volume};
 use std::thread;
 
 /// The bytes that coronagamba.h names; the thread's own needs come out of them
@@ -75,6 +75,12 @@ fn judging_calls(chunks: u64) {
     assert_eq!(shard.listed_count(0), Ok(chunks));
     let form = shard.settled(Unlisted::Drop).expect("the shard is sound");
     assert!(form != file && form.len() == file.len());
+    let (index, data) = file.split_at(16);
+    let pair = Pair::open(sharding, 0, index, data);
+    assert_eq!(pair.check(), Ok(()));
+    assert_eq!(pair.chunk(1), Ok(&[][..]));
+    assert_eq!(pair.listed_count(0), Ok(chunks));
+    assert_eq!(pair.settled(Unlisted::Drop), Ok(form));
 }
 
 /// The calls that read a shard, of a small one.
@@ -87,6 +93,13 @@ fn shard_calls() {
     assert_eq!(shard.chunk(id), Ok(&b"ab"[..]));
     assert_eq!(shard.listing(0).map(|listed| listed.len()), Ok(1));
     assert!(shard.settled(Unlisted::Drop).is_ok_and(|form| form == file));
+    let (index, data) = file.split_at(32);
+    let pair = Pair::open(SHARDING, 0, index, data);
+    assert_eq!(pair.check(), Ok(()));
+    assert_eq!(pair.chunk(id), Ok(&b"ab"[..]));
+    assert_eq!(pair.listing(0).map(|listed| listed.len()), Ok(1));
+    assert!(pair.settled(Unlisted::Drop).is_ok_and(|form| form == file));
+    assert_eq!(pair.range(32, 34), Ok(&b"ab"[..]));
 }
 
 /// The calls that read a mesh shard, of one whose 1,000 ids fall.
@@ -113,6 +126,11 @@ fn mesh_calls() {
     assert_eq!(shard.fragment(1, 0, 0), Ok(&b"---------"[..]));
     let form = shard.settled(Unlisted::Drop).expect("the shard is sound");
     assert!(form != file && form.len() == file.len());
+    let (index, data) = file.split_at(16);
+    let pair = Pair::open(mesh, 0, index, data);
+    assert_eq!(pair.check(), Ok(()));
+    assert_eq!(pair.fragment(1, 0, 0), Ok(&b"---------"[..]));
+    assert_eq!(pair.settled(Unlisted::Drop), Ok(form));
 }
 
 /// A mesh shard of 1 GiB with one byte that nothing lists, the last. Its first
@@ -150,6 +168,11 @@ fn counting_calls(sharding: Sharding, file: &[u8], unlisted: u64) {
     let expected = if unlisted > 0 { 22 } else { 13 };
     assert_eq!(length.is_err(), unlisted > 0);
     assert_eq!(settled.unwrap_err().number, expected);
+    let (index, data) = file.split_at(16);
+    let pair = Pair::open(sharding, 0, index, data);
+    assert_eq!(pair.unlisted(), Ok(unlisted));
+    assert_eq!(pair.settled_length(Unlisted::Refuse), length);
+    assert_eq!(pair.settle(Unlisted::Refuse, &mut []), settled);
 }
 
 /// A call of each kind but those. One that passes the stack ends the program.
@@ -168,6 +191,7 @@ fn calls() {
     };
     assert_eq!(whole.cover(middle, 8).map(|keys| keys.len()), Ok(8));
     assert!(SHARDING.places(&[1, 2, 3]).is_ok() && SHARDING.shard_name(0).is_ok());
+    assert!(SHARDING.index_name(0).is_ok() && SHARDING.data_name(0).is_ok());
     let card = Card {
         sharding: SHARDING,
         volume,

@@ -8,6 +8,7 @@ use std::path::{Path, PathBuf};
 use coronagamba::Refusal;
 
 use crate::diagnosis::Diagnosis;
+use crate::edition::Unclear;
 use crate::files::MOST_BYTES;
 use crate::report::shown;
 
@@ -117,6 +118,13 @@ pub enum Fault {
         /// What is the matter with it.
         fault: Box<Fault>,
     },
+    /// The files of a shard do not say which bytes are its own.
+    Unclear {
+        /// A file of it that is there.
+        path: PathBuf,
+        /// Why.
+        unclear: Unclear,
+    },
     /// The operating system's error.
     System {
         /// The file or folder.
@@ -163,7 +171,7 @@ impl Fault {
     /// The exit status that goes with it.
     pub fn status(&self) -> Status {
         match self {
-            Fault::Refused(_) => Status::No,
+            Fault::Refused(_) | Fault::Unclear { .. } => Status::No,
             Fault::Use { .. } => Status::Use,
             Fault::Settings { fault, .. } => fault.status(),
             Fault::System { .. } | Fault::ClosedPipe | Fault::Unwritten { .. } => Status::System,
@@ -193,6 +201,7 @@ impl fmt::Display for Fault {
             Fault::Refused(refused) => refused.fmt(f),
             Fault::Use { message } => f.write_str(message),
             Fault::Settings { fault, .. } => fault.fmt(f),
+            Fault::Unclear { path, unclear } => write!(f, "{}: {unclear}", shown(path)),
             Fault::System { path, done, error } => {
                 write!(f, "{}: cannot be {done}: {error}", shown(path))
             }

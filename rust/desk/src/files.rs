@@ -24,21 +24,26 @@ pub fn read_whole(path: &Path) -> Result<Vec<u8>, Fault> {
 /// Reads a file into a buffer, in place of what it held. A buffer that is used
 /// again spares the system from clearing new pages for each file.
 pub fn read_into(path: &Path, bytes: &mut Vec<u8>) -> Result<(), Fault> {
+    read_front(path, bytes, MOST_BYTES)
+}
+
+/// The same of the front of a file, at most so many bytes.
+pub fn read_front(path: &Path, bytes: &mut Vec<u8>, most: u64) -> Result<(), Fault> {
     bytes.clear();
-    fill(path, bytes).map_err(|error| Fault::system(path, "read", error))
+    fill(path, bytes, most).map_err(|error| Fault::system(path, "read", error))
 }
 
 /// Appends what can be read. The length that the file tells is only a first
 /// request for memory: the file may grow or shrink meanwhile, and a pipe tells
 /// none.
-fn fill(path: &Path, bytes: &mut Vec<u8>) -> io::Result<()> {
+fn fill(path: &Path, bytes: &mut Vec<u8>, most: u64) -> io::Result<()> {
     let file = File::open(path)?;
     let about = file.metadata()?;
     if about.is_dir() {
         return Err(io::ErrorKind::IsADirectory.into());
     }
-    reserve(bytes, about.len().min(MOST_BYTES) as usize)?;
-    file.take(MOST_BYTES).read_to_end(bytes)?;
+    reserve(bytes, about.len().min(most) as usize)?;
+    file.take(most).read_to_end(bytes)?;
     Ok(())
 }
 

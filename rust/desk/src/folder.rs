@@ -1,30 +1,44 @@
 //! The shards of a folder.
 
-use std::collections::BTreeSet;
-use std::ffi::OsString;
+use std::collections::{BTreeMap, BTreeSet};
+use std::ffi::{OsStr, OsString};
 use std::fs::{self, DirEntry};
 use std::io;
-use std::path::{Path, PathBuf};
+use std::path::Path;
 
-use coronagamba::Sharding;
+use coronagamba::{Refusal, Sharding};
 
 use crate::args::Args;
+use crate::edition::{Source, Unclear};
 use crate::fault::Fault;
-use crate::naming::{ends_as_shard, shard_number};
+use crate::files::is_missing;
+use crate::naming::{shard_number, unnumbered, Ending};
+use crate::report::shown;
 
-/// A file that is to be read as a shard.
+/// A shard that is to be read.
 #[derive(Debug)]
 pub struct Input {
-    /// Where it is.
-    pub path: PathBuf,
-    /// Its shard number, or why it is not read.
+    /// Its files.
+    pub source: Source,
+    /// Its number, or why it is not read.
     pub number: Result<u64, Trouble>,
 }
 
-/// Why a file is not read as a shard.
+impl Input {
+    /// Its files and its number, where it is to be read.
+    pub fn known(self, sharding: &Sharding) -> Result<(Source, u64), Fault> {
+        match self.number {
+            Ok(number) => Ok((self.source, number)),
+            Err(Trouble::Misnamed { .. }) => Err(unnumbered(sharding, &self.source.path)),
+            Err(Trouble::Fault(fault)) => Err(fault),
+        }
+    }
+}
+
+/// Why a shard is not read.
 #[derive(Debug)]
 pub enum Trouble {
-    /// Its name is that of no shard under the sharding.
+    /// The name of its file is that of no shard under the sharding.
     Misnamed {
         /// Whether it was named by itself, so that `--shard` could have given
         /// its number.
@@ -37,7 +51,8 @@ pub enum Trouble {
 /// What a folder holds.
 #[derive(Debug, Default)]
 pub struct Listing {
-    /// Its files whose names end as those of shards do, in name order.
+    /// Its files whose names end as those of shards do, in name order, the two
+    /// of a pair as one.
     pub shards: Vec<Input>,
     /// How many other files it has.
     pub others: u64,
@@ -46,10 +61,10 @@ pub struct Listing {
 }
 
 impl Listing {
-    /// The numbers of those files that have the name of a shard, whether they
-    /// can be read or not.
+    /// The numbers of those that have the name of a shard, whether they can be
+    /// read or not.
     pub fn numbers(&self, sharding: &Sharding) -> BTreeSet<u64> {
-        let number = |input: &Input| shard_number(sharding, input.path.file_name()?);
+        let number = |input: &Input| shard_number(sharding, input.source.path.file_name()?);
         self.shards.iter().filter_map(number).collect()
     }
 
@@ -57,7 +72,7 @@ impl Listing {
     pub fn inputs(self, folder: &Path) -> Vec<Input> {
         let mut inputs = self.shards;
         inputs.extend(self.broken.map(|fault| Input {
-            path: folder.to_path_buf(),
+            source: Source::file(folder),
             number: Err(Trouble::Fault(fault)),
         }));
         inputs
@@ -69,8 +84,8 @@ pub fn is_folder(path: &Path) -> bool {
     fs::metadata(path).is_ok_and(|about| about.is_dir())
 }
 
-/// A file that was named by itself: what `--shard` says, else what its name
-/// says. It may be a pipe.
+/// A shard whose file, or one file of whose pair, was named by itself: what
+/// `--shard` says, else what the name says. A file may be a pipe.
 pub fn single(args: &Args, sharding: &Sharding, path: &Path) -> Input {
     let number = match (fs::metadata(path), args.number("--shard")) {
         (Err(error), _) => Err(Trouble::Fault(Fault::system(path, "read", error))),
@@ -79,50 +94,168 @@ pub fn single(args: &Args, sharding: &Sharding, path: &Path) -> Input {
         (_, Ok(None)) => shard_number(sharding, path.file_name().unwrap_or_default())
             .ok_or(Trouble::Misnamed { alone: true }),
     };
+    let source = of_file(path);
+    let missing = source.paths().find(|half| is_missing(half));
+    match (number, missing) {
+        (Ok(_), Some(missing)) => unclear(path, half(path, missing)),
+        (number, _) => Input { source, number },
+    }
+}
+
+/// Whether neither `--shard` nor the name of a file says which shard it is.
+pub fn is_unnumbered(args: &Args, sharding: &Sharding, path: &Path) -> bool {
+    let name = path.file_name().unwrap_or_default();
+    !args.flag("--shard") && shard_number(sharding, name).is_none()
+}
+
+/// The files of a shard, of which this is one: the other of a pair stands beside
+/// it.
+fn of_file(path: &Path) -> Source {
+    match Ending::of(path.file_name().unwrap_or_default()) {
+        Some((stem, Ending::Index | Ending::Data)) => {
+            let beside = |ending: Ending| path.with_file_name(ending.behind(stem));
+            Source::pair(beside(Ending::Index), beside(Ending::Data))
+        }
+        _ => Source::file(path),
+    }
+}
+
+/// The pair of which this is a file.
+pub fn pair(path: &Path) -> Result<Source, Fault> {
+    fs::metadata(path).map_err(|error| Fault::system(path, "read", error))?;
+    let source = of_file(path);
+    if source.data.is_none() {
+        return Err(Fault::wrong_use(format!(
+            "{}: is no file of a pair, whose names end in .index and .data",
+            shown(path)
+        )));
+    }
+    if let Some(missing) = source.paths().find(|half| is_missing(half)) {
+        return Err(half(path, missing));
+    }
+    Ok(source)
+}
+
+/// Half a pair is missing.
+fn half(there: &Path, missing: &Path) -> Fault {
+    let missing = missing.file_name().unwrap_or_default().to_os_string();
+    Fault::Unclear {
+        path: there.to_path_buf(),
+        unclear: Unclear::Half(missing),
+    }
+}
+
+/// A shard whose files do not say which bytes are its own.
+fn unclear(path: &Path, fault: Fault) -> Input {
     Input {
-        path: path.to_path_buf(),
-        number,
+        source: Source::file(path),
+        number: Err(Trouble::Fault(fault)),
     }
 }
 
 /// The shards of a folder, not those of its subfolders.
 pub fn list(sharding: &Sharding, folder: &Path) -> Listing {
     let (names, others, ended) = names(folder);
-    let entry = |name| entry(sharding, folder, name);
+    let inputs = |(stem, endings): (&OsString, _)| inputs(sharding, folder, stem, endings);
+    let mut shards: Vec<Input> = names.iter().flat_map(inputs).collect();
+    shards.sort_by(|one, other| one.source.cmp(&other.source));
     let broken = ended.err();
     Listing {
-        shards: names.into_iter().map(entry).collect(),
+        shards,
         others,
         broken: broken.map(|error| Fault::system(folder, "listed", error)),
     }
 }
 
-/// The names of shards in order, the number of other files, and whether the
-/// folder could be listed to its end.
-fn names(folder: &Path) -> (Vec<OsString>, u64, io::Result<()>) {
-    let (mut names, mut others) = (Vec::new(), 0);
+/// The shard of this number in a folder; `None` where no file has its name.
+pub fn find(sharding: &Sharding, folder: &Path, number: u64) -> Result<Option<Input>, Refusal> {
+    let name = OsString::from(sharding.shard_name(number)?);
+    let stem = Ending::of(&name).map_or(OsStr::new(""), |(stem, _)| stem);
+    let there = |ending: &Ending| !is_missing(&folder.join(ending.behind(stem)));
+    let endings = Ending::ALL.into_iter().filter(there).collect();
+    Ok(inputs(sharding, folder, stem, &endings).pop())
+}
+
+/// Names of shards' files: what stands before the ending, and which endings there
+/// are.
+type Names = BTreeMap<OsString, BTreeSet<Ending>>;
+
+/// The names of shards, the number of other files, and whether the folder could be
+/// listed to its end.
+fn names(folder: &Path) -> (Names, u64, io::Result<()>) {
+    let (mut names, mut others) = (Names::new(), 0);
     let mut note = |entry: DirEntry| {
-        if ends_as_shard(&entry.file_name()) {
-            names.push(entry.file_name());
+        if let Some((stem, ending)) = Ending::in_folder(&entry.file_name()) {
+            names.entry(stem.to_os_string()).or_default().insert(ending);
         } else if !entry.file_type().is_ok_and(|kind| kind.is_dir()) {
             others += 1;
         }
     };
     let ended = fs::read_dir(folder)
         .and_then(|mut entries| entries.try_for_each(|entry| entry.map(&mut note)));
-    names.sort_unstable();
     (names, others, ended)
 }
 
+/// What a folder's files of one name are: a shard of either edition, or one that
+/// has no clear edition, or misnamed files.
+fn inputs(
+    sharding: &Sharding,
+    folder: &Path,
+    stem: &OsStr,
+    endings: &BTreeSet<Ending>,
+) -> Vec<Input> {
+    let path = |ending: Ending| folder.join(ending.behind(stem));
+    let is_named = shard_number(sharding, &Ending::Shard.behind(stem)).is_some();
+    let file = || entry(sharding, Source::file(&path(Ending::Shard)));
+    let there: Vec<Ending> = endings.iter().copied().collect();
+    match there[..] {
+        [] => Vec::new(),
+        [Ending::Shard] => vec![file()],
+        [Ending::Shard, ref pair @ ..] if is_named => {
+            let names = pair.iter().map(|ending| ending.behind(stem)).collect();
+            let path = path(Ending::Shard);
+            let both = Fault::Unclear {
+                unclear: Unclear::Both(Ending::Shard.behind(stem), names),
+                path: path.clone(),
+            };
+            vec![unclear(&path, both)]
+        }
+        [Ending::Shard, ref pair @ ..] => {
+            let pair = BTreeSet::from_iter(pair.iter().copied());
+            let mut all = inputs(sharding, folder, stem, &pair);
+            all.push(file());
+            all
+        }
+        [Ending::Index, Ending::Data] => {
+            let pair = Source::pair(path(Ending::Index), path(Ending::Data));
+            vec![entry(sharding, pair)]
+        }
+        [one, ..] if is_named => {
+            let other = if one == Ending::Data {
+                Ending::Index
+            } else {
+                Ending::Data
+            };
+            let there = path(one);
+            vec![unclear(&there, half(&there, &path(other)))]
+        }
+        [one, ..] => vec![entry(sharding, Source::file(&path(one)))],
+    }
+}
+
 /// One of a folder's shards. Only files are read: a pipe would be waited for.
-pub fn entry(sharding: &Sharding, folder: &Path, name: OsString) -> Input {
-    let path = folder.join(&name);
-    let number = match fs::metadata(&path) {
-        Err(error) => Err(Trouble::Fault(Fault::system(&path, "read", error))),
-        Ok(about) if !about.is_file() => Err(Trouble::Fault(no_file(&path))),
-        Ok(_) => shard_number(sharding, &name).ok_or(Trouble::Misnamed { alone: false }),
+fn entry(sharding: &Sharding, source: Source) -> Input {
+    let unread = |path: &Path| match fs::metadata(path) {
+        Err(error) => Some(Fault::system(path, "read", error)),
+        Ok(about) if !about.is_file() => Some(no_file(path)),
+        Ok(_) => None,
     };
-    Input { path, number }
+    let number = match source.paths().find_map(unread) {
+        Some(fault) => Err(Trouble::Fault(fault)),
+        None => shard_number(sharding, source.path.file_name().unwrap_or_default())
+            .ok_or(Trouble::Misnamed { alone: false }),
+    };
+    Input { source, number }
 }
 
 fn no_file(path: &Path) -> Fault {
@@ -146,17 +279,19 @@ mod tests {
         kind: Sharding::VOLUME,
     };
 
-    /// Name and number of each shard; 'misnamed' and 'fault' stand for what
-    /// they say.
+    /// Name and number of each shard; 'misnamed', 'unclear' and 'fault' stand for
+    /// what they say.
     fn listed(folder: &Folder) -> (Vec<(OsString, String)>, u64) {
         let listing = list(&SHARDING, folder.path());
         let told = |input: &Input| {
             let number = match &input.number {
                 Ok(number) => number.to_string(),
                 Err(Trouble::Misnamed { .. }) => "misnamed".into(),
+                Err(Trouble::Fault(Fault::Unclear { .. })) => "unclear".into(),
                 Err(Trouble::Fault(_)) => "fault".into(),
             };
-            (input.path.file_name().unwrap().to_os_string(), number)
+            let name = input.source.path.file_name().unwrap();
+            (name.to_os_string(), number)
         };
         (listing.shards.iter().map(told).collect(), listing.others)
     }
@@ -200,6 +335,93 @@ mod tests {
     }
 
     #[test]
+    fn pairs_are_one_shard_each() {
+        let folder = Folder::new("folder-pairs");
+        for name in ["0a.index", "0a.data", "1f.data", "1f.index", "02.shard"] {
+            folder.write(name, b"");
+        }
+        // Neither half of a pair nor of another edition is guessed.
+        for name in ["03.index", "04.data", "05.shard", "05.index", "05.data"] {
+            folder.write(name, b"");
+        }
+        folder.write("06.shard", b"");
+        folder.write("06.data", b"");
+        // Under other names: a pair, half a pair, and a shard beside half a pair.
+        for name in ["A.index", "A.data", "b.data", "c.index", "c.shard"] {
+            folder.write(name, b"");
+        }
+        // Other files.
+        for name in ["notes.data", "book.index", ".data"] {
+            folder.write(name, b"");
+        }
+        fs::create_dir(folder.at("07.index")).unwrap();
+        folder.write("07.data", b"");
+        let shards = [
+            ("02.shard", "2"),
+            ("03.index", "unclear"),
+            ("04.data", "unclear"),
+            ("05.shard", "unclear"),
+            ("06.shard", "unclear"),
+            ("07.index", "fault"),
+            ("0a.index", "10"),
+            ("1f.index", "31"),
+            ("A.index", "misnamed"),
+            ("b.data", "misnamed"),
+            ("c.index", "misnamed"),
+            ("c.shard", "misnamed"),
+        ];
+        let shards = shards.map(|(name, number)| (name.into(), number.into()));
+        assert_eq!(listed(&folder), (shards.to_vec(), 3));
+        let listing = list(&SHARDING, folder.path());
+        let numbers = [2, 3, 4, 5, 6, 7, 10, 31];
+        assert!(listing.numbers(&SHARDING).into_iter().eq(numbers));
+        // Each by itself.
+        for (number, name) in [
+            (2, "02.shard"),
+            (3, "03.index"),
+            (6, "06.shard"),
+            (10, "0a.index"),
+        ] {
+            let found = find(&SHARDING, folder.path(), number).unwrap().unwrap();
+            let listed = |input: &&Input| input.source.path == folder.at(name);
+            let listed = listing.shards.iter().find(listed).unwrap();
+            assert_eq!(found.source, listed.source);
+            assert_eq!(found.number.ok(), listed.number.as_ref().ok().copied());
+        }
+        assert!(find(&SHARDING, folder.path(), 8).unwrap().is_none());
+        assert_eq!(find(&SHARDING, folder.path(), 32).unwrap_err().number, 5);
+    }
+
+    #[test]
+    fn what_is_unclear_is_told() {
+        let folder = Folder::new("folder-unclear");
+        let told = |number| {
+            let input = find(&SHARDING, folder.path(), number).unwrap().unwrap();
+            let Err(Trouble::Fault(fault)) = input.number else {
+                panic!("it is unclear");
+            };
+            assert_eq!(fault.status() as u8, 1);
+            let text = fault.to_string();
+            let (_, text) = text.rsplit_once('/').unwrap();
+            text.to_string()
+        };
+        folder.write("03.index", b"");
+        assert_eq!(told(3), "03.index: half a pair, 03.data is missing");
+        folder.write("04.data", b"");
+        assert_eq!(told(4), "04.data: half a pair, 04.index is missing");
+        folder.write("04.shard", b"");
+        assert_eq!(
+            told(4),
+            "04.shard: there in both editions, 04.shard and 04.data; neither is read"
+        );
+        folder.write("04.index", b"");
+        assert_eq!(
+            told(4),
+            "04.shard: there in both editions, 04.shard and 04.index with 04.data; neither is read"
+        );
+    }
+
+    #[test]
     fn a_folder_that_cannot_be_listed_is_told() {
         let folder = Folder::new("folder-not");
         let none = folder.at("none");
@@ -207,7 +429,7 @@ mod tests {
         let [input] = &inputs[..] else {
             panic!("one input");
         };
-        assert_eq!(input.path, none);
+        assert_eq!(input.source.path, none);
         assert!(matches!(&input.number, Err(Trouble::Fault(fault)) if fault.status() as u8 == 3));
     }
 }

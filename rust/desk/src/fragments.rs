@@ -5,6 +5,8 @@
 use coronagamba::manifest::{Nodes, Visit};
 use coronagamba::{Manifest, Span};
 
+use crate::edition::Bytes;
+
 /// The fragments of one manifest.
 pub struct Fragments<'a> {
     manifest: Manifest<'a>,
@@ -12,15 +14,15 @@ pub struct Fragments<'a> {
 }
 
 impl<'a> Fragments<'a> {
-    /// Those of the manifest at this place of a file, which a sound minishard
+    /// Those of the manifest at this place of a shard, which a sound minishard
     /// lists.
-    pub fn of(file: &'a [u8], Span { start, length }: Span) -> Self {
-        let manifest = Manifest::open(&file[start as usize..][..length as usize]);
+    pub fn of(shard: impl Into<Bytes<'a>>, span: Span) -> Self {
+        let manifest = Manifest::open(shard.into().part(span));
         let length = length_of(&manifest).expect("a listed manifest is sound");
         Fragments {
             manifest,
             span: Span {
-                start: start - length,
+                start: span.start - length,
                 length,
             },
         }
@@ -52,7 +54,7 @@ pub struct Fragment {
     pub level: u32,
     /// The node's number in it.
     pub node: u32,
-    /// Where it is in the file.
+    /// Where it is in the shard.
     pub span: Span,
 }
 

@@ -70,6 +70,7 @@ shards
   same       do two shards or two deposits hold the same chunks?
   get        the bytes of one chunk, or of one fragment of a mesh
   list       all chunks of a shard with their places
+  range      bytes of a shard's two files of the earlier edition, as one file
 cells
   locate     the key, shard file and minishard of a cell
   cell       the cell of a key and its voxels
@@ -108,7 +109,11 @@ usage: coronagamba check PATH... [OPTIONS]
 PATH is a shard file, or a folder: then all of its files that end in .shard
 are checked, in name order, and the run goes on after a refused one. Other
 files are passed over and counted. Symbolic links to shard files are followed;
-subfolders are not gone through. Of a folder with at most 65536 possible
+subfolders are not gone through. A shard of the earlier edition is a pair, an
+index file N.index and a data file N.data: it is checked as the one file that
+the two make, told by the name of its index file, and either of the two may be
+given as PATH. Half a pair is told as such, and where a folder has a shard in
+both editions, neither is read. Of a folder with at most 65536 possible
 shards a line names those that are not there; that is no fault, since no chunk
 may belong to them. Who closes the output, as 'head' does, ends the run.
 
@@ -125,12 +130,14 @@ options:
     "  --jobs N            how many shards are checked at once; all cores otherwise\n",
     json!(),
     "
-exit status: 0 all are sound; 1 one is refused or has no shard's name, or a
-folder has no shards; 2 wrong use; 3 one cannot be read.
+exit status: 0 all are sound; 1 one is refused or has no shard's name, half a
+pair or both editions of one are there, or a folder has no shards; 2 wrong use;
+3 one cannot be read.
 
 example:
   coronagamba check demo/copy-a --card demo/deposit.card
   coronagamba check demo/damaged --card demo/deposit.card
+  coronagamba check demo/pairs demo/pairs/5.index --card demo/deposit.card
   coronagamba check demo/mesh-b --card demo/mesh.card
   coronagamba check demo/copy-b --unlisted --card demo/deposit.card
 ",
@@ -154,7 +161,10 @@ usage: coronagamba settle FILE --out FILE2 [OPTIONS]
        coronagamba settle DIR --out DIR2 [OPTIONS]
 
 A folder's shards are settled into files of the same names; the run goes on
-after a refused one. An output is written beside its place and gets its name
+after a refused one. A pair of the earlier edition, N.index and N.data, is
+settled into one file, N.shard; either of the two may be given as FILE. Half a
+pair, and a shard that a folder has in both editions, is told and not settled.
+An output is written beside its place and gets its name
 only when it is whole. Inputs are never changed. A run that was stopped can
 be started again: what is already there with the same bytes is left. None of
 the inputs, the card or info file among them, is ever an output too, by
@@ -176,8 +186,9 @@ options:
     json!(),
     "
 exit status: 0 all are settled or already there; 1 one is refused or has no
-shard's name, or a folder has no shards; 2 wrong use, or an output exists
-with other bytes; 3 one cannot be read or written.
+shard's name, half a pair or both editions of one are there, or a folder has no
+shards; 2 wrong use, or an output exists with other bytes; 3 one cannot be read
+or written.
 
 example:
   coronagamba settle demo/copy-a --out settled --card demo/deposit.card
@@ -193,7 +204,9 @@ whatever layout and order.
 
 usage: coronagamba same PATH1 PATH2 [OPTIONS]
 
-Both are files or both are folders, of one sharding. Their settled forms are
+Both are files or both are folders, of one sharding. A pair of the earlier
+edition, N.index and N.data, is a shard like any other, whatever edition the
+other side has; either of its files may be given as PATH. Settled forms are
 compared byte for byte: for sound shards of one sharding and number these are
 equal exactly when the same ids list the same bytes, which is proved for this
 library. In a mesh the fragments count too. For each shard of either side a
@@ -201,9 +214,10 @@ line says same, different (with the first id that differs, in rising order,
 and how), refused, or on one side only; then one sentence answers for the
 whole. Bytes of a chunk or fragment are counted from 0. A sound shard that
 only one side has is a difference where it lists chunks, and none where it
-lists no chunk. Something that is refused, cannot be read or has no shard's
-name leaves the answer open, unless another shard differs: a misnamed file may
-be the shard that its side lacks. Bytes that nothing lists do not count.
+lists no chunk. Something that is refused, cannot be read, has no shard's
+name, is half a pair or is there in both editions leaves the answer open,
+unless another shard differs: a misnamed file may be the shard that its side
+lacks. Bytes that nothing lists do not count.
 Who closes the output, as 'head' does, ends the run.
 
 ",
@@ -221,6 +235,7 @@ cannot be read.
 
 example:
   coronagamba same demo/copy-a demo/copy-b --card demo/deposit.card
+  coronagamba same demo/copy-b demo/pairs --card demo/deposit.card
   coronagamba same demo/mesh-a demo/mesh-b --card demo/mesh.card
 ",
 );
@@ -236,11 +251,12 @@ usage: coronagamba get PATH ID [OPTIONS]
 
 PATH is a shard file, or the folder of a deposit: then the id's shard file is
 found by its name, and a deposit that has no such file has no such chunk,
-which is said. The id of a cell's chunk is the cell's key; --cell needs
-the volume beside the sharding. Only the id's own minishard is judged. An id
-that is not listed is refused with 12: the chunk is absent. The id of a mesh's
-chunk is the number of a net, and the chunk is its manifest; a level or node
-that the manifest does not have is refused with 18.
+which is said. A pair of the earlier edition is found likewise, and either of
+its files may be given as PATH. The id of a cell's chunk is the cell's key;
+--cell needs the volume beside the sharding. Only the id's own minishard is
+judged. An id that is not listed is refused with 12: the chunk is absent. The
+id of a mesh's chunk is the number of a net, and the chunk is its manifest; a
+level or node that the manifest does not have is refused with 18.
 
 ",
     sharding!(),
@@ -259,8 +275,8 @@ options:
     shard!(),
     "
 exit status: 0 the bytes are written; 1 refused or absent, or the deposit lacks
-the id's shard file; 2 wrong use, or the output exists; 3 a file cannot be
-read or written.
+the id's shard file, half its pair, or has both editions; 2 wrong use, or the
+output exists; 3 a file cannot be read or written.
 
 example:
   coronagamba get demo/copy-a --cell 1,2,1 --card demo/deposit.card
@@ -282,6 +298,10 @@ file's path stands before each header line. Minishards stand in number order,
 chunks as they are stored. A minishard with a fault ends the list of that file
 with a refusal. For a whole folder, give its files: DIR/*.shard
 
+A pair of the earlier edition is given by either of its files, N.index or
+N.data, and listed once. Places are counted from the first byte of the index
+file, as if the data file stood right behind it.
+
 In a mesh the chunks are manifests, and two more numbers tell where all their
 fragments start and how many bytes they have. With --fragments there is a line
 for each fragment instead: id, minishard, level, node, start and length.
@@ -297,11 +317,48 @@ options:
     shard!(),
     json!(),
     "
-exit status: 0 listed; 1 refused; 2 wrong use; 3 a file cannot be read.
+exit status: 0 listed; 1 refused, or half a pair; 2 wrong use; 3 a file cannot
+be read.
 
 example:
   coronagamba list demo/copy-a/5.shard --card demo/deposit.card
   coronagamba list demo/mesh-a/0.shard --fragments --card demo/mesh.card
+",
+);
+
+/// `range`.
+pub const RANGE: &str = concat!(
+    "\
+Writes bytes of a shard of the earlier edition, as if its index file and its
+data file were one.
+
+usage: coronagamba range PATH START END [OPTIONS]
+
+PATH is either file of the pair, N.index or N.data; the other stands beside it.
+The bytes from START up to END, END excluded, are counted from the first byte
+of the index file on, with the data file right behind it. They must lie in one
+of the two files: a range that crosses the seam, is reversed or passes the end
+is refused with 24. No minishard is judged, and no shard number is asked for;
+the index file must be exactly as long as the shard index, else it is 23.
+
+",
+    sharding!(),
+    kind!(),
+    "
+options:
+  --place             tell which file holds the bytes, from which of its bytes
+                      on, and how many they are, in place of writing them
+  --out FILE          write to a file, which appears only when it is whole;
+                      standard output otherwise
+  --force             overwrite an existing file
+  --json              with --place, a JSON object
+
+exit status: 0 the bytes are written, or their place is told; 1 refused, or half
+a pair; 2 wrong use, or the output exists; 3 a file cannot be read or written.
+
+example:
+  coronagamba range demo/pairs/5.index 32 64 --out bytes --card demo/deposit.card
+  coronagamba range demo/pairs/5.data 0 16 --place --card demo/deposit.card
 ",
 );
 
@@ -388,7 +445,8 @@ is written beside its place and gets its name only when it is whole; one that
 is there with the same bytes is left. A chunk that its shard does not list is
 'absent', one whose shard file DIR lacks has 'no shard'; neither is a fault.
 Only the minishards asked for are judged. A refused or unreadable one is told,
-and the run goes on. None of the inputs is ever an output.
+half a pair and both editions of one shard too, and the run goes on. None of
+the inputs is ever an output.
 
 ",
     sharding!(),
@@ -422,10 +480,10 @@ example:
 pub const NAME: &str = concat!(
     "\
 Tells the name of a chunk that is stored without shards, or the file name of
-a shard.
+a shard, or the names of its two files in the earlier edition.
 
 usage: coronagamba name X,Y,Z... [OPTIONS]
-       coronagamba name --shard N [OPTIONS]
+       coronagamba name --shard N [--pair] [OPTIONS]
 
 A line for each cell; that of a refused one is 'refused N', that of a word
 that is no cell is 'wrong', and standard error says why. Cells need the
@@ -438,6 +496,7 @@ volume, --shard needs the sharding.
     "
 options:
   --shard N           name the file of this shard
+  --pair              name its index file and its data file, a line each
 ",
     json!(),
     "
@@ -447,6 +506,7 @@ cell; 3 the settings cannot be read.
 example:
   coronagamba name 1,2,1 --card demo/deposit.card
   coronagamba name --shard 5 --card demo/deposit.card
+  coronagamba name --shard 5 --pair --card demo/deposit.card
 ",
 );
 
@@ -660,6 +720,8 @@ DIR must be missing or empty. It then has:
   copy-a          the shards of a volume, in settled form
   copy-b          the same chunks in another layout
   copy-c          the same chunks, listed in order of arrival
+  pairs           copy-c in the earlier edition, an index file and a data file
+                  for each shard
   damaged         a copy with damaged shards, one with another chunk, and one
                   missing
   murmur.card     the same volume under another hash

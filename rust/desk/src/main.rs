@@ -7,6 +7,7 @@ mod args;
 mod commands;
 mod diagnosis;
 mod difference;
+mod edition;
 mod explain;
 mod fault;
 mod files;

@@ -4,6 +4,8 @@ use std::fs;
 use std::io;
 use std::sync::{Condvar, Mutex, MutexGuard, PoisonError};
 
+use crate::edition::Loaded;
+
 /// Lets a shard begin only where the bytes of all shards under way stay
 /// within a limit. One is always let in, however long it is.
 pub struct Gate {
@@ -128,8 +130,8 @@ impl Drop for Share<'_> {
 /// The buffers of one worker. They are used again for the next shard: new
 /// memory costs more than reading the file into it.
 pub struct Room<'a> {
-    /// The shard file.
-    pub file: Vec<u8>,
+    /// The shard file, or both files of a pair.
+    pub file: Loaded,
     /// Its settled form.
     pub form: Vec<u8>,
     /// The settled form that it is compared with.
@@ -140,7 +142,8 @@ pub struct Room<'a> {
     share: Share<'a>,
 }
 
-/// Lengths of the file, the form and the other form.
+/// Lengths of the file, of a pair both files together, of the form and of the
+/// other form.
 pub type Lengths = [u64; 3];
 
 impl<'a> Room<'a> {
@@ -149,7 +152,7 @@ impl<'a> Room<'a> {
         Room {
             share: gate.share(),
             alone: false,
-            file: Vec::new(),
+            file: Loaded::default(),
             form: Vec::new(),
             other: Vec::new(),
         }
@@ -192,15 +195,17 @@ impl<'a> Room<'a> {
     }
 
     fn empty(&mut self) {
-        self.file = Vec::new();
+        self.file = Loaded::default();
         self.form = Vec::new();
         self.other = Vec::new();
     }
 
     /// What the buffers take once they have at least these lengths.
     fn with(&self, [file, form, other]: Lengths) -> u64 {
-        let longer = |buffer: &Vec<u8>, length: u64| length.max(buffer.capacity() as u64);
-        longer(&self.file, file) + longer(&self.form, form) + longer(&self.other, other)
+        let longer = |capacity: usize, length: u64| length.max(capacity as u64);
+        longer(self.file.capacity(), file)
+            + longer(self.form.capacity(), form)
+            + longer(self.other.capacity(), other)
     }
 }
 
@@ -296,7 +301,7 @@ mod tests {
         let mut room = Room::new(&gate);
         room.wait_for([10, 20, 0]);
         assert_eq!(gate.lock().held, 30);
-        room.file = Vec::with_capacity(60);
+        room.file = Loaded::with_capacity(60);
         assert!(room.may_have([5, 20, 0]));
         assert_eq!(gate.lock().held, 80);
         let mut neighbour = gate.share();
@@ -323,10 +328,10 @@ mod tests {
                         return false;
                     }
                     *taken += 1;
-                    room.file = Vec::with_capacity(10);
+                    room.file = Loaded::with_capacity(10);
                 }
                 thread::yield_now();
-                room.file = Vec::new();
+                room.file = Loaded::default();
                 *taken.lock().unwrap() -= 1;
                 true
             };

@@ -1,31 +1,82 @@
-//! From a shard file's name to its number. The format of names is the
-//! library's alone: a number is read, and the library's name of that number is
+//! From the name of a shard's file to its number. The format of names is the
+//! library's alone: a number is read, and the library's names of that number are
 //! compared.
 
-use std::ffi::OsStr;
+use std::ffi::{OsStr, OsString};
+use std::os::unix::ffi::OsStrExt;
 use std::path::Path;
 
 use coronagamba::{Cell, Refusal, Sharding, Volume};
 
-use crate::args::Args;
 use crate::fault::Fault;
 use crate::report::shown;
 
-/// The end of every shard file's name.
-pub const ENDING: &str = ".shard";
-
-/// Whether a file name ends as those of shards do.
-pub fn ends_as_shard(name: &OsStr) -> bool {
-    name.as_encoded_bytes().ends_with(ENDING.as_bytes())
+/// What a file is by the end of its name.
+#[derive(Clone, Copy, Debug, PartialEq, Eq, PartialOrd, Ord)]
+pub enum Ending {
+    /// A shard in one file.
+    Shard,
+    /// The index file of a pair.
+    Index,
+    /// The data file of a pair.
+    Data,
 }
 
-/// The number of the shard that has this file name under this sharding.
+impl Ending {
+    /// All of them.
+    pub const ALL: [Ending; 3] = [Ending::Shard, Ending::Index, Ending::Data];
+
+    /// The end of the name.
+    pub fn text(self) -> &'static str {
+        match self {
+            Ending::Shard => ".shard",
+            Ending::Index => ".index",
+            Ending::Data => ".data",
+        }
+    }
+
+    /// The name of a shard's file that ends so.
+    pub fn name(self, sharding: &Sharding, number: u64) -> Result<String, Refusal> {
+        match self {
+            Ending::Shard => sharding.shard_name(number),
+            Ending::Index => sharding.index_name(number),
+            Ending::Data => sharding.data_name(number),
+        }
+    }
+
+    /// The ending of a name, and what stands before it.
+    pub fn of(name: &OsStr) -> Option<(&OsStr, Ending)> {
+        Ending::ALL.into_iter().find_map(|ending| {
+            let stem = name.as_bytes().strip_suffix(ending.text().as_bytes())?;
+            Some((OsStr::from_bytes(stem), ending))
+        })
+    }
+
+    /// The same of a file in a folder. Other files may end as those of a pair do:
+    /// only hexadecimal digits before the ending make a name of a pair's file, be
+    /// it the right one or not.
+    pub fn in_folder(name: &OsStr) -> Option<(&OsStr, Ending)> {
+        let (stem, ending) = Ending::of(name)?;
+        let digits = stem.as_bytes();
+        let hexadecimal = !digits.is_empty() && digits.iter().all(u8::is_ascii_hexdigit);
+        (ending == Ending::Shard || hexadecimal).then_some((stem, ending))
+    }
+
+    /// A name with this ending.
+    pub fn behind(self, stem: &OsStr) -> OsString {
+        let mut name = stem.to_os_string();
+        name.push(self.text());
+        name
+    }
+}
+
+/// The number of the shard of which a file of this name is one, under this
+/// sharding.
 pub fn shard_number(sharding: &Sharding, name: &OsStr) -> Option<u64> {
-    let name = name.to_str()?;
-    let digits = name.strip_suffix(ENDING)?;
-    let number = u64::from_str_radix(digits, 16).ok()?;
-    let own = sharding.shard_name(number).ok()?;
-    (own == name).then_some(number)
+    let (stem, ending) = Ending::of(name)?;
+    let number = u64::from_str_radix(stem.to_str()?, 16).ok()?;
+    let own = ending.name(sharding, number).ok()?;
+    (name == own.as_str()).then_some(number)
 }
 
 /// The cell whose chunk has this name, stored without shards. The name begins
@@ -46,31 +97,22 @@ pub fn cell_of_chunk(volume: &Volume, name: &OsStr) -> Option<Cell> {
     (volume.chunk_name(cell).ok()? == name).then_some(cell)
 }
 
-/// The name of some shard, to show what names look like: that of shard 10, or
-/// of the last one where there are fewer.
-pub fn example(sharding: &Sharding) -> Result<String, Refusal> {
+/// The name of some shard's file, to show what names look like: that of shard 10,
+/// or of the last one where there are fewer.
+pub fn example(sharding: &Sharding, ending: Ending) -> Result<String, Refusal> {
     let last = (1u64 << sharding.shard_bits.min(63)) - 1;
-    sharding.shard_name(last.min(10))
+    ending.name(sharding, last.min(10))
 }
 
 /// What is said of a file whose name is that of no shard. The library refuses
 /// an example where the sharding is not allowed; settings are refused before.
-pub fn misnamed(sharding: &Sharding) -> String {
+pub fn misnamed(sharding: &Sharding, path: &Path) -> String {
     let what = "not the name of a shard under this sharding";
-    match example(sharding) {
+    let ending = Ending::of(path.file_name().unwrap_or_default());
+    match example(sharding, ending.map_or(Ending::Shard, |(_, ending)| ending)) {
         Ok(example) => format!("{what} (expected for example {example})"),
         Err(refusal) => format!("{what} ({refusal})"),
     }
-}
-
-/// The number of the shard in a file: what `--shard` says, else what the name
-/// says.
-pub fn number_of_file(args: &Args, sharding: &Sharding, path: &Path) -> Result<u64, Fault> {
-    if let Some(number) = args.number("--shard")? {
-        return Ok(number);
-    }
-    let name = path.file_name().unwrap_or_default();
-    shard_number(sharding, name).ok_or_else(|| unnumbered(sharding, path))
 }
 
 /// Neither the name nor an option says which shard this is.
@@ -78,14 +120,13 @@ pub fn unnumbered(sharding: &Sharding, path: &Path) -> Fault {
     Fault::wrong_use(format!(
         "{}: {}; give the shard's number with --shard N",
         shown(path),
-        misnamed(sharding)
+        misnamed(sharding, path)
     ))
 }
 
 #[cfg(test)]
 mod tests {
     use super::*;
-    use std::ffi::OsString;
     use std::os::unix::ffi::OsStringExt;
 
     fn sharding(shard_bits: u8) -> Sharding {
@@ -134,8 +175,40 @@ mod tests {
         assert_eq!(read(5, "20.shard"), None);
         let odd = OsString::from_vec(b"\xff.shard".to_vec());
         assert_eq!(shard_number(&sharding(4), &odd), None);
-        assert!(ends_as_shard(&odd));
-        assert!(!ends_as_shard(OsStr::new("a.shard.part")));
+    }
+
+    #[test]
+    fn names_of_pairs() {
+        assert_eq!(read(4, "a.index"), Some(10));
+        assert_eq!(read(5, "0a.data"), Some(10));
+        assert_eq!(read(32, "ffffffff.index"), Some(0xffff_ffff));
+        for name in ["0a.index", "A.data", ".index", "data", "10.data", "a.idx"] {
+            assert_eq!(read(4, name), None, "{name}");
+        }
+    }
+
+    #[test]
+    fn what_a_file_is_by_its_name() {
+        let of = |name| Ending::in_folder(OsStr::new(name)).map(|(_, ending)| ending);
+        for name in ["a.shard", "no number.shard", ".shard"] {
+            assert_eq!(of(name), Some(Ending::Shard), "{name}");
+        }
+        // The wrong name of a pair's file is known for what it is.
+        assert_eq!(of("0A.index"), Some(Ending::Index));
+        assert_eq!(of("ffffffffffffffffff.data"), Some(Ending::Data));
+        for name in [
+            "notes.data",
+            ".data",
+            "+a.index",
+            "a.shard.part",
+            "a.b.data",
+        ] {
+            assert_eq!(of(name), None, "{name}");
+        }
+        let odd = OsString::from_vec(b"\xff.shard".to_vec());
+        assert!(Ending::in_folder(&odd).is_some());
+        let (stem, _) = Ending::of(OsStr::new("notes.data")).unwrap();
+        assert_eq!(Ending::Index.behind(stem), "notes.index");
     }
 
     #[test]
@@ -178,10 +251,15 @@ mod tests {
 
     #[test]
     fn examples_are_names() {
-        assert_eq!(example(&sharding(5)).unwrap(), "0a.shard");
-        assert_eq!(example(&sharding(4)).unwrap(), "a.shard");
-        assert_eq!(example(&sharding(2)).unwrap(), "3.shard");
-        assert_eq!(example(&sharding(0)).unwrap(), "0.shard");
-        assert_eq!(example(&sharding(33)).unwrap_err().number, 1);
+        let example = |shard_bits| super::example(&sharding(shard_bits), Ending::Shard);
+        assert_eq!(example(5).unwrap(), "0a.shard");
+        assert_eq!(example(4).unwrap(), "a.shard");
+        assert_eq!(example(2).unwrap(), "3.shard");
+        assert_eq!(example(0).unwrap(), "0.shard");
+        assert_eq!(example(33).unwrap_err().number, 1);
+        let misnamed = |name| super::misnamed(&sharding(5), Path::new(name));
+        assert!(misnamed("d/a.index").ends_with("(expected for example 0a.index)"));
+        assert!(misnamed("d/a.data").ends_with("(expected for example 0a.data)"));
+        assert!(misnamed("d/a").ends_with("(expected for example 0a.shard)"));
     }
 }

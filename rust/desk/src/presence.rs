@@ -7,8 +7,9 @@ use std::path::{Path, PathBuf};
 use coronagamba::Sharding;
 
 use crate::fault::Fault;
-use crate::folder::Listing;
+use crate::folder::{Input, Listing};
 use crate::json::Object;
+use crate::naming::Ending;
 use crate::report::{shown, Report};
 
 /// Of more possible shards a deposit has but a few; then it says nothing that
@@ -23,7 +24,8 @@ pub struct Presence {
     folder: PathBuf,
     there: u64,
     possible: u64,
-    /// The names of those that are not there, in order.
+    /// The names of those that are not there, in order; where all others are
+    /// pairs, those of their index files.
     absent: Vec<String>,
 }
 
@@ -37,7 +39,12 @@ impl Presence {
             return None;
         }
         let absent = (0..possible).filter(|number| !there.contains(number));
-        let names = absent.map(|number| sharding.shard_name(number).ok());
+        let is_pair = |input: &Input| input.source.data.is_some();
+        let ending = match listing.shards.iter().all(is_pair) {
+            true => Ending::Index,
+            false => Ending::Shard,
+        };
+        let names = absent.map(|number| ending.name(sharding, number).ok());
         Some(Presence {
             folder: folder.to_path_buf(),
             there: there.len() as u64,

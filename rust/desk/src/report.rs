@@ -6,6 +6,7 @@ use std::io::{self, BufWriter, Stdout, Write};
 use std::path::Path;
 
 use crate::diagnosis::Diagnosis;
+use crate::edition::Unclear;
 use crate::fault::{Fault, Refused, Status, Subject};
 use crate::json::Object;
 
@@ -119,6 +120,9 @@ fn fault_object(fault: &Fault) -> Option<Object> {
     match fault {
         Fault::Refused(refused) => Some(refusal_object(refused)),
         Fault::Settings { kind, fault } => Some(fault_object(fault)?.text("subject", kind)),
+        Fault::Unclear { path, unclear } => {
+            Some(unclear_members(Object::new().path(path), unclear))
+        }
         Fault::System { path, .. } => Some(
             Object::new()
                 .path(path)
@@ -136,6 +140,13 @@ pub fn refusal_object(refused: &Refused) -> Object {
         Subject::Asked(asked) => Object::new().text("subject", asked),
     };
     refusal_members(object, refused)
+}
+
+/// An object that says behind its own members why it is not clear which bytes are
+/// a shard's.
+pub fn unclear_members(object: Object, unclear: &Unclear) -> Object {
+    let object = object.text("result", unclear.result());
+    object.text("error", &unclear.to_string())
 }
 
 /// An object with a refusal's members behind its own.

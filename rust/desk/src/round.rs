@@ -3,19 +3,19 @@
 
 use std::path::{Path, PathBuf};
 
-use coronagamba::{Refusal, Shard, Sharding};
+use coronagamba::{Refusal, Sharding};
 
 use crate::args::{value, Args, Opt};
 use crate::diagnosis;
+use crate::edition::{Bytes, Opened, Source, Unclear};
 use crate::fault::{Fault, Refused, Status};
-use crate::files::{length_to_read, read_into};
 use crate::folder::Trouble;
 use crate::json::Object;
 use crate::memory::{Gate, Room};
-use crate::naming;
+use crate::naming::{self, Ending};
 use crate::pool::{self, Audience};
 use crate::progress::Progress;
-use crate::report::{counted, shown, Report};
+use crate::report::{counted, shown, unclear_members, Report};
 
 /// The options of a round.
 pub const OPTIONS: &[Opt] = &[value("--shard"), value(JOBS)];
@@ -102,6 +102,8 @@ pub enum Verdict<T> {
         /// Whether it was named by itself.
         alone: bool,
     },
+    /// Its files do not say which bytes are its own.
+    Unclear(Unclear),
     /// It could not be read or written.
     Fault(Fault),
 }
@@ -111,6 +113,7 @@ impl<T> From<Result<T, Fault>> for Verdict<T> {
         match result {
             Ok(answer) => Verdict::Answer(answer),
             Err(Fault::Refused(refused)) => Verdict::Refused(refused),
+            Err(Fault::Unclear { unclear, .. }) => Verdict::Unclear(unclear),
             Err(fault) => Verdict::Fault(fault),
         }
     }
@@ -120,7 +123,7 @@ impl<T> From<Trouble> for Verdict<T> {
     fn from(trouble: Trouble) -> Self {
         match trouble {
             Trouble::Misnamed { alone } => Verdict::Misnamed { alone },
-            Trouble::Fault(fault) => Verdict::Fault(fault),
+            Trouble::Fault(fault) => Verdict::from(Err(fault)),
         }
     }
 }
@@ -146,6 +149,10 @@ pub struct Aside {
     pub failed: u64,
     /// They have the name of no shard.
     pub misnamed: u64,
+    /// Half a pair of them is missing.
+    pub halves: u64,
+    /// They are there in both editions.
+    pub both: u64,
 }
 
 impl Aside {
@@ -169,9 +176,19 @@ impl Aside {
                 self.misnamed += 1;
                 tell_misnamed(sharding, path, alone, object, report)?;
             }
+            Verdict::Unclear(unclear) => {
+                match unclear {
+                    Unclear::Half(_) => self.halves += 1,
+                    Unclear::Both(..) => self.both += 1,
+                }
+                tell_unclear(path, &unclear, object, report)?;
+            }
             Verdict::Fault(fault) => {
                 self.failed += 1;
                 let object = match &fault {
+                    Fault::System { path: other, .. } if is_data_of(path, other) => {
+                        object.named_path("data", other)
+                    }
                     Fault::System { path: out, .. } if out != path => object.named_path("out", out),
                     _ => object,
                 };
@@ -183,8 +200,36 @@ impl Aside {
 
     /// How many they are.
     pub fn total(&self) -> u64 {
-        self.refused + self.failed + self.misnamed
+        self.refused + self.failed + self.misnamed + self.halves + self.both
     }
+
+    /// Those without a name or without clear files, as a summary's line ends.
+    pub fn unclear_text(&self) -> String {
+        [
+            and(self.misnamed, "misnamed"),
+            and(self.halves, "with half a pair"),
+            and(self.both, "in both editions"),
+        ]
+        .concat()
+    }
+
+    /// The same numbers behind an object's members.
+    pub fn unclear_members(&self, object: Object) -> Object {
+        object
+            .number("misnamed", self.misnamed)
+            .number("half_pairs", self.halves)
+            .number("both_editions", self.both)
+    }
+}
+
+/// Whether a path is that of the data file beside this index file.
+fn is_data_of(index: &Path, path: &Path) -> bool {
+    let stem = |path: &Path, ending| match Ending::of(path.file_name()?) {
+        Some((stem, found)) if found == ending => Some(path.with_file_name(stem)),
+        _ => None,
+    };
+    let (index, data) = (stem(index, Ending::Index), stem(path, Ending::Data));
+    index.is_some() && index == data
 }
 
 /// Tells what kept a shard from its answer. With --json each shard has an
@@ -211,7 +256,7 @@ pub fn tell_misnamed(
     object: Object,
     report: &mut Report,
 ) -> Result<(), Fault> {
-    let text = naming::misnamed(sharding);
+    let text = naming::misnamed(sharding, path);
     if alone {
         report.complain(&naming::unnumbered(sharding, path))?;
     } else {
@@ -227,6 +272,21 @@ pub fn tell_misnamed(
     }
 }
 
+/// Tells of a shard whose files do not say which bytes are its own. With --json
+/// `object` begins its object.
+pub fn tell_unclear(
+    path: &Path,
+    unclear: &Unclear,
+    object: Object,
+    report: &mut Report,
+) -> Result<(), Fault> {
+    report.note(Status::No);
+    if report.json() {
+        return report.object(unclear_members(object, unclear));
+    }
+    report.line(format_args!("{}: {unclear}", shown(path)))
+}
+
 /// Tells of a folder in which there is no shard.
 pub fn tell_no_shards(folder: &Path, others: u64, report: &mut Report) -> Result<(), Fault> {
     report.note(Status::No);
@@ -235,7 +295,7 @@ pub fn tell_no_shards(folder: &Path, others: u64, report: &mut Report) -> Result
         report.object(object.number("other_files", others))
     } else {
         let text = format!(
-            "{}: no shards, no file's name ends in .shard",
+            "{}: no shards, no file's name ends in .shard, or as those of a pair do",
             shown(folder)
         );
         report.line(text + &passed_over(others))
@@ -263,10 +323,10 @@ pub fn refused(
     path: &Path,
     sharding: &Sharding,
     number: u64,
-    file: &[u8],
+    bytes: Bytes,
     refusal: Refusal,
 ) -> Fault {
-    let diagnosis = diagnosis::of_shard(sharding, number, file, refusal);
+    let diagnosis = diagnosis::of_shard(sharding, number, bytes, refusal);
     Refused::file(path, refusal, diagnosis).into()
 }
 
@@ -275,17 +335,18 @@ pub fn refused(
 pub fn check(
     sharding: &Sharding,
     number: u64,
-    path: &Path,
+    source: &Source,
     bits: bool,
     room: &mut Room,
 ) -> Result<u64, Fault> {
     let check = |room: &mut Room| {
-        let length = length_to_read(path);
+        let length = source.length_to_read();
         room.wait_for([length, u64::from(bits) * length.div_ceil(8), 0]);
-        read_into(path, &mut room.file)?;
-        let shard = Shard::open(*sharding, number, &room.file);
+        room.file.read(source)?;
+        let bytes = room.file.bytes();
+        let shard = bytes.open(sharding, number);
         let counted = shard.check().and_then(|()| chunk_count(sharding, &shard));
-        counted.map_err(|refusal| refused(path, sharding, number, &room.file, refusal))
+        counted.map_err(|refusal| refused(&source.path, sharding, number, bytes, refusal))
     };
     room.attempt(check, lacks_memory)
 }
@@ -296,7 +357,7 @@ pub fn lacks_memory<T>(answer: &Result<T, Fault>) -> bool {
 }
 
 /// How many chunks a shard lists, in all its minishards.
-pub fn chunk_count(sharding: &Sharding, shard: &Shard) -> Result<u64, Refusal> {
+pub fn chunk_count(sharding: &Sharding, shard: &Opened) -> Result<u64, Refusal> {
     let minishards = 0..1u64 << sharding.minishard_bits;
     minishards.map(|number| shard.listed_count(number)).sum()
 }

@@ -15,6 +15,7 @@ pub mod locate;
 pub mod manifest;
 pub mod murmur;
 pub mod names;
+pub mod pair;
 pub mod settle;
 pub mod shard;
 pub mod sharding;

@@ -1,5 +1,5 @@
-//! Names of unsharded chunks (source document 000) and of shard files
-//! (source document 002).
+//! Names of unsharded chunks (source document 000) and of shard files, also of
+//! the earlier edition's two (source document 002).
 
 use crate::endian::write_front;
 use crate::grid::{bounds_of, Cell, Volume};
@@ -19,19 +19,44 @@ pub fn write_chunk_name(volume: &Volume, cell: Cell, out: &mut [u8]) -> Result<u
     write_front(chunk_name(volume, cell)?.as_bytes(), out)
 }
 
-/// The file name of a shard, or 1, then 5.
-pub fn shard_name(sharding: &Sharding, shard: u64) -> Result<String, u8> {
+/// The number of a shard as its files' names have it, or 1, then 5.
+fn stem(sharding: &Sharding, shard: u64) -> Result<String, u8> {
     sharding.allowed()?;
     if shard >= sharding.shard_count() {
         return Err(5);
     }
     let digits = usize::from(sharding.shard_bits.div_ceil(4)).max(1);
-    Ok(format!("{shard:0digits$x}.shard"))
+    Ok(format!("{shard:0digits$x}"))
+}
+
+/// The file name of a shard, or 1, then 5.
+pub fn shard_name(sharding: &Sharding, shard: u64) -> Result<String, u8> {
+    stem(sharding, shard).map(|stem| stem + ".shard")
+}
+
+/// The name of its index file in the earlier edition, or 1, then 5.
+pub fn index_name(sharding: &Sharding, shard: u64) -> Result<String, u8> {
+    stem(sharding, shard).map(|stem| stem + ".index")
+}
+
+/// The name of its data file in the earlier edition, or 1, then 5.
+pub fn data_name(sharding: &Sharding, shard: u64) -> Result<String, u8> {
+    stem(sharding, shard).map(|stem| stem + ".data")
 }
 
 /// Writes the file name of a shard and gives its length, or 1, then 5, then 13.
 pub fn write_shard_name(sharding: &Sharding, shard: u64, out: &mut [u8]) -> Result<usize, u8> {
     write_front(shard_name(sharding, shard)?.as_bytes(), out)
+}
+
+/// Writes the name of its index file and gives its length, or 1, then 5, then 13.
+pub fn write_index_name(sharding: &Sharding, shard: u64, out: &mut [u8]) -> Result<usize, u8> {
+    write_front(index_name(sharding, shard)?.as_bytes(), out)
+}
+
+/// Writes the name of its data file and gives its length, or 1, then 5, then 13.
+pub fn write_data_name(sharding: &Sharding, shard: u64, out: &mut [u8]) -> Result<usize, u8> {
+    write_front(data_name(sharding, shard)?.as_bytes(), out)
 }
 
 #[cfg(test)]
@@ -71,6 +96,15 @@ mod tests {
         );
         assert_eq!(shard_name(&with_shard_bits(4), 16), Err(5));
         assert_eq!(shard_name(&with_shard_bits(33), u64::MAX), Err(1));
+    }
+
+    #[test]
+    fn names_of_the_earlier_edition() {
+        let sharding = with_shard_bits(5);
+        assert_eq!(index_name(&sharding, 10).unwrap(), "0a.index");
+        assert_eq!(data_name(&sharding, 10).unwrap(), "0a.data");
+        assert_eq!(index_name(&sharding, 32), Err(5));
+        assert_eq!(data_name(&with_shard_bits(33), 0), Err(1));
     }
 
     #[test]

@@ -6,6 +6,7 @@ pub mod info;
 pub mod manifest;
 pub mod mesh;
 pub mod names;
+pub mod pair;
 pub mod settle;
 pub mod shard;
 pub mod sharding;

@@ -337,6 +337,192 @@ extern "C" {
         length: *mut u64,
     ) -> u64;
 
+    /// coronagamba_check of a pair: whether it is sound, as one file. Writes nothing. The position
+    /// is that in the joined file.
+    ///
+    /// Refusals: 1, 5, 23, 6, 7 to 11, 15 to 17 (mesh), 21 (mesh) with the minishard and the
+    /// position
+    pub fn coronagamba_pair_check(
+        sharding: Sharding,
+        shard: u64,
+        index: *const u8,
+        count: usize,
+        data: *const u8,
+        data_count: usize,
+    ) -> u64;
+
+    /// coronagamba_lookup of a pair: where the chunk of an id lies. Writes where it begins, counted
+    /// from the index file's first byte, to `start`, and its number of bytes to `length`. A chunk
+    /// lies in the data file: there it begins as many bytes earlier as the index file has.
+    ///
+    /// Refusals: 1, 5, 23, 6, 7 to 11, 15 to 17 (mesh), 21 (mesh) of the id's minishard with the
+    /// position, 12
+    pub fn coronagamba_pair_lookup(
+        sharding: Sharding,
+        shard: u64,
+        index: *const u8,
+        count: usize,
+        data: *const u8,
+        data_count: usize,
+        id: u64,
+        start: *mut u64,
+        length: *mut u64,
+    ) -> u64;
+
+    /// coronagamba_fragment of a pair: where the fragment of a node lies, by the id of its
+    /// manifest, its level and its number. Writes where it begins, counted from the index file's
+    /// first byte, to `start`, and its number of bytes to `length`. A fragment lies in the data
+    /// file.
+    ///
+    /// Refusals: 1, 5, 23, 6, 7 to 11, 15 to 17 (mesh), 21 (mesh) of the id's minishard with the
+    /// position, 12, 18 also where the kind is volume
+    pub fn coronagamba_pair_fragment(
+        sharding: Sharding,
+        shard: u64,
+        index: *const u8,
+        count: usize,
+        data: *const u8,
+        data_count: usize,
+        id: u64,
+        level: u32,
+        node: u32,
+        start: *mut u64,
+        length: *mut u64,
+    ) -> u64;
+
+    /// coronagamba_listed_count of a pair: how many chunks a minishard lists. Writes the number to
+    /// `chunks`.
+    ///
+    /// Refusals: 1, 5 (also for a minishard that is not there), 23, 6, 7 to 11, 15 to 17 (mesh), 21
+    /// (mesh) of that minishard with the position
+    pub fn coronagamba_pair_listed_count(
+        sharding: Sharding,
+        shard: u64,
+        index: *const u8,
+        count: usize,
+        data: *const u8,
+        data_count: usize,
+        minishard: u64,
+        chunks: *mut u64,
+    ) -> u64;
+
+    /// coronagamba_listing of a pair: the chunks that a minishard lists, in stored order. Writes
+    /// three numbers for each to the front of `out`: id, start counted from the index file's first
+    /// byte, length in bytes. Writes how many numbers these are, three times what
+    /// coronagamba_pair_listed_count gives, to `length`.
+    ///
+    /// Refusals: 1, 5 (also for a minishard that is not there), 23, 6, 7 to 11, 15 to 17 (mesh), 21
+    /// (mesh) of that minishard with the position, 13 where `out` has room for fewer
+    pub fn coronagamba_pair_listing(
+        sharding: Sharding,
+        shard: u64,
+        index: *const u8,
+        count: usize,
+        data: *const u8,
+        data_count: usize,
+        minishard: u64,
+        out: *mut u64,
+        out_count: usize,
+        length: *mut u64,
+    ) -> u64;
+
+    /// coronagamba_unlisted of a pair: how many bytes are unlisted. Writes the number to `bytes`.
+    /// Takes as much stack as coronagamba_unlisted does.
+    ///
+    /// Refusals: 1, 5, 23, 6, 7 to 11, 15 to 17 (mesh), 21 (mesh) of the first faulty minishard
+    /// with the position
+    pub fn coronagamba_pair_unlisted(
+        sharding: Sharding,
+        shard: u64,
+        index: *const u8,
+        count: usize,
+        data: *const u8,
+        data_count: usize,
+        bytes: *mut u64,
+    ) -> u64;
+
+    /// coronagamba_settled_length of a pair: how many bytes its settled form has, which is one
+    /// file. Writes the number to `length`. A pair with unlisted bytes is refused unless
+    /// `drop_unlisted` is 1; no other number asks to drop them.
+    ///
+    /// Refusals: 1, 5, 23, 6, 7 to 11, 15 to 17 (mesh), 21 (mesh) of the first faulty minishard
+    /// with the position, 22 where bytes are unlisted and not dropped, 13 where the form would pass
+    /// 1 GiB
+    pub fn coronagamba_pair_settled_length(
+        sharding: Sharding,
+        shard: u64,
+        index: *const u8,
+        count: usize,
+        data: *const u8,
+        data_count: usize,
+        drop_unlisted: u8,
+        length: *mut u64,
+    ) -> u64;
+
+    /// coronagamba_settle of a pair: its settled form, which is one file. Writes it to the front of
+    /// `out`, which needs the room that coronagamba_pair_settled_length tells, and its number of
+    /// bytes to `length`. Unlisted bytes are lost: a pair with some is refused unless
+    /// `drop_unlisted` is 1; no other number asks to drop them.
+    ///
+    /// Refusals: 1, 5, 23, 6, 7 to 11, 15 to 17 (mesh), 21 (mesh) of the first faulty minishard
+    /// with the position, 22 where bytes are unlisted and not dropped, 13 where `out` is shorter
+    /// than the form or the form would pass 1 GiB
+    pub fn coronagamba_pair_settle(
+        sharding: Sharding,
+        shard: u64,
+        index: *const u8,
+        count: usize,
+        data: *const u8,
+        data_count: usize,
+        drop_unlisted: u8,
+        out: *mut u8,
+        out_count: usize,
+        length: *mut u64,
+    ) -> u64;
+
+    /// Where the bytes of the joined file from `start` up to `end`, end excluded, are. Writes which
+    /// file holds them to `file`: CORONAGAMBA_FILE_INDEX or CORONAGAMBA_FILE_DATA; an empty range
+    /// at the seam is the data file's. Writes where they begin, counted from that file's first
+    /// byte, to `place`, and their number to `length`. Judges no minishard and takes no shard
+    /// number.
+    ///
+    /// Refusals: 1, 23, 6, 24
+    pub fn coronagamba_pair_range(
+        sharding: Sharding,
+        index: *const u8,
+        count: usize,
+        data: *const u8,
+        data_count: usize,
+        start: u64,
+        end: u64,
+        file: *mut u32,
+        place: *mut u64,
+        length: *mut u64,
+    ) -> u64;
+
+    /// The name of a shard's index file. Writes its ASCII bytes, at most 14 and with no 0 byte
+    /// behind them, to the front of `out`, and their number to `length`.
+    ///
+    /// Refusals: 1, 5, 13 where `out` is shorter than the name
+    pub fn coronagamba_index_name(
+        sharding: Sharding,
+        shard: u64,
+        out: *mut u8,
+        count: usize,
+        length: *mut u64,
+    ) -> u64;
+
+    /// The name of its data file, at most 13 bytes, in the same way.
+    ///
+    /// Refusals: 1, 5, 13 where `out` is shorter than the name
+    pub fn coronagamba_data_name(
+        sharding: Sharding,
+        shard: u64,
+        out: *mut u8,
+        count: usize,
+        length: *mut u64,
+    ) -> u64;
+
     /// What a deposit card of these bytes says. Writes preshift, hash, minishard bits, shard bits
     /// and kind to `sharding`, and volume size, chunk size and voxel offset along x, y and z to
     /// `size`, `chunk` and `offset`. To use them in other calls, copy the numbers into the structs

@@ -156,6 +156,12 @@ fn sharding() -> Vec<Case<'static>> {
         1 => coronagamba_shard_name(FORBIDDEN, 0, lent.many(14), 14, lent.one());
         5 => coronagamba_shard_name(TWO, 1, lent.many(14), 14, lent.one());
         13 => coronagamba_shard_name(TWO, 0, lent.many(6), 6, lent.one());
+        1 => coronagamba_index_name(FORBIDDEN, 0, lent.many(14), 14, lent.one());
+        5 => coronagamba_index_name(TWO, 1, lent.many(14), 14, lent.one());
+        13 => coronagamba_index_name(TWO, 0, lent.many(6), 6, lent.one());
+        1 => coronagamba_data_name(FORBIDDEN, 0, lent.many(13), 13, lent.one());
+        5 => coronagamba_data_name(TWO, 1, lent.many(13), 13, lent.one());
+        13 => coronagamba_data_name(TWO, 0, lent.many(5), 5, lent.one());
     })
 }
 
@@ -285,6 +291,130 @@ fn on_unlisted_byte(file: &[u8]) -> Vec<Case<'_>> {
         22 => coronagamba_settle(TWO, 0, from, count, 2, lent.many(84), 84, lent.one());
         13 => coronagamba_settle(TWO, 0, from, count, 1, lent.many(84), 84, lent.one());
     })
+}
+
+/// The two files of a shard in the earlier edition.
+type Files<'a> = (&'a [u8], &'a [u8]);
+
+/// A specification, a shard number and two files that each call on a pair refuses
+/// with the word.
+struct FaultyPair {
+    word: u64,
+    sharding: Sharding,
+    shard: u64,
+    index: Vec<u8>,
+    data: Vec<u8>,
+}
+
+/// The faulty shards, cut behind their shard indexes. One that is shorter is an
+/// index file that is too short, and the joined file is too long where the data
+/// file is.
+fn faulty_pairs() -> Vec<FaultyPair> {
+    let cut = |(word, sharding, shard, file): Faulty| {
+        let (index, data) = file.split_at(file.len().min(32));
+        FaultyPair {
+            word: if word == 6 { 23 } else { word },
+            sharding,
+            shard,
+            index: index.to_vec(),
+            data: data.to_vec(),
+        }
+    };
+    let long = FaultyPair {
+        word: 6,
+        sharding: TWO,
+        shard: 0,
+        index: vec![0; 32],
+        data: vec![0; (1 << 30) - 31],
+    };
+    faulty_shards().into_iter().map(cut).chain([long]).collect()
+}
+
+/// The calls that write, on such a pair.
+fn on_faulty_pair(pair: &FaultyPair) -> Vec<Case<'_>> {
+    let (word, spec, shard) = (pair.word, pair.sharding, pair.shard);
+    let (i, n, d, m) = files((&pair.index, &pair.data));
+    Vec::from(cases! { lent:
+        word => coronagamba_pair_lookup(spec, shard, i, n, d, m, 5, lent.one(), lent.one());
+        word => coronagamba_pair_fragment(
+            spec, shard, i, n, d, m, 5, 0, 0, lent.one(), lent.one(),
+        );
+        word => coronagamba_pair_listed_count(spec, shard, i, n, d, m, 1, lent.one());
+        word => coronagamba_pair_listing(
+            spec, shard, i, n, d, m, 1, lent.many(9), 9, lent.one(),
+        );
+        word => coronagamba_pair_unlisted(spec, shard, i, n, d, m, lent.one());
+        word => coronagamba_pair_settled_length(spec, shard, i, n, d, m, 0, lent.one());
+        word => coronagamba_pair_settled_length(spec, shard, i, n, d, m, 1, lent.one());
+        word => coronagamba_pair_settle(
+            spec, shard, i, n, d, m, 0, lent.many(99), 99, lent.one(),
+        );
+        word => coronagamba_pair_settle(
+            spec, shard, i, n, d, m, 1, lent.many(99), 99, lent.one(),
+        );
+    })
+}
+
+/// Pointer and count of each file.
+fn files((index, data): Files<'_>) -> (*const u8, usize, *const u8, usize) {
+    (index.as_ptr(), index.len(), data.as_ptr(), data.len())
+}
+
+/// A range of a pair that is refused whatever the range, and one of a sound pair
+/// that reaches across the seam, is reversed or passes the end.
+fn on_ranges(pairs: &[FaultyPair], sound: Files<'_>) -> Vec<Case<'static>> {
+    let mut all = Vec::new();
+    for pair in pairs.iter().filter(|pair| [1, 6, 23].contains(&pair.word)) {
+        let (word, spec) = (pair.word, pair.sharding);
+        let (i, n, d, m) = files((&pair.index, &pair.data));
+        all.extend(cases! { lent:
+            word => coronagamba_pair_range(
+                spec, i, n, d, m, 0, 0, lent.one(), lent.one(), lent.one(),
+            );
+        });
+    }
+    let (i, n, d, m) = files(sound);
+    let end = (n + m) as u64;
+    for (from, to) in [(31, 33), (9, 8), (40, end + 1), (end + 1, end + 1)] {
+        all.extend(cases! { lent:
+            24 => coronagamba_pair_range(
+                TWO, i, n, d, m, from, to, lent.one(), lent.one(), lent.one(),
+            );
+        });
+    }
+    all
+}
+
+/// The calls that write, on the sound pair of ids 5 and 11.
+fn on_sound_pair(pair: Files<'_>) -> Vec<Case<'_>> {
+    let (i, n, d, m) = files(pair);
+    Vec::from(cases! { lent:
+        12 => coronagamba_pair_lookup(TWO, 0, i, n, d, m, 7, lent.one(), lent.one());
+        12 => coronagamba_pair_fragment(TWO, 0, i, n, d, m, 7, 0, 0, lent.one(), lent.one());
+        18 => coronagamba_pair_fragment(TWO, 0, i, n, d, m, 5, 0, 0, lent.one(), lent.one());
+        5 => coronagamba_pair_listed_count(TWO, 0, i, n, d, m, 2, lent.one());
+        5 => coronagamba_pair_listing(TWO, 0, i, n, d, m, 2, lent.many(9), 9, lent.one());
+        13 => coronagamba_pair_listing(TWO, 0, i, n, d, m, 1, lent.many(5), 5, lent.one());
+        13 => coronagamba_pair_settle(TWO, 0, i, n, d, m, 0, lent.many(84), 84, lent.one());
+    })
+}
+
+/// Settling that pair with a byte behind it, which nothing lists, and one whose
+/// form would be too long for any shard.
+fn on_pairs_to_settle(more: Files<'_>, long: Files<'_>) -> Vec<Case<'static>> {
+    let (i, n, d, m) = files(more);
+    let mut all = Vec::from(cases! { lent:
+        22 => coronagamba_pair_settled_length(TWO, 0, i, n, d, m, 0, lent.one());
+        22 => coronagamba_pair_settle(TWO, 0, i, n, d, m, 2, lent.many(84), 84, lent.one());
+        13 => coronagamba_pair_settle(TWO, 0, i, n, d, m, 1, lent.many(84), 84, lent.one());
+    });
+    let (i, n, d, m) = files(long);
+    let spec = bits(0, 12);
+    all.extend(cases! { lent:
+        13 => coronagamba_pair_settled_length(spec, 0, i, n, d, m, 0, lent.one());
+        13 => coronagamba_pair_settle(spec, 0, i, n, d, m, 1, lent.many(99), 99, lent.one());
+    });
+    all
 }
 
 /// How many minishards list the same bytes in [`overlapping`], and how many
@@ -460,8 +590,8 @@ fn numbers(refusals: &str) -> Vec<u64> {
     refusals.split(',').flat_map(range).collect()
 }
 
-/// Each call that writes with each refusal that the header names for it. Two
-/// calls give a word and nothing else.
+/// Each call that writes with each refusal that the header names for it. The
+/// checks give a word and nothing else.
 fn named() -> BTreeSet<(String, u64)> {
     let header = concat!(env!("CARGO_MANIFEST_DIR"), "/../../include/coronagamba.h");
     let header = std::fs::read_to_string(header).expect("the header");
@@ -475,7 +605,7 @@ fn named() -> BTreeSet<(String, u64)> {
             continue;
         };
         let name = declaration.split(['(', ' ']).nth(1).expect("a name");
-        if !["coronagamba_check", "coronagamba_manifest_check"].contains(&name) {
+        if !name.ends_with("_check") {
             named.extend(numbers(refusals).iter().map(|n| (name.to_string(), *n)));
         }
     }
@@ -489,11 +619,17 @@ fn a_refusal_leaves_every_lent_byte() {
     let (sound, long, mesh) = (shard([5, 53], ROWS), overlapping(), sound_mesh());
     let far = manifest(1.0, [0, 1 << 24]);
     let more = [&sound[..], b"-"].concat();
+    let pairs = faulty_pairs();
+    let [sound_pair, more_pair] = [&sound, &more].map(|file| file.split_at(32));
+    let long_pair = long.split_at(16 * MINISHARDS as usize);
     let cases: Vec<Case> = [grid(), sharding(), card_write()]
         .into_iter()
         .chain(shards.iter().map(on_faulty_shard))
         .chain([on_sound_shard(&sound), on_sound_mesh(&mesh)])
         .chain([on_unlisted_byte(&more), on_overlapping_shard(&long)])
+        .chain(pairs.iter().map(on_faulty_pair))
+        .chain([on_sound_pair(sound_pair), on_ranges(&pairs, sound_pair)])
+        .chain([on_pairs_to_settle(more_pair, long_pair)])
         .chain(cards.iter().map(on_faulty_card))
         .chain(infos.iter().map(on_faulty_info))
         .chain(manifests.iter().map(on_faulty_manifest))

@@ -1,13 +1,15 @@
 //! `check`.
 
+use std::collections::BTreeSet;
 use std::ffi::OsString;
 use std::path::Path;
 
-use coronagamba::{Refusal, Shard, Sharding};
+use coronagamba::{Refusal, Sharding};
 
 use super::Command;
 use crate::args::{flag, Args};
 use crate::diagnosis::Gaps;
+use crate::edition::Bytes;
 use crate::fault::Fault;
 use crate::folder::{is_folder, list, single, Input};
 use crate::help;
@@ -69,17 +71,21 @@ struct Found {
     folders: Vec<Option<Presence>>,
 }
 
-/// All shards that the paths lead to, in their order.
+/// All shards that the paths lead to, in their order; one pair whose two files were
+/// named comes once.
 fn gather(
     args: &Args,
     sharding: &Sharding,
     paths: &[OsString],
     report: &mut Report,
 ) -> Result<Found, Fault> {
-    let mut found = Found::default();
+    let (mut found, mut pairs) = (Found::default(), BTreeSet::new());
     for path in paths.iter().map(Path::new) {
         if !is_folder(path) {
-            found.inputs.push(single(args, sharding, path));
+            let input = single(args, sharding, path);
+            if input.source.data.is_none() || pairs.insert(input.source.clone()) {
+                found.inputs.push(input);
+            }
             continue;
         }
         round::no_shard_option(args, path)?;
@@ -114,8 +120,8 @@ struct Unlisted {
 
 impl Unlisted {
     /// Of a shard that passed the check.
-    fn of(sharding: &Sharding, number: u64, file: &[u8]) -> Result<Self, Refusal> {
-        let bytes = Shard::open(*sharding, number, file).unlisted()?;
+    fn of(sharding: &Sharding, number: u64, file: Bytes) -> Result<Self, Refusal> {
+        let bytes = file.open(sharding, number).unlisted()?;
         let gaps = Gaps::of(sharding, number, file, bytes);
         Ok(Unlisted { bytes, gaps })
     }
@@ -148,13 +154,14 @@ fn check(
     room: &mut Room,
     input: Input,
 ) -> Outcome<Verdict<Sound>> {
-    let path = input.path;
+    let source = input.source;
     let number = match input.number {
         Ok(number) => number,
-        Err(trouble) => return Verdict::from(trouble).of(path, 0),
+        Err(trouble) => return Verdict::from(trouble).of(source.path, 0),
     };
-    let checked = round::check(sharding, number, &path, counting, room);
-    let (file, bytes) = (&room.file, room.file.len());
+    let checked = round::check(sharding, number, &source, counting, room);
+    let file = room.file.bytes();
+    let (path, bytes) = (source.path, file.len());
     let answer = checked.and_then(|chunks| {
         let unlisted = counting.then(|| Unlisted::of(sharding, number, file));
         let explain = |refusal| round::refused(&path, sharding, number, file, refusal);
@@ -223,9 +230,7 @@ impl Summary {
     /// `200 shards: 196 sound, 4 refused`
     fn print(&self, report: &mut Report) -> Result<(), Fault> {
         let Aside {
-            refused,
-            failed,
-            misnamed,
+            refused, failed, ..
         } = self.aside;
         if report.json() {
             let object = Object::new().text("result", "summary");
@@ -233,9 +238,9 @@ impl Summary {
             let object = object
                 .number("sound", self.sound)
                 .number("refused", refused);
-            let object = object
-                .number("not_read", failed)
-                .number("misnamed", misnamed);
+            let object = self
+                .aside
+                .unclear_members(object.number("not_read", failed));
             let object = object.number("other_files", self.others);
             return report.object(match self.unlisted {
                 Some(unlisted) => object.number("unlisted", unlisted),
@@ -251,7 +256,7 @@ impl Summary {
             counted(self.total(), "shard"),
             self.sound,
             and(failed, "not read"),
-            and(misnamed, "misnamed"),
+            self.aside.unclear_text(),
             passed_over(self.others),
         ))
     }

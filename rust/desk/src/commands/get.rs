@@ -1,16 +1,18 @@
 //! `get`: the bytes of one chunk, or of one fragment of a mesh.
 
-use std::path::{Path, PathBuf};
+use std::path::Path;
 
-use coronagamba::{Shard, Sharding};
+use coronagamba::Sharding;
 
 use super::{cell_of, Command};
 use crate::args::{flag, number, pair, value, Args};
 use crate::diagnosis;
+use crate::edition::{Loaded, Source};
 use crate::fault::{Fault, Refused, Status};
-use crate::files::{is_missing, read_whole, Inputs};
+use crate::files::Inputs;
+use crate::folder::{find, is_unnumbered, single};
 use crate::help;
-use crate::naming::number_of_file;
+use crate::naming::unnumbered;
 use crate::output::{remove_stale_parts_of, write_new};
 use crate::report::{complaint, shown, Report};
 use crate::settings;
@@ -37,31 +39,38 @@ const FRAGMENT: &str = "--fragment";
 fn run(args: &Args, report: &mut Report) -> Result<(), Fault> {
     let fragment = fragment(args)?;
     let (asked, sharding, id) = asked(args)?;
-    let (path, number) = shard_file(args, &sharding, asked, id)?;
-    if asked.is_dir() && is_missing(&path) {
-        tell_missing(report, asked, &path, id);
-        return Ok(());
-    }
+    let (source, number) = match asked.is_dir() {
+        false if is_unnumbered(args, &sharding, asked) => return Err(unnumbered(&sharding, asked)),
+        false => single(args, &sharding, asked).known(&sharding)?,
+        true => match in_folder(args, &sharding, asked, id)? {
+            Ok(found) => found,
+            Err(name) => {
+                tell_missing(report, asked, &name, id);
+                return Ok(());
+            }
+        },
+    };
     let out = args.value("--out").map(Path::new);
     if let Some(out) = out {
-        let inputs = Inputs::of(settings::files(args).chain([path.as_path()]));
+        let inputs = Inputs::of(settings::files(args).chain(source.paths()));
         inputs.spare(out)?;
         remove_stale_parts_of(out, &inputs);
     }
-    let file = read_whole(&path)?;
-    let shard = Shard::open(sharding, number, &file);
+    let loaded = Loaded::of(&source)?;
+    let file = loaded.bytes();
+    let shard = file.open(&sharding, number);
     let found = match fragment {
         None => shard.chunk(id),
         Some([level, node]) => shard.fragment(id, level, node),
     };
     let bytes = found.map_err(|refusal| {
         let diagnosis = match fragment {
-            None => diagnosis::of_lookup(&sharding, number, &file, id, refusal),
+            None => diagnosis::of_lookup(&sharding, number, file, id, refusal),
             Some([level, node]) => {
-                diagnosis::of_fragment(&sharding, number, &file, (id, level, node), refusal)
+                diagnosis::of_fragment(&sharding, number, file, (id, level, node), refusal)
             }
         };
-        Refused::file(&path, refusal, diagnosis)
+        Refused::file(&source.path, refusal, diagnosis)
     })?;
     match out {
         Some(out) => write_new(out, args.flag("--force"), bytes),
@@ -104,38 +113,36 @@ fn asked(args: &Args) -> Result<(&Path, Sharding, u64), Fault> {
     Ok((Path::new(path), sharding, key))
 }
 
-/// The shard file and its number. In a folder it is the id's own.
-fn shard_file(
+/// The files and the number of an id's own shard in a folder, or the name of the
+/// file that it would have.
+fn in_folder(
     args: &Args,
     sharding: &Sharding,
-    path: &Path,
+    folder: &Path,
     id: u64,
-) -> Result<(PathBuf, u64), Fault> {
-    if !path.is_dir() {
-        let number = number_of_file(args, sharding, path)?;
-        return Ok((path.to_path_buf(), number));
-    }
+) -> Result<Result<(Source, u64), String>, Fault> {
     if args.flag("--shard") {
         return Err(Fault::wrong_use(format!(
             "--shard is for one file; {} is a folder, whose files say it by their names",
-            shown(path)
+            shown(folder)
         )));
     }
     let subject = || format!("id {id}");
     let refused = |refusal| Refused::asked(subject(), refusal, diagnosis::of_sharding(sharding));
     let number = sharding.place(id).map_err(refused)?.shard;
     let name = sharding.shard_name(number).map_err(refused)?;
-    Ok((path.join(name), number))
+    match find(sharding, folder, number).map_err(refused)? {
+        Some(input) => input.known(sharding).map(Ok),
+        None => Ok(Err(name)),
+    }
 }
 
 /// Tells that a deposit lacks an id's shard: to whoever asks for a chunk this
 /// is a plain no, and no error of the system.
-fn tell_missing(report: &mut Report, folder: &Path, file: &Path, id: u64) {
+fn tell_missing(report: &mut Report, folder: &Path, name: &str, id: u64) {
     report.note(Status::No);
-    let name = file.file_name().unwrap_or_default();
     complaint(format_args!(
-        "{}: the deposit has no {}, in which id {id} would stand",
-        shown(folder),
-        shown(Path::new(name))
+        "{}: the deposit has no {name}, in which id {id} would stand",
+        shown(folder)
     ));
 }

@@ -1,21 +1,22 @@
 //! `list`: all chunks of a shard with their places, of a mesh those of the
 //! fragments too.
 
+use std::collections::BTreeSet;
 use std::fmt;
 use std::io;
 use std::path::Path;
 
-use coronagamba::{Shard, Sharding, Span};
+use coronagamba::{Sharding, Span};
 
 use super::Command;
 use crate::args::{flag, value, Args};
 use crate::diagnosis;
+use crate::edition::{Bytes, Loaded, Opened, Source};
 use crate::fault::{Fault, Refused};
-use crate::files::read_whole;
+use crate::folder::{is_unnumbered, single};
 use crate::fragments::Fragments;
 use crate::help;
 use crate::json::Object;
-use crate::naming::{number_of_file, shard_number};
 use crate::report::{shown, Report};
 use crate::round::{tell_fault, tell_misnamed};
 use crate::settings;
@@ -50,18 +51,29 @@ fn run(args: &Args, report: &mut Report) -> Result<(), Fault> {
             "--fragments: a volume has none; a card says mesh, or --kind mesh does",
         ));
     }
+    let mut pairs = BTreeSet::new();
     for file in files {
         let path = Path::new(file);
-        if files.len() > 1 && !report.json() {
-            report.line(format_args!("{}:", shown(path)))?;
+        let input = single(args, &sharding, path);
+        let source = input.source.clone();
+        // One pair whose two files were named is listed once.
+        if source.data.is_some() && !pairs.insert(source.clone()) {
+            continue;
         }
-        let object = Object::new().path(path);
-        if !args.flag("--shard") && is_misnamed(&sharding, path) {
+        if files.len() > 1 && !report.json() {
+            report.line(format_args!("{}:", shown(&source.path)))?;
+        }
+        let object = Object::new().path(&source.path);
+        if !path.is_dir() && is_unnumbered(args, &sharding, path) {
             tell_misnamed(&sharding, path, true, object, report)?;
             continue;
         }
-        match list(args, report, &sharding, path, only) {
-            Err(fault @ Fault::Refused(_)) => report.complain(&fault)?,
+        let known = match path.is_dir() {
+            true => Err(is_folder(path)),
+            false => input.known(&sharding),
+        };
+        match known.and_then(|shard| list(args, report, &sharding, shard, only)) {
+            Err(fault @ (Fault::Refused(_) | Fault::Unclear { .. })) => report.complain(&fault)?,
             Err(fault) if !fault.ends_the_run() => tell_fault(object, &fault, report)?,
             listed => listed?,
         }
@@ -69,37 +81,33 @@ fn run(args: &Args, report: &mut Report) -> Result<(), Fault> {
     Ok(())
 }
 
-/// Whether a file's name is that of no shard, so that its number is not known.
-fn is_misnamed(sharding: &Sharding, path: &Path) -> bool {
-    let name = path.file_name().unwrap_or_default();
-    !path.is_dir() && shard_number(sharding, name).is_none()
+/// A folder in place of files.
+fn is_folder(path: &Path) -> Fault {
+    Fault::wrong_use(format!(
+        "{}: is a folder; give its shard files: {}",
+        shown(path),
+        shown(&path.join("*.shard"))
+    ))
 }
 
-/// Lists one file.
+/// Lists one shard.
 fn list(
     args: &Args,
     report: &mut Report,
     sharding: &Sharding,
-    path: &Path,
+    (source, number): (Source, u64),
     only: Option<u64>,
 ) -> Result<(), Fault> {
-    if path.is_dir() {
-        return Err(Fault::wrong_use(format!(
-            "{}: is a folder; give its shard files: {}",
-            shown(path),
-            shown(&path.join("*.shard"))
-        )));
-    }
-    let number = number_of_file(args, sharding, path)?;
-    let file = read_whole(path)?;
-    let shard = Shard::open(*sharding, number, &file);
+    let (path, loaded) = (&source.path, Loaded::of(&source)?);
+    let bytes = loaded.bytes();
+    let shard = bytes.open(sharding, number);
     let minishards = match only {
         Some(minishard) => minishard..=minishard,
         None => 0..=(1 << sharding.minishard_bits) - 1,
     };
     let view = View::of(args, sharding);
     let teller = Teller {
-        file: &file,
+        bytes,
         view,
         about: Object::new().path(path).text("result", view.result()),
     };
@@ -110,7 +118,7 @@ fn list(
     for minishard in minishards {
         let listed = fill(&shard, minishard, &mut numbers, path)?;
         listed.map_err(|refusal| {
-            let diagnosis = diagnosis::of_listing(sharding, number, &file, minishard, refusal);
+            let diagnosis = diagnosis::of_listing(sharding, number, bytes, minishard, refusal);
             Refused::file(path, refusal, diagnosis)
         })?;
         for entry in numbers.chunks_exact(3) {
@@ -124,7 +132,7 @@ fn list(
 /// all minishards share. A refusal is inside; without memory the system's
 /// error is outside.
 fn fill(
-    shard: &Shard,
+    shard: &Opened,
     minishard: u64,
     numbers: &mut Vec<u64>,
     path: &Path,
@@ -179,9 +187,9 @@ impl View {
     }
 }
 
-/// Tells the chunks of one file.
+/// Tells the chunks of one shard.
 struct Teller<'a> {
-    file: &'a [u8],
+    bytes: Bytes<'a>,
     view: View,
     /// What each object says about the file.
     about: Object,
@@ -195,7 +203,7 @@ impl Teller<'_> {
         };
         let front = [("id", id), ("minishard", minishard)];
         let place = [("start", start), ("length", length)];
-        let fragments = || Fragments::of(self.file, Span { start, length });
+        let fragments = || Fragments::of(self.bytes, Span { start, length });
         match self.view {
             View::Chunks => self.line(report, &[front, place]),
             View::Manifests => {

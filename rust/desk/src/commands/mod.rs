@@ -21,6 +21,7 @@ mod list;
 mod locate;
 mod manifest;
 mod name;
+mod range;
 mod same;
 mod sample;
 mod settle;
@@ -40,12 +41,13 @@ pub struct Command {
 }
 
 /// All commands, in the order of the help.
-pub static COMMANDS: [Command; 17] = [
+pub static COMMANDS: [Command; 18] = [
     check::COMMAND,
     settle::COMMAND,
     same::COMMAND,
     get::COMMAND,
     list::COMMAND,
+    range::COMMAND,
     locate::COMMAND,
     cell::COMMAND,
     cover::COMMAND,

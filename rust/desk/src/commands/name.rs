@@ -1,6 +1,6 @@
-//! `name`: the name of an unsharded chunk, or of a shard file.
+//! `name`: the name of an unsharded chunk, or of a shard's file or two files.
 
-use coronagamba::{Cell, Volume};
+use coronagamba::{Cell, Refusal, Volume};
 
 use super::{answer, cell_object, cell_of, cell_text, tell_refused, Command};
 use crate::args::{flag, value, Args};
@@ -8,6 +8,7 @@ use crate::diagnosis;
 use crate::fault::{Fault, Refused};
 use crate::help;
 use crate::json::Object;
+use crate::naming::Ending;
 use crate::report::Report;
 use crate::settings;
 
@@ -15,11 +16,22 @@ use crate::settings;
 pub const COMMAND: Command = Command {
     name: "name",
     help: help::NAME,
-    options: &[settings::OPTIONS, &[value("--shard"), flag("--json")]],
+    options: &[
+        settings::OPTIONS,
+        &[value("--shard"), flag(PAIR), flag("--json")],
+    ],
     run,
 };
 
+/// Asks for the names of the earlier edition.
+const PAIR: &str = "--pair";
+
 fn run(args: &Args, report: &mut Report) -> Result<(), Fault> {
+    if args.flag(PAIR) && !args.flag("--shard") {
+        return Err(Fault::wrong_use(
+            "--pair: only a shard may have two files; --shard is missing",
+        ));
+    }
     if let Some(number) = args.number("--shard")? {
         let [] = args.exactly([])?;
         return name_shard(args, report, number);
@@ -37,14 +49,27 @@ fn run(args: &Args, report: &mut Report) -> Result<(), Fault> {
 /// The line of a shard.
 fn name_shard(args: &Args, report: &mut Report, number: u64) -> Result<(), Fault> {
     let sharding = settings::of_shards(args)?.sharding;
-    match sharding.shard_name(number) {
-        Ok(name) if report.json() => report.object(
-            Object::new()
+    let endings: &[(&str, Ending)] = match args.flag(PAIR) {
+        false => &[("name", Ending::Shard)],
+        true => &[("index", Ending::Index), ("data", Ending::Data)],
+    };
+    let named =
+        |(member, ending): &(&'static str, Ending)| Ok((*member, ending.name(&sharding, number)?));
+    match endings
+        .iter()
+        .map(named)
+        .collect::<Result<Vec<_>, Refusal>>()
+    {
+        Ok(names) if report.json() => {
+            let object = Object::new()
                 .number("shard", number)
-                .text("result", "named")
-                .text("name", &name),
-        ),
-        Ok(name) => report.line(name),
+                .text("result", "named");
+            let add = |object: Object, (member, name): (&str, String)| object.text(member, &name);
+            report.object(names.into_iter().fold(object, add))
+        }
+        Ok(names) => names
+            .into_iter()
+            .try_for_each(|(_, name)| report.line(name)),
         Err(refusal) => {
             let diagnosis = diagnosis::of_shard_number(&sharding, number);
             let refused = Refused::asked(format!("shard {number}"), refusal, diagnosis);

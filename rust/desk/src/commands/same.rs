@@ -5,17 +5,19 @@ use std::ffi::OsString;
 use std::fs;
 use std::path::{Path, PathBuf};
 
-use coronagamba::{Shard, Sharding, Unlisted};
+use coronagamba::{Refusal, Sharding, Unlisted};
 
 use super::Command;
 use crate::args::{flag, Args};
 use crate::difference::{first_difference, Difference, Kind, Side};
+use crate::edition::{Loaded, Opened, Source, Unclear};
 use crate::fault::{Fault, Refused, Status, Subject};
-use crate::files::{length_to_read, one_place, read_into};
+use crate::files::one_place;
 use crate::folder::{is_folder, list, single, Input, Trouble};
 use crate::help;
 use crate::json::Object;
 use crate::memory::{front, Lengths, Room};
+use crate::naming::shard_number;
 use crate::report::{complaint, counted, refusal_members, shown, Report};
 use crate::round::{self, and, Outcome};
 use crate::settings;
@@ -36,7 +38,7 @@ fn run(args: &Args, report: &mut Report) -> Result<(), Fault> {
         mesh: settings::is_mesh(&sharding),
         ..Summary::default()
     };
-    let pairs = match paths.map(is_folder) {
+    let copies = match paths.map(is_folder) {
         [true, true] => {
             round::no_shard_option(args, paths[0])?;
             folders(&sharding, paths, &mut summary, report)?
@@ -44,12 +46,12 @@ fn run(args: &Args, report: &mut Report) -> Result<(), Fault> {
         [false, false] => vec![files(args, &sharding, paths)?],
         _ => return Err(unlike(paths)),
     };
-    if one_place(paths[0], paths[1]) {
+    if one_place(paths[0], paths[1]) || copies.iter().any(Copies::are_one_pair) {
         complaint("note: the first and the second are one and the same on the disk");
     }
-    let work = |room: &mut Room, pair: Pair| pair.compare(&sharding, room);
+    let work = |room: &mut Room, copies: Copies| copies.compare(&sharding, room);
     let tell = |outcome, report: &mut Report| summary.tell(&sharding, outcome, report);
-    round::go(workers, "compared", pairs, work, tell, report)?;
+    round::go(workers, "compared", copies, work, tell, report)?;
     summary.print(report)
 }
 
@@ -63,8 +65,8 @@ fn unlike(paths: [&Path; 2]) -> Fault {
     Fault::wrong_use("one is a folder, the other is not")
 }
 
-/// The files of one name in two folders, or the two files that were named.
-struct Pair {
+/// The copies of one shard in two folders, or the two that were named.
+struct Copies {
     name: OsString,
     sides: Sides,
 }
@@ -82,7 +84,7 @@ fn folders(
     paths: [&Path; 2],
     summary: &mut Summary,
     report: &mut Report,
-) -> Result<Vec<Pair>, Fault> {
+) -> Result<Vec<Copies>, Fault> {
     let mut union: BTreeMap<OsString, Sides> = BTreeMap::new();
     for (side, path) in Side::BOTH.into_iter().zip(paths) {
         let listing = list(sharding, path);
@@ -97,7 +99,7 @@ fn folders(
         }
         summary.strays[side as usize] = listing.numbers(sharding).len() < listing.shards.len();
         for input in listing.shards {
-            let name = input.path.file_name().unwrap_or_default().to_os_string();
+            let name = one_name(sharding, &input.source);
             let sides = match union.remove(&name) {
                 Some(Sides::Only(Side::First, first)) => Sides::Both([first, input]),
                 _ => Sides::Only(side, input),
@@ -105,12 +107,47 @@ fn folders(
             union.insert(name, sides);
         }
     }
-    let pair = |(name, sides)| Pair { name, sides };
-    Ok(union.into_iter().map(pair).collect())
+    let copies = |(name, sides): (OsString, Sides)| Copies {
+        name: sides.own_name().unwrap_or(name),
+        sides,
+    };
+    Ok(union.into_iter().map(copies).collect())
+}
+
+/// The name under which a shard is looked for on the other side: that of its file
+/// in the present edition, also of a pair; a file that has no shard's name keeps its
+/// own.
+fn one_name(sharding: &Sharding, source: &Source) -> OsString {
+    let name = source.path.file_name().unwrap_or_default();
+    let number = shard_number(sharding, name);
+    match number.and_then(|number| sharding.shard_name(number).ok()) {
+        Some(name) => name.into(),
+        None => name.to_os_string(),
+    }
+}
+
+impl Copies {
+    /// Whether both were named by files of one pair.
+    fn are_one_pair(&self) -> bool {
+        matches!(&self.sides, Sides::Both([first, second]) if first.source == second.source)
+    }
+}
+
+impl Sides {
+    /// The name of its file, where that is one and the same.
+    fn own_name(&self) -> Option<OsString> {
+        let name = |input: &Input| Some(input.source.path.file_name()?.to_os_string());
+        match self {
+            Sides::Only(_, input) => name(input),
+            Sides::Both([first, second]) => {
+                name(first).filter(|own| name(second).as_ref() == Some(own))
+            }
+        }
+    }
 }
 
 /// Two files, which must be copies of one shard.
-fn files(args: &Args, sharding: &Sharding, paths: [&Path; 2]) -> Result<Pair, Fault> {
+fn files(args: &Args, sharding: &Sharding, paths: [&Path; 2]) -> Result<Copies, Fault> {
     let sides = paths.map(|path| single(args, sharding, path));
     let name = match (&sides[0].number, &sides[1].number) {
         (Ok(first), Ok(second)) if first != second => {
@@ -122,13 +159,13 @@ fn files(args: &Args, sharding: &Sharding, paths: [&Path; 2]) -> Result<Pair, Fa
         _ => None,
     };
     let first = paths[0].file_name().unwrap_or_default();
-    Ok(Pair {
+    Ok(Copies {
         name: name.map_or_else(|| first.to_os_string(), OsString::from),
         sides: Sides::Both(sides),
     })
 }
 
-/// What came of a pair.
+/// What came of two copies.
 enum Comparison {
     Same,
     /// The first difference, where there was memory to look for it.
@@ -148,25 +185,25 @@ struct Unread {
     only: bool,
 }
 
-impl Pair {
+impl Copies {
     fn compare(self, sharding: &Sharding, room: &mut Room) -> Outcome<Comparison> {
         let mut read = 0;
         let verdict = match self.sides {
             Sides::Both(inputs) => match [&inputs[0].number, &inputs[1].number] {
                 [&Ok(number), Ok(_)] => {
-                    let paths = inputs.map(|input| input.path);
-                    read = paths.iter().map(|path| length_to_read(path)).sum();
+                    let sources = inputs.map(|input| input.source);
+                    read = sources.iter().map(Source::length_to_read).sum();
                     Task {
                         sharding: *sharding,
                         number,
-                        paths,
+                        sources,
                     }
                     .compare(room)
                 }
                 _ => Comparison::Unknown(unread(Side::BOTH.into_iter().zip(inputs), false)),
             },
             Sides::Only(side, mut input) => {
-                read = length_to_read(&input.path);
+                read = input.source.length_to_read();
                 match judged(sharding, &mut input, room) {
                     Some(chunks) => Comparison::Only(side, chunks),
                     None => Comparison::Unknown(unread([(side, input)], true)),
@@ -186,7 +223,7 @@ impl Pair {
 /// it is refused or not read, its trouble is noted.
 fn judged(sharding: &Sharding, input: &mut Input, room: &mut Room) -> Option<u64> {
     let number = *input.number.as_ref().ok()?;
-    match round::check(sharding, number, &input.path, false, room) {
+    match round::check(sharding, number, &input.source, false, room) {
         Ok(chunks) => Some(chunks),
         Err(fault) => {
             input.number = Err(Trouble::Fault(fault));
@@ -199,7 +236,7 @@ fn judged(sharding: &Sharding, input: &mut Input, room: &mut Room) -> Option<u64
 fn unread(inputs: impl IntoIterator<Item = (Side, Input)>, only: bool) -> Vec<Unread> {
     let mut unread = Vec::new();
     for (side, input) in inputs {
-        let path = input.path;
+        let path = input.source.path;
         if let Err(trouble) = input.number {
             unread.push(Unread {
                 side,
@@ -231,6 +268,14 @@ impl Unread {
         matches!(self.trouble, Trouble::Misnamed { .. })
     }
 
+    /// Why its files do not say which bytes are its own.
+    fn unclear(&self) -> Option<&Unclear> {
+        match &self.trouble {
+            Trouble::Fault(Fault::Unclear { unclear, .. }) => Some(unclear),
+            _ => None,
+        }
+    }
+
     fn lacks_memory(&self) -> bool {
         matches!(&self.trouble, Trouble::Fault(fault) if fault.lacks_memory())
     }
@@ -249,7 +294,7 @@ impl Unread {
 struct Task {
     sharding: Sharding,
     number: u64,
-    paths: [PathBuf; 2],
+    sources: [Source; 2],
 }
 
 impl Task {
@@ -257,10 +302,10 @@ impl Task {
         room.attempt(|room| self.try_compare(room), Comparison::lacks_memory)
     }
 
-    /// Compares the settled forms. The second file takes the first one's
+    /// Compares the settled forms. The second copy takes the first one's
     /// place in memory.
     fn try_compare(&self, room: &mut Room) -> Comparison {
-        let [first, second] = [0, 1].map(|side| length_to_read(&self.paths[side]));
+        let [first, second] = [0, 1].map(|side| self.sources[side].length_to_read());
         let mut lengths = [first.max(second), first, second];
         loop {
             room.wait_for(lengths);
@@ -273,7 +318,7 @@ impl Task {
         }
     }
 
-    /// Settles the file of one side and gives the form's length. `None` where
+    /// Settles the copy of one side and gives the form's length. `None` where
     /// others hold the memory for it; `lengths` says then how much it takes.
     fn settle(
         &self,
@@ -281,20 +326,11 @@ impl Task {
         side: Side,
         lengths: &mut Lengths,
     ) -> Result<Option<usize>, Fault> {
-        let path = &self.paths[side as usize];
-        read_into(path, &mut room.file)?;
-        let length = match self.shard(&room.file).settled_length(Unlisted::Drop) {
-            Ok(length) => length,
-            Err(refusal) => {
-                return Err(round::refused(
-                    path,
-                    &self.sharding,
-                    self.number,
-                    &room.file,
-                    refusal,
-                ))
-            }
-        };
+        let source = &self.sources[side as usize];
+        room.file.read(source)?;
+        let length = self.ask(source, &room.file, |shard| {
+            shard.settled_length(Unlisted::Drop)
+        })?;
         let wanted = &mut lengths[1 + side as usize];
         *wanted = length.max(*wanted);
         if !room.may_have(*lengths) {
@@ -305,21 +341,23 @@ impl Task {
             Side::Second => &mut room.other,
         };
         let form = front(buffer, length as usize)
-            .map_err(|error| Fault::system(path, "settled", error))?;
-        match self.shard(&room.file).settle(Unlisted::Drop, form) {
-            Ok(length) => Ok(Some(length)),
-            Err(refusal) => Err(round::refused(
-                path,
-                &self.sharding,
-                self.number,
-                &room.file,
-                refusal,
-            )),
-        }
+            .map_err(|error| Fault::system(&source.path, "settled", error))?;
+        let settled = self.ask(source, &room.file, |shard| {
+            shard.settle(Unlisted::Drop, form)
+        });
+        settled.map(Some)
     }
 
-    fn shard<'a>(&self, file: &'a [u8]) -> Shard<'a> {
-        Shard::open(self.sharding, self.number, file)
+    /// The library's answer about one copy, or its refusal, explained.
+    fn ask<T>(
+        &self,
+        source: &Source,
+        file: &Loaded,
+        ask: impl FnOnce(Opened) -> Result<T, Refusal>,
+    ) -> Result<T, Fault> {
+        let (sharding, number, bytes) = (&self.sharding, self.number, file.bytes());
+        let refused = |refusal| round::refused(&source.path, sharding, number, bytes, refusal);
+        ask(bytes.open(sharding, number)).map_err(refused)
     }
 
     /// The answer over two settled forms of these lengths.
@@ -329,7 +367,7 @@ impl Task {
             return Comparison::Same;
         }
         // The listings take the place of the file.
-        room.file = Vec::new();
+        room.file = Loaded::default();
         Comparison::Different(first_difference(&self.sharding, self.number, forms))
     }
 
@@ -338,7 +376,7 @@ impl Task {
         for (side, fault) in Side::BOTH.into_iter().zip(faults) {
             unread.extend(fault.map(|fault| Unread {
                 side,
-                path: self.paths[side as usize].clone(),
+                path: self.sources[side as usize].path.clone(),
                 trouble: Trouble::Fault(fault),
                 only: false,
             }));
@@ -361,6 +399,9 @@ struct Summary {
     empty: u64,
     not_read: u64,
     misnamed: u64,
+    /// Shards of which half a pair is missing on a side, or which have both editions
+    /// there.
+    unclear: u64,
     /// Which folders have a file that has the name of no shard. It may be any
     /// shard that is missing there.
     strays: [bool; 2],
@@ -409,12 +450,14 @@ impl Summary {
         }
     }
 
-    /// A pair counts once, by the worst that came of its files.
+    /// A shard counts once, by the worst that came of its copies.
     fn count_unread(&mut self, unread: &[Unread]) {
         if unread.iter().all(Unread::is_misnamed) {
             self.misnamed += 1;
         } else if unread.iter().all(Unread::is_refused) {
             self.refused += 1;
+        } else if unread.iter().all(|unread| unread.unclear().is_some()) {
+            self.unclear += 1;
         } else {
             self.not_read += 1;
         }
@@ -438,6 +481,7 @@ impl Summary {
                 .number("empty_on_one_side", self.empty)
                 .number("not_read", self.not_read)
                 .number("misnamed", self.misnamed)
+                .number("unclear", self.unclear)
                 .number("folders_without_shards", self.bare)
                 .text("sentence", &sentence),
         )
@@ -459,7 +503,7 @@ impl Summary {
         let [first, second] = self.missing;
         let sentence = format!(
             "{beginning} {}: {} same, {} different, {} refused, {first} missing in the first, \
-             {second} missing in the second{}{}{}{bare}.",
+             {second} missing in the second{}{}{}{}{bare}.",
             self.what(),
             counted(self.same, "shard"),
             self.different,
@@ -467,6 +511,7 @@ impl Summary {
             and(self.empty, "on one side only without chunks"),
             and(self.not_read, "not read"),
             and(self.misnamed, "misnamed"),
+            and(self.unclear, "unclear by their files"),
         );
         (answer, sentence)
     }
@@ -481,7 +526,8 @@ impl Summary {
     /// Whether something was left unjudged.
     fn is_unknown(&self) -> bool {
         let [first, second] = self.missing;
-        self.refused + self.not_read + self.misnamed + self.bare + first + second > 0
+        let unjudged = self.refused + self.not_read + self.misnamed + self.unclear + self.bare;
+        unjudged + first + second > 0
     }
 
     fn sentence_of_same(&self) -> String {
@@ -586,6 +632,9 @@ fn tell_unread(
                 ..*refused
             })
         }
+        Trouble::Fault(Fault::Unclear { unclear, .. }) => {
+            round::tell_unclear(&unread.path, &unclear, object, report)
+        }
         Trouble::Fault(fault) => round::tell_fault(object, &fault, report),
     }
 }
@@ -601,24 +650,24 @@ mod tests {
         let folder = Folder::new("same-waits");
         let file = twice_listed(1000);
         let paths = ["a", "b"].map(|name| folder.write(name, &file));
-        let pair = || Pair {
+        let copies = || Copies {
             name: "0.shard".into(),
             sides: Sides::Both(paths.clone().map(|path| Input {
-                path,
+                source: Source::file(&path),
                 number: Ok(0),
             })),
         };
         let file = file.len() as u64;
         let form = 32 + 2 * (1000 + 24);
-        // Two pairs fit by the lengths of their files, but not with their
+        // Two shards fit by the lengths of their files, but not with their
         // forms.
         let gate = Gate::new(2 * (file + form + form) - 1);
         assert!(2 * 3 * file < 2 * (file + form + form) - 1);
-        let work = |room: &mut Room, pair: Pair| {
-            let outcome = pair.compare(&TWO_MINISHARDS, room);
+        let work = |room: &mut Room, copies: Copies| {
+            let outcome = copies.compare(&TWO_MINISHARDS, room);
             matches!(outcome.verdict, Comparison::Same)
         };
-        let jobs = (0..100).map(|_| pair()).collect();
+        let jobs = (0..100).map(|_| copies()).collect();
         assert_eq!(Crowd::default().run(jobs, &gate, work), vec![true; 100]);
     }
 
@@ -726,7 +775,7 @@ mod tests {
         ] {
             let summary = missing(counts, strays);
             assert_eq!(answer(&summary), expected, "{counts:?} {strays:?}");
-            // A pair that differs decides, whatever else there is.
+            // A shard that differs decides, whatever else there is.
             let summary = Summary {
                 different: 1,
                 ..summary

@@ -92,6 +92,7 @@ fn next(folder: &str) -> String {
         "try next:
   coronagamba check {folder}/copy-a --card {folder}/deposit.card
   coronagamba same {folder}/copy-a {folder}/copy-b --card {folder}/deposit.card
+  coronagamba same {folder}/copy-a {folder}/pairs --card {folder}/deposit.card
   coronagamba check {folder}/damaged --card {folder}/deposit.card
   coronagamba get {folder}/copy-b --cell 1,2,1 --card {folder}/deposit.card
   coronagamba check {folder}/murmur --info {folder}/info --scale 1

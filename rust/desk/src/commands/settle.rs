@@ -1,18 +1,20 @@
 //! `settle`.
 
+use std::ffi::{OsStr, OsString};
 use std::path::{Path, PathBuf};
 
-use coronagamba::{Shard, Sharding, Unlisted};
+use coronagamba::{Sharding, Unlisted};
 
 use super::Command;
 use crate::args::{flag, value, Args};
+use crate::edition::Source;
 use crate::fault::{Fault, Status};
-use crate::files::{length_to_read, one_place, read_into, Inputs};
+use crate::files::{one_place, Inputs};
 use crate::folder::{is_folder, list, single, Input};
 use crate::help;
 use crate::json::Object;
 use crate::memory::{front, Room};
-use crate::naming::shard_number;
+use crate::naming::{shard_number, Ending};
 use crate::output::{self, Placed};
 use crate::report::{counted, shown, Report};
 use crate::round::{self, and, chunk_count, passed_over, Aside, Outcome, Verdict};
@@ -57,7 +59,7 @@ fn run(args: &Args, report: &mut Report) -> Result<(), Fault> {
     if shards.is_empty() {
         return round::tell_no_shards(source, others, report);
     }
-    let paths = shards.iter().map(|shard| shard.path.as_path());
+    let paths = shards.iter().flat_map(|shard| shard.source.paths());
     let task = Task {
         sharding,
         force: args.flag("--force"),
@@ -85,6 +87,16 @@ fn not_one_place(source: &Path, out: &Path) -> Result<(), Fault> {
         )));
     }
     Ok(())
+}
+
+/// The name of a shard's settled form in a folder: that of its file. A pair is
+/// settled into one file.
+fn settled_name(source: &Source) -> OsString {
+    let name = source.path.file_name().unwrap_or_default();
+    match (&source.data, Ending::of(name)) {
+        (Some(_), Some((stem, _))) => Ending::Shard.behind(stem),
+        _ => name.to_os_string(),
+    }
 }
 
 /// A shard and the place of its settled form.
@@ -133,10 +145,13 @@ impl Task {
         report: &mut Report,
     ) -> Result<Summary, Fault> {
         output::make_folder(out, "a folder is settled into a folder")?;
-        let is_shard = |name: &_| shard_number(&self.sharding, name).is_some();
+        let is_shard = |name: &OsStr| {
+            let ending = Ending::of(name).map(|(_, ending)| ending);
+            ending == Some(Ending::Shard) && shard_number(&self.sharding, name).is_some()
+        };
         output::remove_stale_parts(out, &self.inputs, is_shard);
         let job = |input: Input| Job {
-            out: out.join(input.path.file_name().unwrap_or_default()),
+            out: out.join(settled_name(&input.source)),
             input,
         };
         let jobs = shards.into_iter().map(job).collect();
@@ -154,14 +169,14 @@ impl Task {
 
     fn work(&self, room: &mut Room, job: Job) -> Outcome<Verdict<Settled>> {
         room.file.clear();
-        let path = job.input.path;
+        let source = job.input.source;
         match job.input.number {
             Ok(number) => {
-                let settle = |room: &mut Room| self.settle(room, &path, number, &job.out);
+                let settle = |room: &mut Room| self.settle(room, &source, number, &job.out);
                 let settled = room.attempt(settle, round::lacks_memory);
-                Verdict::from(settled).of(path, room.file.len())
+                Verdict::from(settled).of(source.path, room.file.bytes().len())
             }
-            Err(trouble) => Verdict::from(trouble).of(path, 0),
+            Err(trouble) => Verdict::from(trouble).of(source.path, 0),
         }
     }
 
@@ -169,18 +184,19 @@ impl Task {
     fn settle(
         &self,
         room: &mut Room,
-        path: &Path,
+        source: &Source,
         number: u64,
         out: &Path,
     ) -> Result<Settled, Fault> {
         // Before the work, and again where a file is to be replaced.
         self.inputs.spare(out)?;
         output::is_taken(out)?;
-        let to = self.read(room, path, number)?;
-        let shard = Shard::open(self.sharding, number, &room.file);
+        let to = self.read(room, source, number)?;
+        let (path, bytes) = (&source.path, room.file.bytes());
+        let shard = bytes.open(&self.sharding, number);
         let form =
             front(&mut room.form, to).map_err(|error| Fault::system(path, "settled", error))?;
-        let explain = |refusal| round::refused(path, &self.sharding, number, &room.file, refusal);
+        let explain = |refusal| round::refused(path, &self.sharding, number, bytes, refusal);
         // What is unlisted was told with the length, or is to be dropped.
         shard.settle(Unlisted::Drop, form).map_err(explain)?;
         let chunks = chunk_count(&self.sharding, &shard).map_err(explain)?;
@@ -188,7 +204,7 @@ impl Task {
             placed: output::place(out, self.force, form, &self.inputs)?,
             out: out.to_path_buf(),
             chunks,
-            from: room.file.len(),
+            from: bytes.len(),
             to,
         })
     }
@@ -197,15 +213,16 @@ impl Task {
     /// there is memory then. That length is known only when the file is read:
     /// where the memory for it is held by others, the file is given back, waits
     /// for both, and is read again.
-    fn read(&self, room: &mut Room, path: &Path, number: u64) -> Result<usize, Fault> {
-        let guess = length_to_read(path);
+    fn read(&self, room: &mut Room, source: &Source, number: u64) -> Result<usize, Fault> {
+        let guess = source.length_to_read();
         let mut lengths = [guess, guess, 0];
         loop {
             room.wait_for(lengths);
-            read_into(path, &mut room.file)?;
-            let shard = Shard::open(self.sharding, number, &room.file);
+            room.file.read(source)?;
+            let bytes = room.file.bytes();
+            let shard = bytes.open(&self.sharding, number);
             let length = shard.settled_length(self.unlisted).map_err(|refusal| {
-                round::refused(path, &self.sharding, number, &room.file, refusal)
+                round::refused(&source.path, &self.sharding, number, bytes, refusal)
             })?;
             lengths = [guess, lengths[1].max(length), 0];
             if room.may_have(lengths) {
@@ -257,23 +274,19 @@ impl Summary {
     /// `200 shards: 196 settled, 4 refused`
     fn print(&self, others: u64, report: &mut Report) -> Result<(), Fault> {
         let Aside {
-            refused,
-            failed,
-            misnamed,
+            refused, failed, ..
         } = self.aside;
         if report.json() {
-            return report.object(
-                Object::new()
-                    .text("result", "summary")
-                    .number("shards", self.total())
-                    .number("settled", self.settled)
-                    .number("already_there", self.already_there)
-                    .number("other_bytes", self.other_bytes)
-                    .number("refused", refused)
-                    .number("not_settled", failed)
-                    .number("misnamed", misnamed)
-                    .number("other_files", others),
-            );
+            let object = Object::new()
+                .text("result", "summary")
+                .number("shards", self.total())
+                .number("settled", self.settled)
+                .number("already_there", self.already_there)
+                .number("other_bytes", self.other_bytes)
+                .number("refused", refused)
+                .number("not_settled", failed);
+            let object = self.aside.unclear_members(object);
+            return report.object(object.number("other_files", others));
         }
         report.line(format_args!(
             "{}: {} settled{}, {refused} refused{}{}{}{}",
@@ -282,7 +295,7 @@ impl Summary {
             and(self.already_there, "already there"),
             and(self.other_bytes, "there with other bytes"),
             and(failed, "not read or not written"),
-            and(misnamed, "misnamed"),
+            self.aside.unclear_text(),
             passed_over(others),
         ))
     }
@@ -333,7 +346,7 @@ mod tests {
         let path = folder.write("a", &file);
         let job = |number| Job {
             input: Input {
-                path: path.clone(),
+                source: Source::file(&path),
                 number: Ok(0),
             },
             out: folder.at(format!("{number}")),

@@ -5,11 +5,12 @@
 use std::collections::BTreeSet;
 
 use compare::sides::{sharding, volume};
-use coronagamba::{Card, Cell, Manifest, Refusal, Shard, Unlisted};
+use coronagamba::{Card, Cell, Manifest, Pair, Refusal, Shard, Unlisted};
 use testkit::shards::{self, Sample};
 use testkit::{cards, infos, manifests, meshes, places, Rng};
 
 use super::*;
+use crate::edition::Bytes;
 
 /// The numbers of the refusals that were explained.
 #[derive(Default)]
@@ -95,6 +96,78 @@ fn of_shards() {
         });
     }
     explained.assert_exactly([1].into_iter().chain(5..=12).chain([22]));
+}
+
+/// What is said about the joined file, as of a file. Where the byte is in its own
+/// file is left out.
+fn joined(told: Diagnosis) -> Diagnosis {
+    let of_file = |words: &str| words.replace("the joined file", "the file");
+    Diagnosis {
+        found: of_file(&told.found),
+        expected: of_file(&told.expected),
+        look_at: String::new(),
+        ..told
+    }
+}
+
+/// A pair is explained as the joined file, where it is cut at its seam; else with
+/// 23.
+#[test]
+fn of_pairs() {
+    let mut rng = Rng::new(1_108);
+    let mut explained = Explained::default();
+    for round in 0..20_000 {
+        let sample = match round % 2 {
+            0 => sample(&mut rng),
+            _ => meshes::any(&mut rng),
+        };
+        let (sharding, number, file) = (sharding(&sample.sharding), sample.number, &sample.file);
+        let seam = 16 << sharding.minishard_bits.min(16);
+        let (at_seam, cut) = match file.split_at_checked(seam) {
+            Some(_) if rng.below(4) > 0 => (true, seam),
+            _ => (false, rng.index(file.len() + 1)),
+        };
+        let at_seam = at_seam || cut == seam;
+        let (index, data) = file.split_at(cut);
+        let bytes = Bytes::Two { index, data };
+        let (pair, shard) = (
+            bytes.open(&sharding, number),
+            Shard::open(sharding, number, file),
+        );
+        let explain = |refusal| of_shard(&sharding, number, bytes, refusal);
+        let checked = explained.note(pair.check(), explain);
+        let settled = explained.note(pair.settled_length(Unlisted::Drop), explain);
+        assert_eq!(checked, settled);
+        explained.note(pair.settled_length(Unlisted::Refuse), explain);
+        if at_seam {
+            let of_file = shard
+                .check()
+                .map_err(|refusal| of_shard(&sharding, number, file, refusal));
+            assert_eq!(checked.map(joined), of_file.err().map(joined));
+        }
+        let (id, level, node) = meshes::question(&mut rng, &sample);
+        explained.note(pair.lookup(id), |refusal| {
+            of_lookup(&sharding, number, bytes, id, refusal)
+        });
+        explained.note(pair.fragment(id, level, node), |refusal| {
+            of_fragment(&sharding, number, bytes, (id, level, node), refusal)
+        });
+        let minishard = places::minishard_number(&mut rng, &sample.sharding);
+        explained.note(pair.listed_count(minishard), |refusal| {
+            of_listing(&sharding, number, bytes, minishard, refusal)
+        });
+        let [start, end] = [0, 1].map(|_| rng.below(file.len() as u64 + 3));
+        let range = Pair::open(sharding, number, index, data).range(start, end);
+        explained.note(range, |refusal| {
+            of_range(&sharding, bytes, (start, end), refusal)
+        });
+    }
+    let numbers = [1, 5]
+        .into_iter()
+        .chain(7..=12)
+        .chain(15..=18)
+        .chain(21..=24);
+    explained.assert_exactly(numbers);
 }
 
 #[test]

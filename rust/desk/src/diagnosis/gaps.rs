@@ -5,9 +5,10 @@
 use std::fmt;
 use std::ops::Range;
 
-use coronagamba::{Manifest, Shard, Sharding, Span};
+use coronagamba::{Manifest, Sharding, Span};
 
 use super::shard::Seen;
+use crate::edition::Bytes;
 use crate::fragments::length_of;
 use crate::report::counted;
 use crate::settings::is_mesh;
@@ -30,23 +31,12 @@ impl Gaps {
     /// Those of a shard that passed the check and has so many unlisted bytes.
     /// `None` where there is no memory for the map, or where this reading finds
     /// another number.
-    pub fn of(sharding: &Sharding, number: u64, file: &[u8], unlisted: u64) -> Option<Gaps> {
+    pub fn of(sharding: &Sharding, number: u64, bytes: Bytes, unlisted: u64) -> Option<Gaps> {
         if unlisted == 0 {
             return Some(Gaps::default());
         }
-        let seen = Seen {
-            sharding,
-            number,
-            file,
-        };
-        let gaps = seen.held()?.gaps();
+        let gaps = Seen::of(sharding, number, bytes).held()?.gaps();
         (gaps.bytes == unlisted).then_some(gaps)
-    }
-
-    /// Those of a shard that passed the check.
-    pub(super) fn again(sharding: &Sharding, number: u64, file: &[u8]) -> Option<Gaps> {
-        let unlisted = Shard::open(*sharding, number, file).unlisted().ok()?;
-        Gaps::of(sharding, number, file, unlisted)
     }
 
     /// `5 unlisted bytes in 2 gaps`
@@ -139,7 +129,7 @@ impl Seen<'_> {
     /// The bytes of the shard index, of the minishard indexes, of the chunks and
     /// of their fragments.
     fn held(&self) -> Option<Map> {
-        let mut map = Map::new(self.file.len())?;
+        let mut map = Map::new(self.bytes.len())?;
         let base = self.index_length();
         map.mark(0..usize::try_from(base).ok()?);
         for minishard in 0..self.minishards() {
@@ -147,9 +137,10 @@ impl Seen<'_> {
             let begin = usize::try_from(rows.begin).ok()?;
             map.mark(begin..begin + rows.bytes.len());
             for Span { start, length } in rows.spans() {
-                let chunk = usize::try_from(base.checked_add(start)?).ok()?;
-                let end = chunk.checked_add(usize::try_from(length).ok()?)?;
-                let bytes = self.file.get(chunk..end)?;
+                let chunk = base.checked_add(start)?;
+                let end = chunk.checked_add(length)?;
+                let bytes = self.bytes.get(chunk..end)?;
+                let [chunk, end] = [chunk, end].map(|place| place as usize);
                 let lead = match is_mesh(self.sharding) {
                     true => length_of(&Manifest::open(bytes))? as usize,
                     false => 0,

@@ -19,7 +19,7 @@ pub use gaps::Gaps;
 pub use info::of_info;
 pub use manifest::{of_manifest, of_node};
 pub use places::{of_cell, of_key, of_shard_number, of_sharding, of_volume};
-pub use shard::{of_fragment, of_listing, of_lookup, of_shard};
+pub use shard::{of_fragment, of_listing, of_lookup, of_range, of_shard};
 
 /// What the desk can say about a refusal.
 #[derive(Clone, Debug, PartialEq, Eq)]

@@ -1,13 +1,14 @@
-//! Refusals of a shard: 5 to 13, 22, and of a mesh 15 to 18 and 21. Where a fault
-//! stands is what the library says; here the numbers at that place are read and
-//! put into words.
+//! Refusals of a shard: 5 to 13, 22, of a mesh 15 to 18 and 21, and of a pair 23 and
+//! 24. Where a fault stands is what the library says; here the numbers at that place
+//! are read and put into words.
 
-use coronagamba::{Manifest, Refusal, Shard, Sharding, Span};
+use coronagamba::{Manifest, Refusal, Sharding, Span};
 
 use super::gaps::Gaps;
 use super::manifest::{of_manifest, of_no_node};
 use super::places::MOST_MINISHARD_BITS;
 use super::{of_shard_number, of_sharding, u64_at, Diagnosis, Place};
+use crate::edition::{Bytes, Opened};
 use crate::fragments::length_of;
 use crate::report::counted;
 use crate::settings::is_mesh;
@@ -17,6 +18,8 @@ const MOST_BYTES: u64 = 1 << 30;
 
 /// Bytes of an entry of the shard index: start and end.
 const ENTRY: u64 = 16;
+/// The most bytes of a shard index.
+const MOST_INDEX_BYTES: u64 = ENTRY << MOST_MINISHARD_BITS;
 /// Bytes of a chunk's entry in a minishard index: a number in each row.
 const ROWS: u64 = 24;
 
@@ -24,7 +27,7 @@ const ROWS: u64 = 24;
 pub(super) struct Seen<'a> {
     pub(super) sharding: &'a Sharding,
     pub(super) number: u64,
-    pub(super) file: &'a [u8],
+    pub(super) bytes: Bytes<'a>,
 }
 
 /// Whether a number is that of a fault in a minishard, which has a position.
@@ -33,57 +36,51 @@ fn is_fault(number: u8) -> bool {
 }
 
 /// A refusal of the whole-shard check or of settling: 1, 5 to 11, 13, 15 to 17,
-/// 21, 22.
-pub fn of_shard(sharding: &Sharding, number: u64, file: &[u8], refusal: Refusal) -> Diagnosis {
-    let seen = Seen {
-        sharding,
-        number,
-        file,
-    };
+/// 21 to 23.
+pub fn of_shard<'a>(
+    sharding: &'a Sharding,
+    number: u64,
+    bytes: impl Into<Bytes<'a>>,
+    refusal: Refusal,
+) -> Diagnosis {
+    let seen = Seen::of(sharding, number, bytes);
     match refusal.number {
         1 => of_sharding(sharding),
         5 => of_shard_number(sharding, number),
+        23 => told(seen.index_file()),
         6 => seen.length(),
         number if is_fault(number) => told(seen.first_fault(refusal)),
         13 => told(seen.settled_length()),
-        22 => told(Gaps::again(sharding, number, file).map(of_gaps)),
+        22 => told(seen.gaps().map(of_gaps)),
         _ => Diagnosis::not_found_again(),
     }
 }
 
 /// A refusal of one minishard's listing: 1, 5 to 11, 15 to 17, 21.
-pub fn of_listing(
-    sharding: &Sharding,
+pub fn of_listing<'a>(
+    sharding: &'a Sharding,
     number: u64,
-    file: &[u8],
+    bytes: impl Into<Bytes<'a>>,
     minishard: u64,
     refusal: Refusal,
 ) -> Diagnosis {
-    let seen = Seen {
-        sharding,
-        number,
-        file,
-    };
+    let seen = Seen::of(sharding, number, bytes);
     match refusal.number {
         5 if minishard >= seen.minishards() => seen.no_minishard(minishard),
         number if is_fault(number) => told(seen.fault(minishard, refusal)),
-        _ => of_shard(sharding, number, file, refusal),
+        _ => of_shard(sharding, number, seen.bytes, refusal),
     }
 }
 
 /// A refusal of a lookup: 1, 5 to 12, 15 to 17, 21.
-pub fn of_lookup(
-    sharding: &Sharding,
+pub fn of_lookup<'a>(
+    sharding: &'a Sharding,
     number: u64,
-    file: &[u8],
+    bytes: impl Into<Bytes<'a>>,
     id: u64,
     refusal: Refusal,
 ) -> Diagnosis {
-    let seen = Seen {
-        sharding,
-        number,
-        file,
-    };
+    let seen = Seen::of(sharding, number, bytes);
     let Ok(place) = sharding.place(id) else {
         return of_sharding(sharding);
     };
@@ -91,27 +88,37 @@ pub fn of_lookup(
         5 if sharding.shard_name(number).is_ok() => seen.other_shard(id),
         12 => told(seen.not_listed(id, place.minishard)),
         number if is_fault(number) => told(seen.fault(place.minishard, refusal)),
-        _ => of_shard(sharding, number, file, refusal),
+        _ => of_shard(sharding, number, seen.bytes, refusal),
     }
 }
 
 /// A refusal of the fragment of a node: as of a lookup, and 18.
-pub fn of_fragment(
-    sharding: &Sharding,
+pub fn of_fragment<'a>(
+    sharding: &'a Sharding,
     number: u64,
-    file: &[u8],
+    bytes: impl Into<Bytes<'a>>,
     (id, level, node): (u64, u64, u64),
     refusal: Refusal,
 ) -> Diagnosis {
+    let seen = Seen::of(sharding, number, bytes);
     if refusal.number != 18 {
-        return of_lookup(sharding, number, file, id, refusal);
+        return of_lookup(sharding, number, seen.bytes, id, refusal);
     }
-    let seen = Seen {
-        sharding,
-        number,
-        file,
-    };
     told(seen.no_fragment(id, level, node))
+}
+
+/// A refusal of a range of a pair's joined file: 1, 23, 6, 24.
+pub fn of_range<'a>(
+    sharding: &'a Sharding,
+    bytes: impl Into<Bytes<'a>>,
+    (start, end): (u64, u64),
+    refusal: Refusal,
+) -> Diagnosis {
+    let seen = Seen::of(sharding, 0, bytes);
+    match refusal.number {
+        24 => told(seen.no_range(start, end)),
+        _ => of_shard(sharding, 0, seen.bytes, refusal),
+    }
 }
 
 /// Refusal 22 of settling.
@@ -132,12 +139,53 @@ fn told(found: Option<Diagnosis>) -> Diagnosis {
     found.unwrap_or_else(Diagnosis::not_found_again)
 }
 
-/// A byte of the file and what stands there.
-fn byte(place: u64, what: &str) -> Place {
-    Place::byte(place, "the file", what)
-}
+impl<'a> Seen<'a> {
+    /// These bytes under this specification and number.
+    pub(super) fn of(sharding: &'a Sharding, number: u64, bytes: impl Into<Bytes<'a>>) -> Self {
+        Seen {
+            sharding,
+            number,
+            bytes: bytes.into(),
+        }
+    }
 
-impl Seen<'_> {
+    /// The library's view of it.
+    fn open(&self) -> Opened<'a> {
+        self.bytes.open(self.sharding, self.number)
+    }
+
+    /// The gaps of a shard that passed the check.
+    fn gaps(&self) -> Option<Gaps> {
+        let unlisted = self.open().unlisted().ok()?;
+        Gaps::of(self.sharding, self.number, self.bytes, unlisted)
+    }
+
+    /// What places count in.
+    fn whole(&self) -> &'static str {
+        match self.bytes {
+            Bytes::One(_) => "the file",
+            Bytes::Two { .. } => "the joined file",
+        }
+    }
+
+    /// A byte and what stands there. Of a pair it is told in which file it is, and
+    /// where in that file.
+    fn byte(&self, place: u64, what: &str) -> Place {
+        let of = match self.bytes {
+            Bytes::One(_) => self.whole().to_string(),
+            Bytes::Two { index, .. } => match place.checked_sub(index.len() as u64) {
+                None => "the index file".to_string(),
+                Some(own) => format!("the joined file, byte {own} of the data file"),
+            },
+        };
+        Place::byte(place, &of, what)
+    }
+
+    /// The number at a place.
+    fn number_at(&self, place: u64) -> Option<u64> {
+        u64_at(self.bytes.get(place..place.checked_add(8)?)?, 0)
+    }
+
     /// How many minishards there are.
     pub(super) fn minishards(&self) -> u64 {
         1 << self.sharding.minishard_bits.min(MOST_MINISHARD_BITS)
@@ -149,12 +197,19 @@ impl Seen<'_> {
     }
 
     fn file_length(&self) -> u64 {
-        self.file.len() as u64
+        self.bytes.len() as u64
     }
 
     /// Refusal 6. A file that is too long is read only as far as that shows.
     fn length(&self) -> Diagnosis {
         let (length, index) = (self.file_length(), self.index_length());
+        if let Bytes::Two { .. } = self.bytes {
+            return Diagnosis::new(
+                format!("two files of more than {MOST_BYTES} bytes together"),
+                format!("at most {MOST_BYTES} bytes in both files together"),
+                "the data file's length: is it that of one shard, and not of several?",
+            );
+        }
         if length > MOST_BYTES {
             return Diagnosis::new(
                 format!("a file of more than {MOST_BYTES} bytes"),
@@ -170,6 +225,64 @@ impl Seen<'_> {
             ),
             "the file's length: was it cut short? and the minishard bits of the settings",
         )
+    }
+
+    /// Refusal 23. An index file that is too long is read only as far as that
+    /// shows.
+    fn index_file(&self) -> Option<Diagnosis> {
+        let Bytes::Two { index, data } = self.bytes else {
+            return None;
+        };
+        let (found, expected) = (index.len() as u64, self.index_length());
+        let more = if found > MOST_INDEX_BYTES {
+            "at least "
+        } else {
+            ""
+        };
+        let swapped = match data.len() as u64 == expected {
+            true => "; the data file has just this length: are the two exchanged?",
+            false => "",
+        };
+        Some(Diagnosis::new(
+            format!("an index file of {more}{}", counted(found, "byte")),
+            format!(
+                "exactly {expected} bytes: 16 for each of {}",
+                counted(self.minishards(), "minishard")
+            ),
+            format!(
+                "the index file's length: was it cut short, or is it a whole shard? and the \
+                 minishard bits of the settings{swapped}"
+            ),
+        ))
+    }
+
+    /// Refusal 24.
+    fn no_range(&self, start: u64, end: u64) -> Option<Diagnosis> {
+        let Bytes::Two { index, .. } = self.bytes else {
+            return None;
+        };
+        let (seam, length) = (index.len() as u64, self.file_length());
+        let whole = format!(
+            "the index file is bytes 0 to {seam} of the joined file and the data file bytes \
+             {seam} to {length}, each end excluded"
+        );
+        let (found, expected) = if start > end {
+            (
+                format!("start {start} is after end {end}"),
+                "a start that is at most the end".to_string(),
+            )
+        } else if end > length {
+            (
+                format!("end {end}, the joined file ends at byte {length}"),
+                format!("an end of at most {length}"),
+            )
+        } else {
+            (
+                format!("bytes {start} to {end} cross the seam at byte {seam}"),
+                format!("bytes {start} to {seam} and bytes {seam} to {end}, one after the other"),
+            )
+        };
+        Some(Diagnosis::new(found, expected, whole))
     }
 
     /// Refusal 5 of a minishard number.
@@ -205,10 +318,9 @@ impl Seen<'_> {
     /// A fault of the whole shard. Settling does not name its minishard, so the
     /// check is asked.
     fn first_fault(&self, refusal: Refusal) -> Option<Diagnosis> {
-        let shard = Shard::open(*self.sharding, self.number, self.file);
         let minishard = match refusal.minishard {
             Some(minishard) => minishard,
-            None => shard.check().err()?.minishard?,
+            None => self.open().check().err()?.minishard?,
         };
         self.fault(minishard, refusal)
     }
@@ -231,16 +343,13 @@ impl Seen<'_> {
     /// Start and end of a minishard index, counted from the end of the shard
     /// index, by the entry at this byte.
     fn entry(&self, position: u64) -> Option<(u64, u64)> {
-        Some((
-            u64_at(self.file, position)?,
-            u64_at(self.file, position + 8)?,
-        ))
+        Some((self.number_at(position)?, self.number_at(position + 8)?))
     }
 
     /// Refusal 7.
     fn bad_entry(&self, minishard: u64, position: u64) -> Option<Diagnosis> {
         let (start, end) = self.entry(position)?;
-        let look_at = byte(
+        let look_at = self.byte(
             position,
             &format!("shard index, entry of minishard {minishard}: start, then end"),
         );
@@ -254,9 +363,10 @@ impl Seen<'_> {
         let last = u128::from(self.index_length()) + u128::from(end);
         Some(Diagnosis::new(
             format!(
-                "start {start} and end {end}, counted from byte {}: the end is byte {last}, the \
-                 file ends at byte {}",
+                "start {start} and end {end}, counted from byte {}: the end is byte {last}, {} \
+                 ends at byte {}",
                 self.index_length(),
+                self.whole(),
                 self.file_length()
             ),
             format!(
@@ -275,7 +385,7 @@ impl Seen<'_> {
         Some(Diagnosis::new(
             format!("a minishard index of {length} bytes, {rest} more than a multiple of 24"),
             "a multiple of 24: three numbers of 8 bytes for each chunk",
-            byte(
+            self.byte(
                 position,
                 &format!("shard index, entry of minishard {minishard}: start {start}, end {end}"),
             ),
@@ -284,16 +394,14 @@ impl Seen<'_> {
 
     /// The rows of a minishard that has neither 7 nor 8: none where its entry is
     /// empty, wherever that points.
-    pub(super) fn rows(&self, minishard: u64) -> Option<Rows<'_>> {
+    pub(super) fn rows(&self, minishard: u64) -> Option<Rows<'a>> {
         let base = self.index_length();
         let (start, end) = match self.entry(ENTRY * minishard)? {
             (start, end) if start == end => (base, base),
             (start, end) => (base.checked_add(start)?, base.checked_add(end)?),
         };
-        let place = |byte| usize::try_from(byte).ok();
-        let bytes = self.file.get(place(start)?..place(end)?)?;
         Some(Rows {
-            bytes,
+            bytes: self.bytes.get(start..end)?,
             begin: start,
         })
     }
@@ -307,7 +415,7 @@ impl Seen<'_> {
         let told = Diagnosis::new(
             format!("entry {entry} has id {id}, which entry {earlier} has too"),
             "each id once in its minishard, in any order",
-            byte(position, &format!("id steps of minishard {minishard}")),
+            self.byte(position, &format!("id steps of minishard {minishard}")),
         );
         Some(told.of_entry(entry, id))
     }
@@ -326,7 +434,7 @@ impl Seen<'_> {
                 self.sharding.shard_name(place.shard).unwrap_or_default()
             ),
             format!("ids of minishard {minishard} of shard {}", self.number),
-            byte(position, &format!("id steps of minishard {minishard}"))
+            self.byte(position, &format!("id steps of minishard {minishard}"))
                 .and("; and the settings, if many ids are elsewhere"),
         );
         Some(told.of_entry(entry, id))
@@ -339,14 +447,15 @@ impl Seen<'_> {
         let (id, length) = (rows.id(entry)?, self.file_length());
         let start = u128::from(self.index_length()) + u128::from(rows.start(entry));
         let size = rows.place(SIZES, entry);
-        let end = start + u128::from(u64_at(self.file, size)?);
+        let end = start + u128::from(self.number_at(size)?);
         let told = Diagnosis::new(
             format!(
                 "entry {entry}, id {id}: its chunk starts at byte {start} and ends at byte {end}, \
-                 the file ends at byte {length}"
+                 {} ends at byte {length}",
+                self.whole()
             ),
             format!("an end of at most {length}"),
-            byte(
+            self.byte(
                 position,
                 &format!("start steps of minishard {minishard}; the size is at byte {size}"),
             ),
@@ -355,20 +464,19 @@ impl Seen<'_> {
     }
 
     /// What the entry of a manifest tells whose start step is at this byte.
-    fn listed(&self, minishard: u64, position: u64) -> Option<Listed<'_>> {
+    fn listed(&self, minishard: u64, position: u64) -> Option<Listed<'a>> {
         let rows = self.rows(minishard)?;
         let entry = rows.entry(START_STEPS, position)?;
         let size_at = rows.place(SIZES, entry);
         let start = self.index_length().checked_add(rows.start(entry))?;
-        let end = start.checked_add(u64_at(self.file, size_at)?)?;
-        let place = |byte| usize::try_from(byte).ok();
+        let end = start.checked_add(self.number_at(size_at)?)?;
         let words = format!("start steps of minishard {minishard}; the size is at byte {size_at}");
         Some(Listed {
             entry,
             id: rows.id(entry)?,
             start,
-            bytes: self.file.get(place(start)?..place(end)?)?,
-            place: byte(position, &words),
+            bytes: self.bytes.get(start..end)?,
+            place: self.byte(position, &words),
         })
     }
 
@@ -381,7 +489,7 @@ impl Seen<'_> {
         let told = Diagnosis::new(
             format!("entry {entry}, id {id}: {}", inner.found),
             inner.expected.clone(),
-            listed.place.and(in_manifest(listed.start, &inner)),
+            listed.place.and(self.in_manifest(listed.start, &inner)),
         );
         Some(told.of_entry(entry, id))
     }
@@ -417,11 +525,11 @@ impl Seen<'_> {
                 "the settings: a card that says mesh, or --kind mesh",
             ));
         }
-        let shard = Shard::open(*self.sharding, self.number, self.file);
+        let shard = self.open();
         let start = shard.lookup(id).ok()?.start;
         let inner = of_no_node(shard.chunk(id).ok()?, level, node)?;
-        let place = Place::byte(start, "the file", "the manifest");
-        let look_at = place.and(in_manifest(start, &inner));
+        let place = self.byte(start, "the manifest");
+        let look_at = place.and(self.in_manifest(start, &inner));
         Some(Diagnosis::new(
             format!("id {id}: {}", inner.found),
             inner.expected,
@@ -438,7 +546,7 @@ impl Seen<'_> {
             return Some(Diagnosis::new(
                 format!("{where_listed} lists no chunks"),
                 expected,
-                byte(
+                self.byte(
                     ENTRY * minishard,
                     &format!(
                         "shard index, entry of minishard {minishard}: start and end are equal"
@@ -461,7 +569,7 @@ impl Seen<'_> {
                 counted(rows.count(), "chunk")
             ),
             expected,
-            byte(rows.begin, &format!("index of minishard {minishard}")),
+            self.byte(rows.begin, &format!("index of minishard {minishard}")),
         ))
     }
 
@@ -492,12 +600,23 @@ impl Seen<'_> {
 
     /// How many bytes the fragments of a sound mesh minishard have together.
     fn fragments(&self, minishard: u64) -> Option<u64> {
-        let shard = Shard::open(*self.sharding, self.number, self.file);
-        let lengths = shard.listing(minishard).ok()?.into_iter().map(|listed| {
-            let (start, length) = (listed.span.start as usize, listed.span.length as usize);
-            length_of(&Manifest::open(&self.file[start..][..length]))
-        });
+        let listing = self.open().listing(minishard).ok()?.into_iter();
+        let lengths =
+            listing.map(|listed| length_of(&Manifest::open(self.bytes.part(listed.span))));
         lengths.sum()
+    }
+
+    /// Where something of a manifest is, in words behind others.
+    fn in_manifest(&self, start: u64, inner: &Diagnosis) -> String {
+        match inner.byte {
+            Some(byte) => format!(
+                "; byte {} of {} is {}",
+                start + byte,
+                self.whole(),
+                inner.look_at
+            ),
+            None => format!("; the manifest begins at byte {start}; {}", inner.look_at),
+        }
     }
 }
 
@@ -510,14 +629,6 @@ struct Listed<'a> {
     bytes: &'a [u8],
     /// Where the entry's start step is.
     place: Place,
-}
-
-/// Where something of a manifest is in the file, in words behind others.
-fn in_manifest(start: u64, inner: &Diagnosis) -> String {
-    match inner.byte {
-        Some(byte) => format!("; byte {} of the file is {}", start + byte, inner.look_at),
-        None => format!("; the manifest begins at byte {start}; {}", inner.look_at),
-    }
 }
 
 /// The three rows of a minishard index (scope, 'From id to shard').
@@ -589,7 +700,7 @@ impl Rows<'_> {
 #[cfg(test)]
 mod tests {
     use super::*;
-    use coronagamba::Unlisted;
+    use coronagamba::{Shard, Unlisted};
 
     const SHARDING: Sharding = Sharding {
         preshift: 0,

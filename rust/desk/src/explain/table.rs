@@ -206,4 +206,23 @@ pub const TABLE: &[Explained] = &[
         remedy: "Look at them with 'check --unlisted', which tells how many there are and where. \
          Settle with '--drop-unlisted' only when nothing of them is wanted.",
     },
+    Explained {
+        number: 23,
+        given: "of a shard of the earlier two-file edition, the index file is not exactly as \
+         long as the shard index; right after 5",
+        cause: "A copy that was cut short, the two files given in the wrong order, an index file \
+         of another deposit, or wrong minishard bits in the settings.",
+        remedy: "The shard index has 16 bytes for each minishard, 2^minishard_bits of them: \
+         'card show' tells how many there are. Compare the file's length with that and \
+         with the source; compare the minishard bits with the deposit's papers.",
+    },
+    Explained {
+        number: 24,
+        given: "a range crosses the seam, is reversed or passes the end",
+        cause: "A range that counts from the start of the data file, or one that begins in the \
+         index file and ends in the data file. Ranges count in the joined file, from its \
+         first byte, and their end is not in them.",
+        remedy: "The seam is where the index file ends. Ask for the part up to the seam and for \
+         the part from it on, one after the other.",
+    },
 ];

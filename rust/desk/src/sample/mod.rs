@@ -1,5 +1,5 @@
 //! The sample deposit: a small volume, sharded two ways, in three copies of
-//! different layout, a damaged copy, a mesh manifest, and a few nets in two
+//! different layout and one of the earlier edition, a damaged copy, a mesh manifest, and a few nets in two
 //! copies. Its bytes are the same every time.
 
 mod damage;
@@ -79,6 +79,7 @@ pub fn parts() -> Result<Vec<Part>, Refusal> {
     let murmur = layout::scattered(&MURMUR, &chunks, Order::Rising)?;
     let mesh_b = layout::scattered(&MESH, &mesh::nets(), Order::Arrival)?;
     let mesh_a = settled(&MESH, &mesh_b)?;
+    let pairs = copy_c.clone();
     let same_chunks = "the same chunks in another layout";
     let arrival = "the same chunks, listed in order of arrival";
     Ok(vec![
@@ -90,6 +91,7 @@ pub fn parts() -> Result<Vec<Part>, Refusal> {
         folder("copy-a", &DEPOSIT, copy_a, "settled forms")?,
         folder("copy-b", &DEPOSIT, copy_b, same_chunks)?,
         folder("copy-c", &DEPOSIT, copy_c, arrival)?,
+        pairs_folder("pairs", &DEPOSIT, pairs, "copy-c in the earlier edition")?,
         folder("damaged", &DEPOSIT, damaged, "copy-b from a failing disk")?,
         card("murmur.card", &MURMUR, "the same volume, another hash")?,
         folder("murmur", &MURMUR, murmur, "the same chunks under that hash")?,
@@ -135,6 +137,29 @@ fn folder(
         .into_iter()
         .map(named)
         .collect::<Result<_, Refusal>>()?;
+    Ok(Part {
+        name,
+        about,
+        files: Files::Folder(files),
+    })
+}
+
+/// A folder of shards of the earlier edition, each cut behind its shard index into
+/// two files.
+fn pairs_folder(
+    name: &'static str,
+    sharding: &Sharding,
+    shards: Shards,
+    about: &str,
+) -> Result<Part, Refusal> {
+    let about = format!("{} shards of two files each, {about}", shards.len());
+    let seam = 16 << sharding.minishard_bits;
+    let mut files = Vec::new();
+    for (number, mut index) in shards {
+        let data = index.split_off(seam);
+        files.push((sharding.index_name(number)?, index));
+        files.push((sharding.data_name(number)?, data));
+    }
     Ok(Part {
         name,
         about,

@@ -116,6 +116,22 @@ fn the_copies_hold_the_same_chunks_under_other_bytes() {
     assert_eq!(chunks.get(&key([4, 4, 0])), None);
 }
 
+/// The pairs are the shards of copy-c, cut behind their shard indexes.
+#[test]
+fn the_earlier_edition() {
+    let folder = Folder::with_sample();
+    let copy = shards(&folder, "copy-c");
+    let mut names = Vec::new();
+    for (number, file) in copy {
+        let [index, data] = ["index", "data"].map(|ending| format!("{number:x}.{ending}"));
+        let read = |name: &str| folder.read(format!("demo/pairs/{name}"));
+        assert_eq!(read(&index), file[..32]);
+        assert_eq!(read(&data), file[32..]);
+        names.extend([data, index]);
+    }
+    assert_eq!(folder.names("demo/pairs"), names);
+}
+
 /// Each nonempty minishard of copy-c lists the ids of copy-a in another order,
 /// with starts that jump back, and settles to copy-a's bytes.
 #[test]

@@ -1,7 +1,7 @@
 -- The count of a minishard of a file, by its two parts.
 use borrow.Author.Needs.{needs}
 use Rattle.shard.proofs.Split.{front-count, front-index, rest-short}
-use Rattle.listing.proofs.Listings.{in-fault, in-count, in-entry, in-order}
+use Rattle.listing.proofs.Listings.{parts-count}
 use Rattle.listing.proofs.inner.count_file.Statement.{statement}
 use Rattle.listing.proofs.inner.count_file.Tie as tie
 
@@ -9,5 +9,4 @@ pub count-file-spec : {M : Type 1} → statement M
 count-file-spec =
     tie.close
     (tie.spec (λ c κs. search needs) (λ c. search front-count) (λ c. search needs) (λ c. search needs) (λ c. search needs)
-    (λ c κs. (search needs, ((search front-index, search rest-short), search needs))) (λ c. search in-fault) (λ c. search front-count)
-    (λ c κs. (search in-entry, search in-order)) (λ c. search in-count))
+    (λ c κs. (search needs, ((search front-index, search rest-short), search needs))) (λ c. search parts-count))

@@ -3,4 +3,24 @@ use Rattle.names.proofs.inner.put_suffix.Statement.{statement}
 use Rattle.names.proofs.inner.put_suffix.Tie as tie
 
 pub put-suffix-spec : {M : Type 1} → statement M
-put-suffix-spec = tie.close (tie.spec (λ c κs. search naming) (λ c. search naming) (λ c κs. search naming) (λ c. search naming) (λ c. search naming))
+put-suffix-spec =
+    tie.close
+    (tie.spec
+    (λ c. search naming)
+    (λ c κs. search naming)
+    (λ c. search naming)
+    (λ c κs. search naming)
+    (λ c. search naming)
+    (λ c κs. search naming)
+    (λ c. search naming)
+    (λ c κs. search naming)
+    (λ c. search naming)
+    (λ c κs. search naming)
+    (λ c. search naming)
+    (λ c κs. search naming)
+    (λ c. search naming)
+    (λ c. search naming)
+    (λ c. search naming)
+    (λ c. search naming)
+    (λ c. search naming)
+    (λ c. search naming))

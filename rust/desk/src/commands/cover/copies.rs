@@ -6,14 +6,15 @@ use std::fs;
 use std::path::{Path, PathBuf};
 use std::sync::Arc;
 
-use coronagamba::{Cell, Refusal, Shard, Sharding, Volume};
+use coronagamba::{Cell, Refusal, Sharding, Volume};
 
 use crate::args::{flag, value, Args, Opt};
 use crate::commands::cell_text;
 use crate::diagnosis;
+use crate::edition::{Bytes, Source};
 use crate::fault::{Fault, Refused, Status};
-use crate::files::{is_missing, length_to_read, one_place, read_into, Inputs};
-use crate::folder::{entry, Trouble};
+use crate::files::{one_place, Inputs};
+use crate::folder::find;
 use crate::json::Object;
 use crate::memory::Room;
 use crate::naming::cell_of_chunk;
@@ -69,7 +70,10 @@ pub fn copy(
         Refused::asked("settings", refusal, diagnosis)
     })?;
     output::make_folder(out, "chunks are copied into a folder")?;
-    let paths = jobs.iter().map(|job| job.path.as_path());
+    let known = jobs
+        .iter()
+        .filter_map(|job| job.source.as_ref().ok()?.as_ref());
+    let paths = known.flat_map(Source::paths);
     let task = Task {
         sharding,
         volume,
@@ -88,7 +92,11 @@ pub fn copy(
 
 /// A shard and the keys that are asked of it, rising.
 struct Job {
+    /// Its file's path, of a pair that of the index file; where the deposit has
+    /// none, the one that it would have.
     path: PathBuf,
+    /// Its files, where the deposit has them.
+    source: Result<Option<Source>, Fault>,
     number: u64,
     keys: Vec<u64>,
 }
@@ -100,8 +108,15 @@ fn jobs(sharding: &Sharding, keys: &[u64], deposit: &Path) -> Result<Vec<Job>, R
         shards.entry(place.shard).or_default().push(*key);
     }
     let job = |(number, keys)| {
+        let found = find(sharding, deposit, number)?;
+        let path = match &found {
+            Some(input) => input.source.path.clone(),
+            None => deposit.join(sharding.shard_name(number)?),
+        };
+        let known = found.map(|input| Ok(input.known(sharding)?.0));
         Ok(Job {
-            path: deposit.join(sharding.shard_name(number)?),
+            path,
+            source: known.transpose(),
             number,
             keys,
         })
@@ -133,8 +148,8 @@ enum End {
     NoShard,
     /// The library refused it: the first of its minishard, or a later one.
     Refused(Arc<Refused>, bool),
-    /// Its shard could not be read.
-    NotRead,
+    /// Its shard could not be read, which has this status.
+    NotRead(Status),
     /// It could not be written.
     NotWritten(Fault),
 }
@@ -149,36 +164,34 @@ struct Task<'a> {
 }
 
 impl Task<'_> {
-    fn work(&self, room: &mut Room, job: Job) -> Outcome<Read> {
+    fn work(&self, room: &mut Room, mut job: Job) -> Outcome<Read> {
         room.file.clear();
-        let (fault, chunks) = match self.read(room, &job) {
-            Ok(true) => (None, self.copies(&job, &room.file)),
+        let (fault, chunks) = match self.read(room, &mut job) {
+            Ok(true) => (None, self.copies(&job, room.file.bytes())),
             Ok(false) => (None, self.all(&job, || End::NoShard)),
-            Err(fault) => (Some(fault), self.all(&job, || End::NotRead)),
+            Err(fault) => {
+                let status = fault.status();
+                (Some(fault), self.all(&job, || End::NotRead(status)))
+            }
         };
         Outcome {
             refused: chunks
                 .iter()
                 .any(|copy| matches!(copy.end, End::Refused(..))),
-            read: room.file.len() as u64,
+            read: room.file.bytes().len() as u64,
             path: job.path,
             verdict: Read { fault, chunks },
         }
     }
 
     /// Reads the shard; `false` where the deposit has none.
-    fn read(&self, room: &mut Room, job: &Job) -> Result<bool, Fault> {
-        if is_missing(&job.path) {
+    fn read(&self, room: &mut Room, job: &mut Job) -> Result<bool, Fault> {
+        let Some(source) = std::mem::replace(&mut job.source, Ok(None))? else {
             return Ok(false);
-        }
-        let name = job.path.file_name().unwrap_or_default().to_os_string();
-        let folder = job.path.parent().unwrap_or(Path::new(""));
-        if let Err(Trouble::Fault(fault)) = entry(&self.sharding, folder, name).number {
-            return Err(fault);
-        }
+        };
         let read = |room: &mut Room| {
-            room.wait_for([length_to_read(&job.path), 0, 0]);
-            read_into(&job.path, &mut room.file)
+            room.wait_for([source.length_to_read(), 0, 0]);
+            room.file.read(&source)
         };
         room.attempt(read, round::lacks_memory).map(|()| true)
     }
@@ -190,8 +203,8 @@ impl Task<'_> {
 
     /// Copies the chunks of a shard. A fault in a minishard is looked for once,
     /// however many chunks it keeps back.
-    fn copies(&self, job: &Job, file: &[u8]) -> Vec<Copied> {
-        let shard = Shard::open(self.sharding, job.number, file);
+    fn copies(&self, job: &Job, file: Bytes) -> Vec<Copied> {
+        let shard = file.open(&self.sharding, job.number);
         let mut known: BTreeMap<(u8, u64), Arc<Refused>> = BTreeMap::new();
         let mut copies = Vec::with_capacity(job.keys.len());
         for key in &job.keys {
@@ -216,12 +229,12 @@ impl Task<'_> {
     /// The minishard that a refusal is about; 0 where it is about the file.
     fn minishard_of(&self, key: u64, refusal: Refusal) -> u64 {
         match (refusal.number, self.sharding.place(key)) {
-            (7.., Ok(place)) => place.minishard,
+            (7..=22, Ok(place)) => place.minishard,
             _ => 0,
         }
     }
 
-    fn refused(&self, job: &Job, file: &[u8], key: u64, refusal: Refusal) -> Refused {
+    fn refused(&self, job: &Job, file: Bytes, key: u64, refusal: Refusal) -> Refused {
         let diagnosis = diagnosis::of_lookup(&self.sharding, job.number, file, key, refusal);
         Refused::file(&job.path, refusal, diagnosis)
     }
@@ -285,7 +298,7 @@ impl Summary {
             End::Absent => (&mut self.absent, Status::Yes),
             End::NoShard => (&mut self.no_shard, Status::Yes),
             End::Refused(..) => (&mut self.refused, Status::No),
-            End::NotRead => (&mut self.failed, Status::System),
+            End::NotRead(status) => (&mut self.failed, *status),
             End::NotWritten(fault) => (&mut self.failed, fault.status()),
         };
         *count += 1;
@@ -387,7 +400,7 @@ impl End {
             End::Absent => "absent".into(),
             End::NoShard => "no shard".into(),
             End::Refused(refused, _) => format!("refused {}", refused.refusal.number),
-            End::NotRead => "not read".into(),
+            End::NotRead(_) => "not read".into(),
             End::NotWritten(_) => "not written".into(),
         }
     }

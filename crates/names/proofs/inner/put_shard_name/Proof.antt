@@ -1,6 +1,0 @@
-use Rattle.names.proofs.Sharded.{naming}
-use Rattle.names.proofs.inner.put_shard_name.Statement.{statement}
-use Rattle.names.proofs.inner.put_shard_name.Tie as tie
-
-pub put-shard-name-spec : {M : Type 1} → statement M
-put-shard-name-spec = tie.close (tie.spec (λ c κs. search naming) (λ c κs. search naming) (λ c. search naming) (λ c κs. search naming) (λ c. search naming) (λ c. search naming) (λ c. search naming) (λ c. search naming))

@@ -1,0 +1,2 @@
+-- The walk that the functions share.
+pub mod Ask

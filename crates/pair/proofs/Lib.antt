@@ -1,0 +1,5 @@
+-- Laws of the calls on a pair.
+pub mod Answers
+pub mod Parts
+pub mod Fragments
+pub mod Laws

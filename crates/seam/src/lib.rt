@@ -1,0 +1,48 @@
+// The earlier edition of a shard, an index file and a data file, taken as their concatenation: the lengths of the two, and byte ranges.
+pub mod inner;
+
+ghost use mathlib.Core.Path.{_≡_};
+ghost use Prim.Native.Nat.{_+_};
+ghost use Rattle.seam.specs.Range.{rangeAnswer, either, rangeStart, rangeBytes};
+use sharding::Sharding;
+use sharding::inner::is_allowed;
+
+// Which file holds a range of the joined file, where in that file, and how long it is.
+pub enum RangeAnswer {
+    InIndex { start: usize, length: usize },
+    InData { start: usize, length: usize },
+    Refused(u8),
+}
+
+// Where the bytes of the joined file from `start` up to `end`, end excluded, are, or the refusal.
+pub fn range(spec: Sharding, index: &[u8], data: &[u8], start: u64, end: u64) -> RangeAnswer
+    ensures answer { λ r. ⌜ r ≡ rangeAnswer spec (now (index .entry)) (now («data» .entry)) start end ⌝ }
+{
+    if !is_allowed(spec) {
+        return RangeAnswer::Refused(1);
+    }
+    let number = inner::length_number(spec, index, data);
+    if number != 0 {
+        return RangeAnswer::Refused(number);
+    }
+    inner::held(
+        index.len() as u64,
+        (index.len() + data.len()) as u64,
+        start,
+        end,
+    )
+}
+
+// They themselves, a part of the index file or of the data file, uncopied; refused, the empty part at the data file's start.
+pub fn range_part<'a>(
+    spec: Sharding,
+    index: &'a [u8],
+    data: &'a [u8],
+    start: u64,
+    end: u64,
+) -> &'a [u8]
+    ensures answer { λ r. ⌜ now r ≡ rangeBytes (rangeAnswer spec (now (index .entry)) (now («data» .entry)) start end) (now (index .entry)) (now («data» .entry)) ⌝ }
+    ensures place { λ r. ⌜ (r .ptr .0 ≡ either (rangeAnswer spec (now (index .entry)) (now («data» .entry)) start end) (index .entry .ptr .0) («data» .entry .ptr .0)) × (r .ptr .1 ≡ either (rangeAnswer spec (now (index .entry)) (now («data» .entry)) start end) (index .entry .ptr .1) («data» .entry .ptr .1) + rangeStart (rangeAnswer spec (now (index .entry)) (now («data» .entry)) start end)) ⌝ }
+{
+    inner::held_part(index, data, range(spec, index, data, start, end))
+}
