@@ -63,14 +63,23 @@
  * The seam is where the index file ends; 23 is given right after 5 where it is
  * not where the shard index ends.
  *
+ * Intake. A new volume shard is opened, each chunk announced and handed over in
+ * parts of any lengths, and the shard closed. The state between two calls is
+ * the caller's, CORONAGAMBA_INTAKE_NUMBERS numbers: the opening writes them, the
+ * other calls read them and, unless they refuse, write the new ones. Each call
+ * takes the state and both buffers as the last call left them; the state says
+ * nothing that a caller need look at. A state that no calls could have left is
+ * refused with 25, and whatever is lent, nothing past it is touched.
+ *
  * A comment below ends with the refusals that its function can give, in the
  * order in which they are tested.
  *
  * Results. They go through pointers, and need not be initialised before: what
- * stands behind them is not read. A refusal leaves everything behind them as it
- * was, so a result that was not initialised is then still not. A function that
- * writes into a lent buffer writes at its front and gives in `length` how many
- * bytes or numbers it wrote; what lies past them is as it was.
+ * stands behind them is not read, but for the state of an intake. A refusal
+ * leaves everything behind them as it was, so a result that was not initialised
+ * is then still not. A function that writes into a lent buffer writes at its
+ * front and gives in `length` how many bytes or numbers it wrote; what lies past
+ * them is as it was. The calls of an intake write where the shard grows.
  *
  * Reals. A real crosses as the bits of its 32-bit float, in a uint32_t, since a
  * float need not keep the bits of a NaN. A program has the float by
@@ -125,7 +134,8 @@
 /* ---- refusals ------------------------------------------------------------ */
 
 /* preshift above 63, hash neither identity nor murmur, minishard bits above
- * 16, shard bits above 32, or a kind that is neither volume nor mesh */
+ * 16, shard bits above 32, or a kind that is neither volume nor mesh; at an
+ * intake also the kind mesh */
 #define CORONAGAMBA_REFUSED_SHARDING_NOT_ALLOWED 1
 
 /* a volume or chunk extent is 0, or a cell coordinate is not below its grid
@@ -158,7 +168,8 @@
 /* an id stands twice in a minishard */
 #define CORONAGAMBA_REFUSED_ID_TWICE 9
 
-/* a listed id belongs to another shard or minishard */
+/* a listed id belongs to another shard or minishard; at an intake, with no
+ * position, the announced id belongs to another shard */
 #define CORONAGAMBA_REFUSED_ID_ELSEWHERE 10
 
 /* index end plus start plus size of a chunk, taken exactly, passes the file */
@@ -168,7 +179,10 @@
 #define CORONAGAMBA_REFUSED_NOT_LISTED 12
 
 /* the output is too short for the whole answer, or a settled form would
- * exceed 1,073,741,824 bytes */
+ * exceed 1,073,741,824 bytes; at an intake, on opening or announcing, the
+ * settled form of all announced so far, this chunk included, would pass the
+ * output or 1,073,741,824 bytes, or the second buffer has no 16 bytes left
+ * for it */
 #define CORONAGAMBA_REFUSED_NO_ROOM 13
 
 /* the card is malformed */
@@ -217,6 +231,19 @@
 /* a range crosses the seam, is reversed or passes the end */
 #define CORONAGAMBA_REFUSED_NO_SUCH_RANGE 24
 
+/* at an intake, a chunk is announced whose minishard is below the open one,
+ * or is the open one and its id not above the last; or the shard was closed;
+ * or the state's numbers contradict each other or the second buffer, so that
+ * no calls could have left them */
+#define CORONAGAMBA_REFUSED_INTAKE_ORDER 25
+
+/* at an intake, a part is longer than what is still owed, or a chunk is
+ * announced or the shard closed while bytes are owed */
+#define CORONAGAMBA_REFUSED_INTAKE_OWED 26
+
+/* at an intake, after opening, a lent buffer has another length than then */
+#define CORONAGAMBA_REFUSED_INTAKE_BUFFERS 30
+
 /* ---- other numbers ------------------------------------------------------- */
 
 /* a sharding's hash that leaves an id as it is */
@@ -243,6 +270,9 @@
 
 /* a pair's data file */
 #define CORONAGAMBA_FILE_DATA 1
+
+/* how many numbers the state of an intake has */
+#define CORONAGAMBA_INTAKE_NUMBERS 15
 
 #ifdef __cplusplus
 extern "C" {
@@ -585,6 +615,51 @@ uint64_t coronagamba_index_name(coronagamba_sharding sharding, uint64_t shard,
  * 5, 13 where `out` is shorter than the name */
 uint64_t coronagamba_data_name(coronagamba_sharding sharding, uint64_t shard,
                                uint8_t *out, size_t count, uint64_t *length);
+
+/* ---- Intake: a new volume shard, written while its chunks come in parts -- */
+
+/* Opens a new volume shard, which will grow at the front of `out`; `waiting`
+ * will hold the ids and sizes of the chunks of one minishard at a time, 16
+ * bytes for each. Writes the shard index of a shard with no chunk to the
+ * front of `out`, and the state of the intake, 15 numbers, to `state`. The
+ * caller keeps them and lends them to the calls that follow, each as the
+ * last one left them, with both buffers; they need no look. Refusals: 1 also
+ * where the kind is mesh, 5, 13 where the shard index passes `out` */
+uint64_t coronagamba_intake_open(coronagamba_sharding sharding, uint64_t shard,
+                                 uint8_t *out, size_t count,
+                                 const uint8_t *waiting, size_t waiting_count,
+                                 uint64_t state[15]);
+
+/* Announces the next chunk, by rising minishard and then rising id, and its
+ * number of bytes, which are owed from then on. Where it is the first of its
+ * minishard, writes the minishard index of the one before to `out`. Writes
+ * its id and size to `waiting`, and the new state to `state`. Refusals: 30
+ * where a buffer has another length than on opening, 10 where the id belongs
+ * to another shard, 25 out of order or after the close or where no calls
+ * could have left the state, 26 while bytes are owed, 13 where the settled
+ * form of all announced so far and this chunk would pass `out` or 1 GiB or
+ * `waiting` has no 16 bytes left for it */
+uint64_t coronagamba_intake_announce(uint64_t state[15], uint64_t id,
+                                     uint64_t size, uint8_t *out, size_t count,
+                                     uint8_t *waiting, size_t waiting_count);
+
+/* Hands over the next bytes of the announced chunk, as many as are given,
+ * none or all that are owed. Writes them to their final place in `out`, and
+ * the new state to `state`. Refusals: 30 where a buffer has another length
+ * than on opening, 25 after the close or where no calls could have left the
+ * state, 26 where these are more bytes than are owed */
+uint64_t coronagamba_intake_part(uint64_t state[15], const uint8_t *bytes,
+                                 size_t count, uint8_t *out, size_t out_count,
+                                 const uint8_t *waiting, size_t waiting_count);
+
+/* Closes the shard: `out` then begins with the settled form of what was
+ * delivered. Writes its number of bytes to `length`, and to `state` a state
+ * with which each further call is refused. Refusals: 30 where a buffer has
+ * another length than on opening, 25 after the close or where no calls could
+ * have left the state, 26 while bytes are owed */
+uint64_t coronagamba_intake_close(uint64_t state[15], uint8_t *out,
+                                  size_t count, const uint8_t *waiting,
+                                  size_t waiting_count, uint64_t *length);
 
 /* ---- Deposit cards ------------------------------------------------------- */
 

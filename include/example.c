@@ -253,6 +253,47 @@ static void meshes(void) {
       "check, fragments before the data");
 }
 
+/* The same shard of ids 4 and 10, written while the second chunk comes in two
+ * parts. The second buffer has 16 bytes for each of the two. */
+static void intakes(void) {
+  coronagamba_sharding sharding = {0, 0, 1, 0, CORONAGAMBA_KIND_VOLUME};
+  const uint64_t numbers[4] = {5, 53, 0, 0};
+  const uint64_t rows[6] = {4, 6, 0, 0, 2, 3};
+  const uint8_t bytes[5] = {'a', 'b', 'c', 'd', 'e'};
+  uint8_t form[85], out[90], waiting[32];
+  uint64_t state[CORONAGAMBA_INTAKE_NUMBERS], length = 7;
+  size_t i;
+  for (i = 0; i < 4; i++) put(form + 8 * i, numbers[i], 8);
+  memcpy(form + 32, bytes, 5);
+  for (i = 0; i < 6; i++) put(form + 37 + 8 * i, rows[i], 8);
+  see(coronagamba_intake_open(sharding, 0, out, 31, waiting, 32, state) ==
+          CORONAGAMBA_REFUSED_NO_ROOM,
+      "intake_open, no room for the shard index");
+  see(coronagamba_intake_open(sharding, 0, out, 90, waiting, 32, state) == 0,
+      "intake_open");
+  see(coronagamba_intake_announce(state, 4, 2, out, 90, waiting, 32) == 0 &&
+          coronagamba_intake_part(state, bytes, 2, out, 90, waiting, 32) == 0,
+      "intake_announce and intake_part");
+  see(coronagamba_intake_announce(state, 4, 2, out, 90, waiting, 32) ==
+          CORONAGAMBA_REFUSED_INTAKE_ORDER,
+      "intake_announce, an id not above the last");
+  see(coronagamba_intake_announce(state, 10, 3, out, 90, waiting, 32) == 0 &&
+          coronagamba_intake_part(state, bytes + 2, 1, out, 90, waiting, 32) ==
+              0,
+      "intake_part, some of what is owed");
+  see(coronagamba_intake_close(state, out, 90, waiting, 32, &length) ==
+              CORONAGAMBA_REFUSED_INTAKE_OWED &&
+          length == 7,
+      "intake_close, bytes are owed");
+  see(coronagamba_intake_part(state, bytes + 3, 2, out, 90, waiting, 31) ==
+          CORONAGAMBA_REFUSED_INTAKE_BUFFERS,
+      "intake_part, another length of the second buffer");
+  see(coronagamba_intake_part(state, bytes + 3, 2, out, 90, waiting, 32) == 0 &&
+          coronagamba_intake_close(state, out, 90, waiting, 32, &length) == 0 &&
+          length == 85 && memcmp(out, form, 85) == 0,
+      "intake_close");
+}
+
 static void cards(void) {
   coronagamba_sharding sharding = {0, 0, 1, 2, CORONAGAMBA_KIND_VOLUME};
   coronagamba_sharding mesh = {0, 0, 1, 2, CORONAGAMBA_KIND_MESH};
@@ -359,6 +400,7 @@ int main(void) {
   places();
   shards();
   meshes();
+  intakes();
   cards();
   infos();
   manifests();

@@ -12,6 +12,7 @@ threads run during a call, and must not change the bytes that it was lent.
 from ._declared import __version__
 from .card import Card
 from .grid import Bounds, Cell, Extents, Offset, Point, Volume
+from .intake import Intake
 from .manifest import Corners, Header, Manifest, Node, Visit
 from .pair import Half, Held, Pair
 from .refusal import Absent, Refused
@@ -32,6 +33,7 @@ __all__ = [
     "Half",
     "Header",
     "Held",
+    "Intake",
     "Listed",
     "Manifest",
     "Node",

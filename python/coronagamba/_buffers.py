@@ -198,6 +198,22 @@ def byte_view(name: str, data: ReadableBuffer) -> memoryview:
     return view.toreadonly().cast("B")
 
 
+def writable_view(name: str, data: WriteableBuffer) -> memoryview:
+    """A view of an object's bytes that can be written to."""
+    try:
+        view = memoryview(data)
+    except TypeError:
+        raise TypeError(
+            f"{name} must be a writable bytes-like object, not "
+            f"{type(data).__name__}"
+        ) from None
+    if view.readonly or not view.c_contiguous:
+        raise TypeError(
+            f"{name} must be a C-contiguous writable bytes-like object"
+        )
+    return view.cast("B")
+
+
 def own(item: Any, values: Numbers) -> Any:
     """A pointer to the items of an array that nobody else has; NULL for an
     empty one."""

@@ -37,6 +37,9 @@ FILE_INDEX = 0
 # a pair's data file
 FILE_DATA = 1
 
+# how many numbers the state of an intake has
+INTAKE_NUMBERS = 15
+
 
 class Sharding(ctypes.Structure):
     """The numbers as they stand in a card: hash 0 is identity, 1 is murmur;
@@ -621,6 +624,82 @@ FUNCTIONS: Dict[str, Tuple[Any, Tuple[Any, ...]]] = {
         (
             Sharding,
             ctypes.c_uint64,
+            POINTER(ctypes.c_uint8),
+            ctypes.c_size_t,
+            POINTER(ctypes.c_uint64),
+        ),
+    ),
+    # Opens a new volume shard, which will grow at the front of `out`;
+    # `waiting` will hold the ids and sizes of the chunks of one minishard at a
+    # time, 16 bytes for each. Writes the shard index of a shard with no chunk
+    # to the front of `out`, and the state of the intake, 15 numbers, to
+    # `state`. The caller keeps them and lends them to the calls that follow,
+    # each as the last one left them, with both buffers; they need no look.
+    # Refusals: 1 also where the kind is mesh, 5, 13 where the shard index
+    # passes `out`
+    "coronagamba_intake_open": (
+        ctypes.c_uint64,
+        (
+            Sharding,
+            ctypes.c_uint64,
+            POINTER(ctypes.c_uint8),
+            ctypes.c_size_t,
+            POINTER(ctypes.c_uint8),
+            ctypes.c_size_t,
+            POINTER(ctypes.c_uint64 * 15),
+        ),
+    ),
+    # Announces the next chunk, by rising minishard and then rising id, and its
+    # number of bytes, which are owed from then on. Where it is the first of
+    # its minishard, writes the minishard index of the one before to `out`.
+    # Writes its id and size to `waiting`, and the new state to `state`.
+    # Refusals: 30 where a buffer has another length than on opening, 10 where
+    # the id belongs to another shard, 25 out of order or after the close or
+    # where no calls could have left the state, 26 while bytes are owed, 13
+    # where the settled form of all announced so far and this chunk would pass
+    # `out` or 1 GiB or `waiting` has no 16 bytes left for it
+    "coronagamba_intake_announce": (
+        ctypes.c_uint64,
+        (
+            POINTER(ctypes.c_uint64 * 15),
+            ctypes.c_uint64,
+            ctypes.c_uint64,
+            POINTER(ctypes.c_uint8),
+            ctypes.c_size_t,
+            POINTER(ctypes.c_uint8),
+            ctypes.c_size_t,
+        ),
+    ),
+    # Hands over the next bytes of the announced chunk, as many as are given,
+    # none or all that are owed. Writes them to their final place in `out`, and
+    # the new state to `state`.
+    # Refusals: 30 where a buffer has another length than on opening, 25 after
+    # the close or where no calls could have left the state, 26 where these are
+    # more bytes than are owed
+    "coronagamba_intake_part": (
+        ctypes.c_uint64,
+        (
+            POINTER(ctypes.c_uint64 * 15),
+            POINTER(ctypes.c_uint8),
+            ctypes.c_size_t,
+            POINTER(ctypes.c_uint8),
+            ctypes.c_size_t,
+            POINTER(ctypes.c_uint8),
+            ctypes.c_size_t,
+        ),
+    ),
+    # Closes the shard: `out` then begins with the settled form of what was
+    # delivered. Writes its number of bytes to `length`, and to `state` a state
+    # with which each further call is refused.
+    # Refusals: 30 where a buffer has another length than on opening, 25 after
+    # the close or where no calls could have left the state, 26 while bytes are
+    # owed
+    "coronagamba_intake_close": (
+        ctypes.c_uint64,
+        (
+            POINTER(ctypes.c_uint64 * 15),
+            POINTER(ctypes.c_uint8),
+            ctypes.c_size_t,
             POINTER(ctypes.c_uint8),
             ctypes.c_size_t,
             POINTER(ctypes.c_uint64),

@@ -12,7 +12,8 @@ class Numbers:
     """The numbers by name."""
 
     # preshift above 63, hash neither identity nor murmur, minishard bits above
-    # 16, shard bits above 32, or a kind that is neither volume nor mesh
+    # 16, shard bits above 32, or a kind that is neither volume nor mesh; at an
+    # intake also the kind mesh
     SHARDING_NOT_ALLOWED = 1
 
     # a volume or chunk extent is 0, or a cell coordinate is not below its grid
@@ -45,7 +46,8 @@ class Numbers:
     # an id stands twice in a minishard
     ID_TWICE = 9
 
-    # a listed id belongs to another shard or minishard
+    # a listed id belongs to another shard or minishard; at an intake, with no
+    # position, the announced id belongs to another shard
     ID_ELSEWHERE = 10
 
     # index end plus start plus size of a chunk, taken exactly, passes the file
@@ -55,7 +57,10 @@ class Numbers:
     NOT_LISTED = 12
 
     # the output is too short for the whole answer, or a settled form would
-    # exceed 1,073,741,824 bytes
+    # exceed 1,073,741,824 bytes; at an intake, on opening or announcing, the
+    # settled form of all announced so far, this chunk included, would pass the
+    # output or 1,073,741,824 bytes, or the second buffer has no 16 bytes left
+    # for it
     NO_ROOM = 13
 
     # the card is malformed
@@ -104,6 +109,19 @@ class Numbers:
     # a range crosses the seam, is reversed or passes the end
     NO_SUCH_RANGE = 24
 
+    # at an intake, a chunk is announced whose minishard is below the open one,
+    # or is the open one and its id not above the last; or the shard was
+    # closed; or the state's numbers contradict each other or the second
+    # buffer, so that no calls could have left them
+    INTAKE_ORDER = 25
+
+    # at an intake, a part is longer than what is still owed, or a chunk is
+    # announced or the shard closed while bytes are owed
+    INTAKE_OWED = 26
+
+    # at an intake, after opening, a lent buffer has another length than then
+    INTAKE_BUFFERS = 30
+
 
 # Each number with its sentence, rising.
 SENTENCES: Dict[int, str] = {
@@ -146,4 +164,10 @@ SENTENCES: Dict[int, str] = {
         "The range crosses the seam of the two files, is reversed or passes "
         "the end."
     ),
+    25: (
+        "The chunk is out of order, the shard was closed, or no calls could "
+        "have left this state."
+    ),
+    26: "The part is longer than what is still owed, or bytes are owed.",
+    30: "A buffer has another length than when the shard was opened.",
 }

@@ -51,10 +51,14 @@ THREE_U32 = c_uint32 * 3
 THREE_I64 = c_int64 * 3
 TWO_U64 = c_uint64 * 2
 RANGE = [c_uint32, c_uint64, c_uint64]
+STATE = c_uint64 * 15
+OUT = (c_uint8 * 40, 40)
+WAITING = (c_uint8 * 16, 16)
 # The word of a fault in the second entry of the shard index.
 SECOND = 7 + (16 + 1 << 32)
 # A refusing call: its word, the function, what it is given in front, and
-# the types of what it could write, with a count where it asks for one.
+# the types of what it could write, with a count where it asks for one, and
+# numbers that stand between them.
 CALLS = [
     (2, "grid_of", (NO_VOLUME,), [THREE_U32]),
     (2, "key_of", (NO_VOLUME, CELL), [U64]),
@@ -121,6 +125,12 @@ CALLS = [
     (22, "settled_length", UNLISTED + (0,), [U64]),
     (22, "settle", UNLISTED + (0,), [(c_uint8 * 31, 31), U64]),
     (13, "settle", UNLISTED + (1,), [(c_uint8 * 31, 31), U64]),
+    (1, "intake_open", (FORBIDDEN, 0), [OUT, WAITING, STATE]),
+    (5, "intake_open", (ALLOWED, 1), [OUT, WAITING, STATE]),
+    (13, "intake_open", (ALLOWED, 0), [(c_uint8 * 31, 31), WAITING, STATE]),
+    (30, "intake_announce", (), [STATE, 5, 2, OUT, WAITING]),
+    (30, "intake_part", (), [STATE, (c_uint8 * 2, 2), OUT, WAITING]),
+    (30, "intake_close", (), [STATE, OUT, WAITING, U64]),
     (
         14,
         "card_read",
@@ -159,6 +169,8 @@ class Kept(unittest.TestCase):
                         kind, count = output
                         values.append(filled(kind))
                         arguments += [values[-1], count]
+                    elif isinstance(output, int):
+                        arguments.append(output)
                     else:
                         values.append(filled(output))
                         arguments.append(byref(values[-1]))

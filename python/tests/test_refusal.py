@@ -4,9 +4,11 @@ import mmap
 import pickle
 import struct
 import unittest
+from ctypes import byref, c_uint8, c_uint64
 
-from coronagamba import Absent, Card, Manifest, Pair, Refused, Shard
+from coronagamba import Absent, Card, Intake, Manifest, Pair, Refused, Shard
 from coronagamba import Sharding, Volume
+from coronagamba._library import library
 from coronagamba._refusals import SENTENCES
 from coronagamba.refusal import answer
 
@@ -34,6 +36,30 @@ def huge_settled_form():
     return Shard(sharding, 0, index + bytes(size) + tables)
 
 
+def intake(*chunks, owed=0, closed=False):
+    """An intake of two minishards with these chunks, then one that owes so
+    many bytes, and closed where that is asked for."""
+    made = Intake(TWO, 0, 150, 32)
+    for id, data in chunks:
+        made.announce(id, len(data))
+        made.part(data)
+    if owed:
+        made.announce(0, owed)
+    if closed:
+        made.close()
+    return made
+
+
+def other_length():
+    """A part with buffers of other lengths than a state says: an `Intake`
+    holds its buffers, so that they stay as long as they were."""
+    state, out = (c_uint64 * 15)(), c_uint8()
+    word = library.coronagamba_intake_part(
+        byref(state), None, 0, byref(out), 1, None, 0
+    )
+    answer(word)
+
+
 CALLS = {
     1: [
         lambda: Sharding(64, 0, 0, 0, 0).place(0),
@@ -42,6 +68,7 @@ CALLS = {
         lambda: Sharding(0, 0, 0, 33, 0).shard_name(0),
         lambda: Sharding(0, 0, 0, 0, 2).place(0),
         lambda: shard(b"", Sharding(255, 0, 0, 0, 0)).lookup(0),
+        lambda: Intake(MESH, 0, 99, 16),
         lambda: Card(Sharding(64, 0, 0, 0, 0), Volume(UNIT, UNIT)).to_bytes(),
     ],
     2: [
@@ -70,6 +97,7 @@ CALLS = {
         lambda: Sharding(0, 0, 0, 4, 0).data_name(16),
         lambda: shard(bytes(16), ONE, 1).check(),
         lambda: Pair(ONE, 1, b"", b"").check(),
+        lambda: Intake(ONE, 1, 99, 16),
         lambda: shard(bytes(16), Sharding(0, 0, 0, 1, 0)).lookup(1),
         lambda: shard(bytes(16)).listing(1),
     ],
@@ -97,6 +125,7 @@ CALLS = {
         ).check(),
     ],
     10: [
+        lambda: Intake(Sharding(0, 0, 0, 1, 0), 0, 99, 16).announce(1, 0),
         lambda: shard(u64s(0, 24, 0, 0, 1, 0, 0), TWO).check(),
         lambda: shard(
             u64s(0, 24, 1, 0, 0), Sharding(0, 0, 0, 1, 0)
@@ -112,6 +141,9 @@ CALLS = {
     ],
     13: [
         lambda: shard(bytes(16)).settle(bytearray(15)),
+        lambda: Intake(ONE, 0, 15, 16),
+        lambda: Intake(ONE, 0, 40, 16).announce(0, 1),
+        lambda: Intake(ONE, 0, 40, 15).announce(0, 0),
         lambda: huge_settled_form().settled(),
         lambda: huge_settled_form().settled_length(),
     ],
@@ -196,6 +228,21 @@ CALLS = {
         lambda: Pair(ONE, 0, bytes(16), b"ab").locate_range(16, 19),
         lambda: Pair(ONE, 0, bytes(16), b"").range(2**64 - 1, 2**64 - 1),
     ],
+    25: [
+        lambda: intake((1, b"")).announce(0, 0),
+        lambda: intake((1, b"")).announce(1, 0),
+        lambda: intake(closed=True).announce(0, 0),
+        lambda: intake(closed=True).part(b""),
+        lambda: intake(closed=True).close(),
+    ],
+    26: [
+        lambda: intake().part(b"a"),
+        lambda: intake((0, b"a")).part(b"a"),
+        lambda: intake(owed=1).part(b"ab"),
+        lambda: intake(owed=1).announce(2, 0),
+        lambda: intake(owed=1).close(),
+    ],
+    30: [other_length],
 }
 
 

@@ -5,3 +5,4 @@ pub mod Told
 pub mod Writing
 pub mod Answered
 pub mod Word
+pub mod Intaken

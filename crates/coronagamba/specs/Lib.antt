@@ -6,3 +6,4 @@ pub mod Shards
 pub mod Pairs
 pub mod Manifests
 pub mod Cards
+pub mod Intakes

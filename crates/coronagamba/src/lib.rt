@@ -2,6 +2,7 @@
 pub mod cards;
 pub mod cells;
 pub mod infos;
+pub mod intakes;
 pub mod manifests;
 mod numbers;
 pub mod pairs;

@@ -1,23 +1,23 @@
--- The settled form of a sound shard is a sound shard, with the content of its original.
+-- The settled form of what a sound shard may list is a sound shard; that of a sound shard has the content of its original.
 use Prim.Native.Nat.{ℕ, _≤_, _<_}
 use mathlib.Core.Path.{_≡_}
+use mathlib.Core.Bool.{true}
 use mathlib.Core.Logic.{inr}
 use mathlib.Core.List.{List, []}
 use native.Mathlib.Omega.{arith}
 use lib.ListN.{length, getD}
 use Rattle.endian.specs.Little.{row}
 use Rattle.sharding.specs.declared.Sharding.{Sharding}
-use Rattle.sharding.specs.Specification.{minishardCount}
+use Rattle.sharding.specs.Specification.{allowed, minishardCount, shardCount}
 use Rattle.index.specs.Index.{entryStart, startSteps, sizes, startAt, mostShardBytes}
-use Rattle.shard.specs.File.{indexPart, dataPart}
 use Rattle.shard.specs.Sound.{SoundMinishard, SoundShard}
 use Rattle.shard.specs.Items.{Item, Led}
 use Rattle.shard.proofs.Leads.{led-fragments}
-use Rattle.form.specs.Form.{partLength, partsFrom, entriesFrom, settledLength}
+use Rattle.form.specs.Form.{partLength, partsFrom, entriesFrom, settled, settledLength}
 use Rattle.form.specs.Sorted.{Member}
-use Rattle.form.specs.Content.{idOf, formOf, formLength, fileContent, fileForm, fileFormLength}
+use Rattle.form.specs.Content.{idOf, formOf, fileContent, fileForm, fileFormLength}
 use Rattle.form.proofs.Sorting.{member-at, rising-later}
-use Rattle.form.proofs.Measures.{length-content, length-form, length-parts}
+use Rattle.form.proofs.Measures.{length-settled, length-parts}
 use Rattle.form.proofs.Rows.{noItem, lead-offset, offset-size}
 use Rattle.form.proofs.ReadBack.{Readable, index-back, data-back, placeFrom, place-bound, entry-span, finish-most, reads-part, content-back}
 use Rattle.form.proofs.SoundContent.{Listed, listed-content, readable-content}
@@ -68,31 +68,24 @@ sound-part {c = c} good m l g =
       fragments = λ mesh i k. rw (r .the-count) (led-fragments (part-led good m l g i (omega (arith, r .the-count))) mesh);
     }
 
+-- and so is a shard in the settled form of a content whose minishards are such
+pub settled-sound : {spec : Sharding} {shard : ℕ} {c : List (List Item)} → allowed spec ≡ true → shard < shardCount spec → Readable spec c
+    → ((m : ℕ) → m < minishardCount spec → Listed spec shard m (getD c m [])) → SoundShard spec shard (settled c)
+unfolding settledLength
+settled-sound {spec} {shard} {c} allow number good each =
+    let n = length-settled c in
+    record {
+      permitted = allow;
+      numbered = number;
+      held = omega (arith, good .count);
+      short = omega (arith, good .short);
+      each = λ m l. rw (index-back spec c (good .count), data-back spec c (good .count)) (sound-part good m (omega (arith, good .count)) (each m l));
+    }
+
 module _ {spec : Sharding} {shard : ℕ} {a : List ℕ} (sound : SoundShard spec shard a) (short : fileFormLength spec a ≤ mostShardBytes) where
-  count : length (fileContent spec a) ≡ minishardCount spec
-  count = length-content spec (indexPart spec a) (dataPart spec a)
-
-  index-form : indexPart spec (fileForm spec a) ≡ row (entriesFrom 0 (fileContent spec a))
-  unfolding formOf
-  index-form = index-back spec (fileContent spec a) count
-
-  data-form : dataPart spec (fileForm spec a) ≡ partsFrom 0 (fileContent spec a)
-  unfolding formOf
-  data-form = data-back spec (fileContent spec a) count
-
   pub form-sound : SoundShard spec shard (fileForm spec a)
-  unfolding formLength settledLength
-  form-sound =
-      let n = length-form spec (indexPart spec a) (dataPart spec a) in
-      record {
-        permitted = sound .permitted;
-        numbered = sound .numbered;
-        held = omega (arith, count);
-        short = omega arith;
-        each = λ m l.
-            rw (index-form, data-form)
-            (sound-part (readable-content sound short) m (omega (arith, count)) (listed-content sound m l));
-      }
+  unfolding formOf
+  form-sound = settled-sound (sound .permitted) (sound .numbered) (readable-content sound short) (listed-content sound)
 
   -- the form's content is its original's
   pub form-content : fileContent spec (fileForm spec a) ≡ fileContent spec a

@@ -58,7 +58,7 @@ length-entries p (xs ∷ c) = let h = length-entries (p + partLength xs) c in om
 pub length-shard-index : (p : ℕ) (c : List (List Item)) → length (row (entriesFrom p c)) ≡ 16 * length c
 length-shard-index p c = omega (arith, length-row (entriesFrom p c), length-entries p c)
 
-length-settled : (c : List (List Item)) → length (settled c) ≡ settledLength c
+pub length-settled : (c : List (List Item)) → length (settled c) ≡ settledLength c
 unfolding settled settledLength
 length-settled c = omega (arith, length-append (row (entriesFrom 0 c)) (partsFrom 0 c), length-shard-index 0 c, length-parts 0 c)
 

@@ -30,6 +30,7 @@ use Rattle.settle.proofs.Demand3.{demand-3-form-settles, demand-3-length, deman
 use Rattle.seam.proofs.Ranges.{range-refuses}
 use Rattle.pair.proofs.Laws.{check-refuses-pair, lookup-refuses-pair, fragment-refuses-pair}
 use Rattle.pairform.proofs.Laws.{count-refuses-pair, listing-refuses-pair, listing-kept-pair, unlisted-refuses-pair, length-refuses-pair, settle-refuses-pair, settle-kept-pair}
+use Rattle.intake.proofs.Refused.{open-refuses, open-keeps, announce-refuses, announce-keeps, part-refuses, part-keeps, close-refuses, close-keeps}
 use Rattle.card.proofs.Meaning.{one-meaning-one-card}
 use Rattle.document.proofs.Meaning.{meaning}
 use Rattle.nodes.proofs.Each.{node-numbers}
@@ -72,6 +73,10 @@ demand-1 =
       cardRead = card-read-refuses;
       cardWritten = card-write-refuses;
       infoRead = meaning .refused;
+      intakeOpen = open-refuses;
+      intakeAnnounce = announce-refuses;
+      intakePart = part-refuses;
+      intakeClose = close-refuses;
       manifest = manifest-refuses;
       header = header-refuses;
       field = field-refuses;
@@ -88,6 +93,10 @@ demand-1 =
       listingOfPairKept = listing-kept-pair;
       settleOfPairKept = settle-kept-pair;
       cardKept = card-kept;
+      intakeOpenKept = open-keeps;
+      intakeAnnounceKept = announce-keeps;
+      intakePartKept = part-keeps;
+      intakeCloseKept = close-keeps;
       nodesKept = nodes-kept;
     }
 

@@ -56,6 +56,11 @@ use Rattle.seam.specs.declared.RangeAnswer.the-variants as R
 use Rattle.seam.specs.Range.{rangeChecks, rangeAnswer}
 use Rattle.pair.specs.Answers.{otherShard, pairCheck, pairLookup, pairFragment}
 use Rattle.pairform.specs.Answers.{noMinishard, pairCount, pairListing, pairListingLeft, pairUnlisted, pairLength, pairSettle, pairSettleLeft}
+use Rattle.admission.specs.declared.Intake.{Intake}
+use Rattle.admission.specs.Refusals.{openChecks, announceChecks, partChecks, closeChecks}
+use Rattle.intake.specs.declared.IntakeAnswer.the-variants as I
+use Rattle.intake.specs.declared.CloseAnswer.the-variants as X
+use Rattle.intake.specs.Calls.{openAnswer, openLeft, announceAnswer, announceLeft, announceWaiting, partAnswer, partLeft, closeAnswer, closeLeft}
 use Rattle.card.specs.declared.Card.{Card}
 use Rattle.card.specs.declared.CardAnswer.the-variants as D
 use Rattle.card.specs.Answers.{readChecks, readAnswer, writeChecks, writeAnswer, writeLeft}
@@ -115,6 +120,11 @@ pub record Demand1 : Type 0 where
   pub cardRead : (s : List ℕ) → Refuses (readAnswer s) D.Refused (readChecks s)
   pub cardWritten : (c : Card) (out : List ℕ) → Refuses (writeAnswer c out) Refused (writeChecks c out)
   pub infoRead : (s : List ℕ) (k : ℕ) → Refuses (infoAnswer s k) D.Refused (infoChecks s k)
+  -- (of an intake: of 30, 1, 5, 10, 25, 26, 13, in this order, those that the call has; order 11)
+  pub intakeOpen : (spec : Sharding) (shard : ℕ) (out waiting : List ℕ) → Refuses (openAnswer spec shard out waiting) I.Refused (openChecks spec shard (length out))
+  pub intakeAnnounce : (s : Intake) (id size : ℕ) (out waiting : List ℕ) → Refuses (announceAnswer s id size out waiting) I.Refused (announceChecks s id size (length out) waiting)
+  pub intakePart : (s : Intake) (bytes out waiting : List ℕ) → Refuses (partAnswer s bytes out waiting) I.Refused (partChecks s (length bytes) (length out) waiting)
+  pub intakeClose : (s : Intake) (out waiting : List ℕ) → Refuses (closeAnswer s out waiting) X.Refused (closeChecks s (length out) waiting)
   pub manifest : (s : List ℕ) → Refuses (manifestAnswer s) M.Refused (manifestChecks s)
   pub header : (s : List ℕ) → Refuses (headerAnswer s) H.Refused (manifestChecks s)
   pub field : (s : List ℕ) (i : ℕ) → Refuses (fieldAnswer s i) F.Refused (fieldChecks s i)
@@ -133,6 +143,12 @@ pub record Demand1 : Type 0 where
   pub listingOfPairKept : (spec : Sharding) (shard : ℕ) (index d : List ℕ) (m : ℕ) (out : List ℕ) (k : ℕ) (p : Option ℕ) → pairListing spec shard index d m out ≡ refusal N.Refused N.Faulty k p → pairListingLeft spec shard index d m out ≡ out
   pub settleOfPairKept : (spec : Sharding) (shard : ℕ) (index d : List ℕ) (dropping : Bool) (out : List ℕ) (k : ℕ) (p : Option ℕ) → pairSettle spec shard index d dropping out ≡ refusal S.Refused S.Faulty k p → pairSettleLeft spec shard index d dropping out ≡ out
   pub cardKept : (c : Card) (out : List ℕ) (k : ℕ) → writeAnswer c out ≡ Refused k → writeLeft c out ≡ out
+  -- (nor does it give an intake another state: its answer has none)
+  pub intakeOpenKept : (spec : Sharding) (shard : ℕ) (out waiting : List ℕ) (k : ℕ) → openAnswer spec shard out waiting ≡ I.Refused k → openLeft spec shard out ≡ out
+  pub intakeAnnounceKept : (s : Intake) (id size : ℕ) (out waiting : List ℕ) (k : ℕ) → announceAnswer s id size out waiting ≡ I.Refused k
+      → (announceLeft s id size out waiting ≡ out) × (announceWaiting s id size out waiting ≡ waiting)
+  pub intakePartKept : (s : Intake) (bytes out waiting : List ℕ) (k : ℕ) → partAnswer s bytes out waiting ≡ I.Refused k → partLeft s bytes out waiting ≡ out
+  pub intakeCloseKept : (s : Intake) (out waiting : List ℕ) (k : ℕ) → closeAnswer s out waiting ≡ X.Refused k → closeLeft s out waiting ≡ out
   pub nodesKept : (s : List ℕ) (l : ℕ) (out : List ℕ) (k : ℕ) → nodesAnswer s l out ≡ Refused k → nodesLeft s l out ≡ out
 
 -- ---- Demand 2

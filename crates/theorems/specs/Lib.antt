@@ -3,3 +3,4 @@ pub mod MeshCases
 pub mod Demands
 pub mod Orders
 pub mod Pairs
+pub mod Intake

@@ -5,13 +5,14 @@
 //! runs, its median and its middle half, and, where memory or processor set one, the
 //! limit. Both sides do the same work with the same tests, and must give the
 //! same answers. Words on the command line choose the measures whose group has
-//! one of them: key, cover, place, shard, pair, mesh, card, info, manifest,
+//! one of them: key, cover, place, shard, pair, intake, mesh, card, info, manifest,
 //! locate, desk.
 
 mod cards;
 mod clock;
 mod desk;
 mod infos;
+mod intakes;
 mod keys;
 mod locating;
 mod manifests;
@@ -22,12 +23,13 @@ mod runner;
 mod shards;
 
 /// The groups of measures, by the word that chooses them.
-const GROUPS: [(&str, fn()); 11] = [
+const GROUPS: [(&str, fn()); 12] = [
     ("key", keys::run_all),
     ("cover", places::run_covers),
     ("place", places::run_places),
     ("shard", shards::run),
     ("pair", pairs::run),
+    ("intake", intakes::run),
     ("mesh", meshes::run),
     ("card", cards::run),
     ("info", infos::run),

@@ -65,6 +65,8 @@ pub const PARTS: &[Part] = &[
     parts::settle::SETTLED_LENGTH,
     parts::settle::SETTLE,
     parts::settle::SAME,
+    parts::intake::INTAKE,
+    parts::intake::FORGED,
     parts::mesh::MESH_LOOKUP,
     parts::mesh::FRAGMENT,
     parts::mesh::MESH_CHECK,

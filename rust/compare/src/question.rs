@@ -120,6 +120,11 @@ impl<'a> Reader<'a> {
         self.byte() % 2 == 1
     }
 
+    /// Whether nothing is left.
+    pub fn is_empty(&self) -> bool {
+        self.rest.is_empty()
+    }
+
     /// What is left.
     pub fn rest(self) -> &'a [u8] {
         self.rest
@@ -423,6 +428,16 @@ impl Choice {
         listed.map_or(self.number, |id| id.wrapping_add(step))
     }
 
+    /// An id: as it stands, or one that this other one is near.
+    pub fn near(&self, other: u64) -> u64 {
+        match self.kind % 4 {
+            0 => self.number,
+            1 => other.wrapping_add(self.number % 70),
+            2 => other,
+            _ => other.wrapping_sub(self.number % 70),
+        }
+    }
+
     /// A number of this many: as it stands, one of them, or just beyond them.
     pub fn of(&self, count: u64) -> u64 {
         self.below(count, || count.checked_sub(1))
@@ -478,6 +493,14 @@ impl Room {
     pub fn draw(rng: &mut Rng) -> Self {
         Room {
             kind: rng.below(4) as u8,
+            number: rng.edge(7) as u16,
+        }
+    }
+
+    /// The needed length or a little more.
+    pub fn more(rng: &mut Rng) -> Self {
+        Room {
+            kind: *rng.pick(&[1, 3]),
             number: rng.edge(7) as u16,
         }
     }

@@ -97,6 +97,8 @@ quick! {
     settled_length: 100_000,
     settle: 150_000,
     same: 160_000,
+    intake: 150_000,
+    forged: 2_000_000,
     mesh_lookup: 100_000,
     fragment: 150_000,
     mesh_check: 120_000,

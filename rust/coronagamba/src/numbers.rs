@@ -31,9 +31,12 @@ pub const FILE_INDEX: u32 = 0;
 /// A pair's data file.
 pub const FILE_DATA: u32 = 1;
 
+/// How many numbers the state of an intake has.
+pub const INTAKE_NUMBERS: usize = 15;
+
 impl Refusal {
     /// Preshift above 63, hash neither identity nor murmur, minishard bits above 16, shard bits
-    /// above 32, or a kind that is neither volume nor mesh.
+    /// above 32, or a kind that is neither volume nor mesh; at an intake also the kind mesh.
     pub const SHARDING_NOT_ALLOWED: u8 = 1;
 
     /// A volume or chunk extent is 0, or a cell coordinate is not below its grid size.
@@ -62,7 +65,8 @@ impl Refusal {
     /// An id stands twice in a minishard.
     pub const ID_TWICE: u8 = 9;
 
-    /// A listed id belongs to another shard or minishard.
+    /// A listed id belongs to another shard or minishard; at an intake, with no position, the
+    /// announced id belongs to another shard.
     pub const ID_ELSEWHERE: u8 = 10;
 
     /// Index end plus start plus size of a chunk, taken exactly, passes the file.
@@ -72,7 +76,9 @@ impl Refusal {
     pub const NOT_LISTED: u8 = 12;
 
     /// The output is too short for the whole answer, or a settled form would exceed 1,073,741,824
-    /// bytes.
+    /// bytes; at an intake, on opening or announcing, the settled form of all announced so far,
+    /// this chunk included, would pass the output or 1,073,741,824 bytes, or the second buffer has
+    /// no 16 bytes left for it.
     pub const NO_ROOM: u8 = 13;
 
     /// The card is malformed.
@@ -117,6 +123,18 @@ impl Refusal {
 
     /// A range crosses the seam, is reversed or passes the end.
     pub const NO_SUCH_RANGE: u8 = 24;
+
+    /// At an intake, a chunk is announced whose minishard is below the open one, or is the open one
+    /// and its id not above the last; or the shard was closed; or the state's numbers contradict
+    /// each other or the second buffer, so that no calls could have left them.
+    pub const INTAKE_ORDER: u8 = 25;
+
+    /// At an intake, a part is longer than what is still owed, or a chunk is announced or the shard
+    /// closed while bytes are owed.
+    pub const INTAKE_OWED: u8 = 26;
+
+    /// At an intake, after opening, a lent buffer has another length than then.
+    pub const INTAKE_BUFFERS: u8 = 30;
 }
 
 /// Each number with its sentence, rising.
@@ -189,5 +207,17 @@ pub(crate) const SENTENCES: &[(u8, &str)] = &[
     (
         24,
         "The range crosses the seam of the two files, is reversed or passes the end.",
+    ),
+    (
+        25,
+        "The chunk is out of order, the shard was closed, or no calls could have left this state.",
+    ),
+    (
+        26,
+        "The part is longer than what is still owed, or bytes are owed.",
+    ),
+    (
+        30,
+        "A buffer has another length than when the shard was opened.",
     ),
 ];

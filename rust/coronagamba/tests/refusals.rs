@@ -1,7 +1,8 @@
 //! Each refusal of the table, met by a call, with its sentence.
 
+use coronagamba::intake::State;
 use coronagamba::{
-    Card, Half, Held, Manifest, Pair, Refusal, Shard, Sharding, Span, Unlisted, Volume,
+    Card, Half, Held, Intake, Manifest, Pair, Refusal, Shard, Sharding, Span, Unlisted, Volume,
 };
 use std::error::Error;
 
@@ -95,6 +96,12 @@ fn manifest(shape: f32, x: [u32; 2]) -> Vec<u8> {
     items(&[&head[..], &[first, second, 0, 0, 0, 0, 5, 5]].concat())
 }
 
+/// Calls of an intake with room for two chunks of a minishard.
+fn intake(calls: impl Fn(&mut Intake) -> Result<(), Refusal>) -> Result<(), Refusal> {
+    let (mut out, mut waiting) = ([0; 99], [0; 32]);
+    calls(&mut Intake::open(TWO, 0, &mut out, &mut waiting)?)
+}
+
 /// A call that gives the refusal of this number.
 fn refused(number: u8) -> Refusal {
     let grid = |size: [u32; 3]| Volume::new(size, [1; 3], [0; 3]);
@@ -132,6 +139,16 @@ fn refused(number: u8) -> Refusal {
         24 => Pair::open(TWO, 0, &[0; 32], &[0; 4])
             .range(31, 33)
             .map(|_| ()),
+        25 => intake(|intake| {
+            intake.announce(5, 0)?;
+            intake.announce(5, 0).map(|_| ())
+        }),
+        26 => intake(|intake| intake.announce(5, 2)?.part(b"abc")),
+        30 => {
+            let mut out = [0; 32];
+            let opened = State::open(TWO, 0, &mut out, &[]);
+            opened.and_then(|mut state| state.part(&[], &mut out, &[0]))
+        }
         _ => panic!("no call of these tests gives {number}"),
     };
     answer.expect_err("the call refuses")
@@ -408,4 +425,6 @@ fn values_go_between_threads() {
     is_shared::<coronagamba::Chunks>();
     is_shared::<Manifest>();
     is_shared::<coronagamba::manifest::Nodes>();
+    is_shared::<Intake>();
+    is_shared::<State>();
 }

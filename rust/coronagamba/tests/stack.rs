@@ -1,6 +1,6 @@
 //! How much stack a call needs: what the header says is enough.
 
-use coronagamba::{Bounds, Card, Manifest, Pair, Shard, Sharding, Unlisted, Volume};
+use coronagamba::{Bounds, Card, Intake, Manifest, Pair, Shard, Sharding, Unlisted, Volume};
 use std::thread;
 
 /// The bytes that coronagamba.h names; the thread's own needs come out of them
@@ -100,6 +100,22 @@ fn shard_calls() {
     assert_eq!(pair.listing(0).map(|listed| listed.len()), Ok(1));
     assert!(pair.settled(Unlisted::Drop).is_ok_and(|form| form == file));
     assert_eq!(pair.range(32, 34), Ok(&b"ab"[..]));
+}
+
+/// The calls of an intake, with 1,000 chunks in a minishard.
+fn intake_calls() {
+    let sharding = Sharding {
+        hash: Sharding::IDENTITY,
+        ..SHARDING
+    };
+    let (mut out, mut waiting) = (vec![0; 32 + 1_001 * 25], vec![0; 1_000 * 16]);
+    let mut intake = Intake::open(sharding, 0, &mut out, &mut waiting).expect("opened");
+    for id in (0..1_000).map(|place| 2 * place).chain([1]) {
+        let mut chunk = intake.announce(id, 1).expect("in order");
+        chunk.part(b"a").expect("owed");
+    }
+    let form = intake.close().expect("nothing is owed");
+    assert_eq!(form.len(), 32 + 1_001 * 25);
 }
 
 /// The calls that read a mesh shard, of one whose 1,000 ids fall.
@@ -219,6 +235,7 @@ fn within(stack: usize, calls: impl FnOnce() + Send + 'static) {
 fn a_small_stack_is_enough() {
     within(STACK, calls);
     within(STACK, shard_calls);
+    within(STACK, intake_calls);
     within(STACK, || judging_calls(1_000));
     within(STACK, mesh_calls);
 }

@@ -7,7 +7,7 @@ use std::fmt;
 use std::ops::Range;
 use std::path::{Path, PathBuf};
 
-use coronagamba::{Listed, Pair, Refusal, Shard, Sharding, Span, Unlisted};
+use coronagamba::{Counts, Listed, Pair, Refusal, Shard, Sharding, Sheet, Span, Unlisted};
 
 use crate::fault::Fault;
 use crate::files::{length_to_read, read_front, read_into};
@@ -143,6 +143,12 @@ impl Loaded {
         self.index = None;
     }
 
+    /// The memory of the file, for bytes that are no shard's yet.
+    pub fn memory(&mut self) -> &mut Vec<u8> {
+        self.clear();
+        &mut self.file
+    }
+
     /// What was read.
     pub fn bytes(&self) -> Bytes<'_> {
         match &self.index {
@@ -273,6 +279,19 @@ impl<'a> Opened<'a> {
     /// How many bytes nothing lists.
     pub fn unlisted(&self) -> Result<u64, Refusal> {
         ask!(self, shard => shard.unlisted())
+    }
+
+    /// What it holds, judged once.
+    pub fn measure(&self) -> Result<Counts, Refusal> {
+        ask!(self, shard => shard.measure())
+    }
+
+    /// Adds it to a sheet, judged once.
+    pub fn add_to(&self, sheet: &mut Sheet) -> Result<(), Refusal> {
+        match self {
+            Opened::Shard(shard) => sheet.add(shard),
+            Opened::Pair(pair) => sheet.add_pair(pair),
+        }
     }
 
     /// The length of its settled form.

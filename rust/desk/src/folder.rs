@@ -258,7 +258,8 @@ fn entry(sharding: &Sharding, source: Source) -> Input {
     Input { source, number }
 }
 
-fn no_file(path: &Path) -> Fault {
+/// Something else than a file stands there.
+pub fn no_file(path: &Path) -> Fault {
     let error = io::Error::new(io::ErrorKind::InvalidInput, "it is no regular file");
     Fault::system(path, "read", error)
 }

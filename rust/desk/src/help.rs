@@ -58,7 +58,7 @@ pub const VERSION: &str = concat!("coronagamba ", env!("CARGO_PKG_VERSION"), "\n
 
 /// The program as a whole.
 pub const PROGRAM: &str = "\
-Checks, settles, compares and reads the shards of a deposit.
+Checks, settles, packs, compares and reads the shards of a deposit.
 
 usage: coronagamba COMMAND [OPTIONS] [ARGUMENTS]
        coronagamba help [COMMAND]
@@ -67,6 +67,7 @@ usage: coronagamba COMMAND [OPTIONS] [ARGUMENTS]
 shards
   check      is each shard sound?
   settle     write the settled form of each shard
+  pack       write shards from loose chunk files
   same       do two shards or two deposits hold the same chunks?
   get        the bytes of one chunk, or of one fragment of a mesh
   list       all chunks of a shard with their places
@@ -193,6 +194,68 @@ or written.
 example:
   coronagamba settle demo/copy-a --out settled --card demo/deposit.card
   coronagamba settle demo/copy-b --out settled --drop-unlisted --card demo/deposit.card
+",
+);
+
+/// `pack`.
+pub const PACK: &str = concat!(
+    "\
+Writes shards of the settled form from loose chunk files: one shard from a
+list, or all shards of a volume from a folder of chunks that are stored without
+shards. It is the layout that 'settle' gives a shard of the same chunks.
+
+usage: coronagamba pack DIR --out DIR2 [OPTIONS]
+       coronagamba pack [LIST] --out FILE [--shard N] [OPTIONS]
+
+DIR has a file for each chunk, under the name that 'name' tells, such as
+0-64_64-128_0-64; DIR2 gets a file for each shard that has a chunk. A cell
+without a file has no chunk; the last line tells how many these are. Where a
+name is like a chunk's and no cell has it, as in another volume or with .gz
+behind it, nothing is packed. Other files are passed over and counted,
+subfolders are not gone through.
+
+LIST has a line for each chunk of one shard, in any order: its name or its id,
+blanks, and the path of its file, which may have blanks in it. Without LIST, or
+where it is '-', these lines come on standard input. The shard's number is that
+of --shard, else what FILE's name says. A chunk of another shard is refused
+with 10. Where a line is wrong, or a chunk is given twice, nothing is packed.
+
+Chunk files are read in pieces, and never together: beside the list there is
+memory for the shards under way, each at most 1 GiB. A file that cannot be read,
+or that changes meanwhile, keeps its shard from being written, and no other. An
+output is written beside its place and gets its name only when it is whole. A
+run that was stopped can be started again: what is already there with the same
+bytes is left. Inputs are never changed, and none is ever an output too, also
+with --force. Chunks that would make a shard longer than 1 GiB are refused with
+13. A mesh is not packed.
+
+",
+    sharding!(),
+    volume!(),
+    "
+The volume is needed for names. Where it is given, an id must be the key of one
+of its cells.
+
+options:
+  --out PATH          the output file or folder; a missing folder is made
+  --force             overwrite existing files that hold other bytes
+  --shard N           the shard number, of one shard whose file name does not
+                      say it
+  --jobs N            how many shards are packed at once; two for each core
+                      otherwise, since each waits for the disk at its end
+",
+    json!(),
+    "
+exit status: 0 all are packed or already there; 1 one is refused, or a folder
+has no chunks or names of other volumes; 2 wrong use, a wrong line, or an output
+exists with other bytes; 3 a file cannot be read or written.
+
+example:
+  coronagamba cover 0,128,64 65,192,128 --deposit demo/copy-a --out chunks \\
+    --card demo/deposit.card
+  coronagamba pack chunks --out packed --card demo/deposit.card
+  echo 21 chunks/0-64_128-192_64-128 | coronagamba pack --out 5.shard \\
+    --card demo/deposit.card
 ",
 );
 

@@ -1,5 +1,5 @@
-//! The desk tool: checks, settles, compares and reads the shards of a deposit
-//! through the proved library.
+//! The desk tool: checks, settles, packs, compares and reads the shards of a
+//! deposit through the proved library.
 
 #![forbid(unsafe_code)]
 

@@ -97,6 +97,24 @@ pub fn cell_of_chunk(volume: &Volume, name: &OsStr) -> Option<Cell> {
     (volume.chunk_name(cell).ok()? == name).then_some(cell)
 }
 
+/// Whether a file name is like that of a chunk stored without shards: it begins
+/// with a number or a minus and has two underscores. One that no cell has may be
+/// of another volume, or have something behind it, such as `.gz`.
+pub fn is_like_chunk(name: &OsStr) -> bool {
+    let name = name.as_encoded_bytes();
+    let begins = matches!(name, [b'0'..=b'9' | b'-', ..]);
+    begins && name.iter().filter(|byte| **byte == b'_').count() >= 2
+}
+
+/// What is said of a name that no chunk has.
+pub fn no_chunk(volume: &Volume) -> String {
+    let what = "not the name of a chunk of this volume";
+    match volume.chunk_name(Cell::default()) {
+        Ok(example) => format!("{what} (expected for example {example})"),
+        Err(refusal) => format!("{what} ({refusal})"),
+    }
+}
+
 /// The name of some shard's file, to show what names look like: that of shard 10,
 /// or of the last one where there are fewer.
 pub fn example(sharding: &Sharding, ending: Ending) -> Result<String, Refusal> {
@@ -247,6 +265,25 @@ mod tests {
             cell_of_chunk(&Volume::default(), OsStr::new("0-0_0-0_0-0")),
             None
         );
+    }
+
+    #[test]
+    fn names_like_those_of_chunks() {
+        for name in ["-128--64_0-64_-6--2", "0-64_0-64_0-64.gz", "1_2_3", "-__"] {
+            assert!(is_like_chunk(OsStr::new(name)), "{name}");
+        }
+        for name in [
+            "",
+            "info",
+            "0.shard",
+            "a_b_c",
+            "0-64_0-64",
+            ".0-64_0-64_0-64.7.part",
+        ] {
+            assert!(!is_like_chunk(OsStr::new(name)), "{name}");
+        }
+        let volume = Volume::new([100, 200, 9], [64, 64, 4], [-128, 0, -6]);
+        assert!(no_chunk(&volume).ends_with("(expected for example -128--64_0-64_-6--2)"));
     }
 
     #[test]

@@ -10,6 +10,7 @@ pub mod card;
 pub mod endian;
 pub mod grid;
 pub mod info;
+pub mod intake;
 pub mod json;
 pub mod locate;
 pub mod manifest;

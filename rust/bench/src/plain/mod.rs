@@ -3,6 +3,7 @@
 pub mod cards;
 pub mod deposit;
 pub mod infos;
+pub mod intakes;
 pub mod manifests;
 pub mod meshes;
 pub mod places;

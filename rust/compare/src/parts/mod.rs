@@ -3,6 +3,7 @@
 pub mod card;
 pub mod grid;
 pub mod info;
+pub mod intake;
 pub mod manifest;
 pub mod mesh;
 pub mod names;

@@ -523,6 +523,71 @@ extern "C" {
         length: *mut u64,
     ) -> u64;
 
+    /// Opens a new volume shard, which will grow at the front of `out`; `waiting` will hold the ids
+    /// and sizes of the chunks of one minishard at a time, 16 bytes for each. Writes the shard
+    /// index of a shard with no chunk to the front of `out`, and the state of the intake, 15
+    /// numbers, to `state`. The caller keeps them and lends them to the calls that follow, each as
+    /// the last one left them, with both buffers; they need no look.
+    ///
+    /// Refusals: 1 also where the kind is mesh, 5, 13 where the shard index passes `out`
+    pub fn coronagamba_intake_open(
+        sharding: Sharding,
+        shard: u64,
+        out: *mut u8,
+        count: usize,
+        waiting: *const u8,
+        waiting_count: usize,
+        state: *mut [u64; 15],
+    ) -> u64;
+
+    /// Announces the next chunk, by rising minishard and then rising id, and its number of bytes,
+    /// which are owed from then on. Where it is the first of its minishard, writes the minishard
+    /// index of the one before to `out`. Writes its id and size to `waiting`, and the new state to
+    /// `state`.
+    ///
+    /// Refusals: 30 where a buffer has another length than on opening, 10 where the id belongs to
+    /// another shard, 25 out of order or after the close or where no calls could have left the
+    /// state, 26 while bytes are owed, 13 where the settled form of all announced so far and this
+    /// chunk would pass `out` or 1 GiB or `waiting` has no 16 bytes left for it
+    pub fn coronagamba_intake_announce(
+        state: *mut [u64; 15],
+        id: u64,
+        size: u64,
+        out: *mut u8,
+        count: usize,
+        waiting: *mut u8,
+        waiting_count: usize,
+    ) -> u64;
+
+    /// Hands over the next bytes of the announced chunk, as many as are given, none or all that are
+    /// owed. Writes them to their final place in `out`, and the new state to `state`.
+    ///
+    /// Refusals: 30 where a buffer has another length than on opening, 25 after the close or where
+    /// no calls could have left the state, 26 where these are more bytes than are owed
+    pub fn coronagamba_intake_part(
+        state: *mut [u64; 15],
+        bytes: *const u8,
+        count: usize,
+        out: *mut u8,
+        out_count: usize,
+        waiting: *const u8,
+        waiting_count: usize,
+    ) -> u64;
+
+    /// Closes the shard: `out` then begins with the settled form of what was delivered. Writes its
+    /// number of bytes to `length`, and to `state` a state with which each further call is refused.
+    ///
+    /// Refusals: 30 where a buffer has another length than on opening, 25 after the close or where
+    /// no calls could have left the state, 26 while bytes are owed
+    pub fn coronagamba_intake_close(
+        state: *mut [u64; 15],
+        out: *mut u8,
+        count: usize,
+        waiting: *const u8,
+        waiting_count: usize,
+        length: *mut u64,
+    ) -> u64;
+
     /// What a deposit card of these bytes says. Writes preshift, hash, minishard bits, shard bits
     /// and kind to `sharding`, and volume size, chunk size and voxel offset along x, y and z to
     /// `size`, `chunk` and `offset`. To use them in other calls, copy the numbers into the structs

@@ -1,7 +1,8 @@
 //! Each call that writes, refused in each way that the header names for it:
 //! the answer is the refusal's number, of a shard with 7 to 11, 15 to 17 and 21
 //! the position too and nothing else, and every byte that was lent is as it was,
-//! whatever it was.
+//! whatever it was; of an intake the state and the second buffer, which it reads,
+//! are as they were too.
 
 use super::*;
 use crate::{Cell, Point, Sharding, Volume};
@@ -442,6 +443,169 @@ fn on_overlapping_shard(file: &[u8]) -> Vec<Case<'_>> {
     })
 }
 
+/// Two shards of two minishards.
+const FOUR: Sharding = Sharding {
+    shard_bits: 1,
+    ..TWO
+};
+
+/// How long an intake's output is, and its second buffer: room for one chunk of a
+/// minishard.
+const OUT: usize = 99;
+const WAITING: usize = 16;
+
+/// An intake between two calls: its numbers and its second buffer.
+#[derive(Clone, PartialEq)]
+struct Between {
+    state: [u64; 15],
+    waiting: [u8; WAITING],
+}
+
+impl Between {
+    /// One of shard 0, to which id 5 of minishard 1 was announced with 2 bytes, of
+    /// which so many came.
+    fn having(came: usize) -> Self {
+        let (mut state, mut out, mut waiting) = ([0; 15], [0; OUT], [0; WAITING]);
+        let (to, held) = (out.as_mut_ptr(), waiting.as_mut_ptr());
+        // SAFETY: each pointer and count are those of one array, lent to one call
+        // at a time.
+        unsafe {
+            let opened = coronagamba_intake_open(FOUR, 0, to, OUT, held, WAITING, &mut state);
+            let told = coronagamba_intake_announce(&mut state, 5, 2, to, OUT, held, WAITING);
+            let bytes = b"ab".as_ptr();
+            let taken = coronagamba_intake_part(&mut state, bytes, came, to, OUT, held, WAITING);
+            assert_eq!((opened, told, taken), (0, 0, 0));
+        }
+        Between { state, waiting }
+    }
+
+    /// The same, closed.
+    fn closed() -> Self {
+        let Between { mut state, waiting } = Between::having(2);
+        let (mut out, mut length) = ([0; OUT], 0);
+        let (to, held) = (out.as_mut_ptr(), waiting.as_ptr());
+        // SAFETY: each pointer and count are those of one array, and the results
+        // go to live values.
+        let told =
+            unsafe { coronagamba_intake_close(&mut state, to, OUT, held, WAITING, &mut length) };
+        assert_eq!((told, length), (0, 32 + 24 + 2));
+        Between { state, waiting }
+    }
+
+    /// A call on copies of the numbers and of the second buffer, which stay too.
+    fn refused(
+        self,
+        name: &'static str,
+        word: u64,
+        call: impl Fn(&mut Memory, &mut Between) -> u64 + 'static,
+    ) -> Case<'static> {
+        let call = move |lent: &mut Memory| {
+            let mut after = self.clone();
+            let told = call(lent, &mut after);
+            assert!(after == self, "{name}, {word}: the state changed");
+            told
+        };
+        Case {
+            name,
+            word,
+            call: Box::new(call),
+        }
+    }
+
+    /// An announcement, with buffers of these lengths.
+    fn announce(self, word: u64, id: u64, size: u64, out: usize, waiting: usize) -> Case<'static> {
+        let name = "coronagamba_intake_announce";
+        self.refused(name, word, move |lent, now| {
+            let held = now.waiting.as_mut_ptr();
+            // SAFETY: each pointer and count are those of a part of one array or of
+            // the memory, and each part is lent once.
+            unsafe {
+                let to = lent.many(OUT);
+                coronagamba_intake_announce(&mut now.state, id, size, to, out, held, waiting)
+            }
+        })
+    }
+
+    /// A part of so many bytes.
+    fn part(self, word: u64, bytes: usize, out: usize, waiting: usize) -> Case<'static> {
+        self.refused("coronagamba_intake_part", word, move |lent, now| {
+            let (from, held) = (b"abc".as_ptr(), now.waiting.as_ptr());
+            // SAFETY: as above.
+            unsafe {
+                let to = lent.many(OUT);
+                coronagamba_intake_part(&mut now.state, from, bytes, to, out, held, waiting)
+            }
+        })
+    }
+
+    /// The close.
+    fn close(self, word: u64, out: usize, waiting: usize) -> Case<'static> {
+        self.refused("coronagamba_intake_close", word, move |lent, now| {
+            let held = now.waiting.as_ptr();
+            // SAFETY: as above, and the result goes to a part of its own.
+            unsafe {
+                let (to, length) = (lent.many(OUT), lent.one());
+                coronagamba_intake_close(&mut now.state, to, out, held, waiting, length)
+            }
+        })
+    }
+}
+
+/// The calls of an intake.
+fn intake() -> Vec<Case<'static>> {
+    let open = cases! { lent:
+        1 => coronagamba_intake_open(
+            FORBIDDEN, 0, lent.many(99), 99, lent.many::<u8>(9), 9, lent.one(),
+        );
+        1 => coronagamba_intake_open(
+            MESH, 0, lent.many(99), 99, lent.many::<u8>(9), 9, lent.one(),
+        );
+        5 => coronagamba_intake_open(
+            TWO, 1, lent.many(99), 99, lent.many::<u8>(9), 9, lent.one(),
+        );
+        13 => coronagamba_intake_open(
+            TWO, 0, lent.many(31), 31, lent.many::<u8>(9), 9, lent.one(),
+        );
+    };
+    let (owing, whole, closed) = (Between::having(1), Between::having(2), Between::closed());
+    let mut forged = whole.clone();
+    // More came than the sizes say.
+    forged.state[12] += OUT as u64;
+    let announce = [
+        whole.clone().announce(30, 9, 0, OUT - 1, WAITING),
+        whole.clone().announce(30, 2, 0, OUT, WAITING - 1),
+        whole.clone().announce(10, 2, 0, OUT, WAITING),
+        closed.clone().announce(10, 2, 0, OUT, WAITING),
+        closed.clone().announce(25, 9, 0, OUT, WAITING),
+        forged.clone().announce(25, 9, 0, OUT, WAITING),
+        owing.clone().announce(25, 5, 0, OUT, WAITING),
+        owing.clone().announce(25, 4, 0, OUT, WAITING),
+        owing.clone().announce(26, 9, u64::MAX, OUT, WAITING),
+        whole.clone().announce(13, 9, u64::MAX, OUT, WAITING),
+        whole.clone().announce(13, 9, 0, OUT, WAITING),
+    ];
+    let part = [
+        whole.clone().part(30, 3, OUT - 1, WAITING),
+        closed.clone().part(30, 0, OUT, WAITING - 1),
+        closed.clone().part(25, 0, OUT, WAITING),
+        forged.clone().part(25, 3, OUT, WAITING),
+        owing.clone().part(26, 2, OUT, WAITING),
+        whole.clone().part(26, 1, OUT, WAITING),
+    ];
+    let close = [
+        owing.clone().close(30, OUT - 1, WAITING),
+        closed.clone().close(30, OUT, WAITING - 1),
+        closed.close(25, OUT, WAITING),
+        forged.close(25, OUT, WAITING),
+        owing.close(26, OUT, WAITING),
+    ];
+    open.into_iter()
+        .chain(announce)
+        .chain(part)
+        .chain(close)
+        .collect()
+}
+
 /// A card of this preshift, with these extents of the volume and of a chunk
 /// along each axis.
 fn card(preshift: u8, size: u32, chunk: u32) -> Vec<u8> {
@@ -622,7 +786,7 @@ fn a_refusal_leaves_every_lent_byte() {
     let pairs = faulty_pairs();
     let [sound_pair, more_pair] = [&sound, &more].map(|file| file.split_at(32));
     let long_pair = long.split_at(16 * MINISHARDS as usize);
-    let cases: Vec<Case> = [grid(), sharding(), card_write()]
+    let cases: Vec<Case> = [grid(), sharding(), intake(), card_write()]
         .into_iter()
         .chain(shards.iter().map(on_faulty_shard))
         .chain([on_sound_shard(&sound), on_sound_mesh(&mesh)])

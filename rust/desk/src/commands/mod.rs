@@ -21,6 +21,7 @@ mod list;
 mod locate;
 mod manifest;
 mod name;
+mod pack;
 mod range;
 mod same;
 mod sample;
@@ -41,9 +42,10 @@ pub struct Command {
 }
 
 /// All commands, in the order of the help.
-pub static COMMANDS: [Command; 18] = [
+pub static COMMANDS: [Command; 19] = [
     check::COMMAND,
     settle::COMMAND,
+    pack::COMMAND,
     same::COMMAND,
     get::COMMAND,
     list::COMMAND,

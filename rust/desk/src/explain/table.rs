@@ -9,7 +9,8 @@ pub const TABLE: &[Explained] = &[
     Explained {
         number: 1,
         given: "preshift above 63, hash neither identity nor murmur, minishard bits above 16, \
-         shard bits above 32, or a kind that is neither volume nor mesh",
+         shard bits above 32, or a kind that is neither volume nor mesh; at an intake also \
+         the kind mesh",
         cause: "A mistyped option, a card that was made for another format, or an info file with \
          a hash that this archive does not know.",
         remedy: "Make the card again from the deposit's info file, with 'card make --info', or \
@@ -84,7 +85,8 @@ pub const TABLE: &[Explained] = &[
     },
     Explained {
         number: 10,
-        given: "a listed id belongs to another shard or minishard",
+        given: "a listed id belongs to another shard or minishard; at an intake, with no \
+         position, the announced id belongs to another shard",
         cause: "Wrong settings, above all the hash or the preshift; a file under another shard's \
          name; or damaged bytes.",
         remedy: "If many shards are refused in this way, the settings are wrong: compare them \
@@ -109,7 +111,9 @@ pub const TABLE: &[Explained] = &[
     Explained {
         number: 13,
         given: "the output is too short for the whole answer, or a settled form would exceed \
-         1,073,741,824 bytes",
+         1,073,741,824 bytes; at an intake, on opening or announcing, the settled form of \
+         all announced so far, this chunk included, would pass the output or 1,073,741,824 \
+         bytes, or the second buffer has no 16 bytes left for it",
         cause: "A shard whose chunks share bytes, or in a mesh their fragments: written out one \
          by one they pass 1 GiB.",
         remedy: "Keep the shard as it is. It is sound, but it has no settled form that a shard \
@@ -224,5 +228,33 @@ pub const TABLE: &[Explained] = &[
          first byte, and their end is not in them.",
         remedy: "The seam is where the index file ends. Ask for the part up to the seam and for \
          the part from it on, one after the other.",
+    },
+    Explained {
+        number: 25,
+        given: "at an intake, a chunk is announced whose minishard is below the open one, or is \
+         the open one and its id not above the last; or the shard was closed; or the \
+         state's numbers contradict each other or the second buffer, so that no calls \
+         could have left them",
+        cause: "Chunks that come by rising id alone: the minishard goes first. An id that is \
+         announced twice; a call after the close; or a state that was changed, or kept \
+         from before another call.",
+        remedy: "Sort the chunks by minishard, then by id: 'locate' tells the minishard of an \
+         id. Give each call the state and both buffers as the last call left them.",
+    },
+    Explained {
+        number: 26,
+        given: "at an intake, a part is longer than what is still owed, or a chunk is announced \
+         or the shard closed while bytes are owed",
+        cause: "A chunk whose announced size is not its number of bytes, a part that was handed \
+         over twice or left out, or a part before the first chunk.",
+        remedy: "Announce the size that the chunk has, and hand over exactly that many bytes \
+         before the next chunk or the close.",
+    },
+    Explained {
+        number: 30,
+        given: "at an intake, after opening, a lent buffer has another length than then",
+        cause: "Another buffer than the one that the shard was opened with, a shorter part of \
+         it, or the two buffers exchanged.",
+        remedy: "Lend the output and the second buffer of the opening, both whole, to each call.",
     },
 ];

@@ -6,9 +6,10 @@ use std::os::unix::fs::symlink;
 use std::process::Command;
 
 /// All commands, with those that have members.
-const COMMANDS: [&str; 20] = [
+const COMMANDS: [&str; 21] = [
     "check",
     "settle",
+    "pack",
     "same",
     "get",
     "list",
@@ -61,6 +62,13 @@ fn statuses() -> Vec<(String, i32)> {
             "settle --drop-unlisted demo/copy-b/0.shard --out nothing/inner/0.shard",
             3,
         ),
+        ("pack /dev/null --out 7.shard", 0),
+        ("pack /dev/null --out 7.shard", 0),
+        ("pack demo --out packed", 1),
+        ("pack /dev/null --out packed --shard 8", 1),
+        ("pack /dev/null --out packed", 2),
+        ("pack demo/deposit.card --out 6.shard", 2),
+        ("pack nothing --out 6.shard", 3),
         ("same demo/copy-a demo/copy-b", 0),
         ("same demo/copy-a/0.shard demo/copy-b/0.shard", 0),
         ("same demo/copy-a demo/damaged", 1),
@@ -276,6 +284,9 @@ fn statuses() -> Vec<(String, i32)> {
         ("explain 21", 0),
         ("explain 23", 0),
         ("explain 24", 0),
+        ("explain 25", 0),
+        ("explain 26", 0),
+        ("explain 30", 0),
         ("explain 0", 2),
         ("explain 200", 2),
         ("explain 99", 2),
@@ -321,6 +332,7 @@ fn exit_statuses() {
     assert_eq!(
         folder.names("."),
         [
+            "7.shard",
             "all",
             "by-info",
             "demo",
@@ -377,6 +389,7 @@ fn no_setting_is_assumed() {
         for line in [
             "check demo/copy-a",
             "settle --drop-unlisted demo/copy-a --out x",
+            "pack /dev/null --out 0.shard",
             "same demo/copy-a demo/copy-b",
             "get demo/copy-a 21",
             "list demo/copy-a/0.shard",
@@ -554,6 +567,8 @@ fn json_lines_are_json_objects() {
         ("settle --drop-unlisted demo/damaged --out settled", 1),
         ("settle --drop-unlisted demo/damaged --out settled", 1),
         ("settle --drop-unlisted demo/copy-b/0.shard --out one", 0),
+        ("pack /dev/null --out 7.shard", 0),
+        ("pack demo --out packed", 1),
         ("same demo/copy-a demo/copy-b", 0),
         ("same demo/copy-a demo/damaged", 1),
         ("same demo/copy-a/0.shard demo/copy-b/0.shard", 0),

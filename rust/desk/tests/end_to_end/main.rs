@@ -12,6 +12,7 @@ mod meshes;
 mod minishards;
 mod nothing_lost;
 mod odd_files;
+mod packs;
 mod pairs;
 mod reading;
 mod refusals;

@@ -73,6 +73,36 @@ fn the_file_its_output_and_64_mib_are_enough() {
     assert_eq!(folder.names("."), ["0.shard", "chunk", "settled"]);
 }
 
+/// Three shards of a chunk each: packed they have memory for one, and their chunks
+/// are never there together.
+#[test]
+fn packing_takes_the_output_and_64_mib() {
+    let folder = Folder::new();
+    let chunk = 48 * MIB;
+    for begin in 0..3 {
+        let name = format!("chunks/{begin}-{}_0-1_0-1", begin + 1);
+        let file = File::create(folder.write(name, "")).expect("a file");
+        file.set_len(chunk).expect("a file with a hole");
+    }
+    let options = options(&Sharding {
+        shard_bits: 2,
+        ..SHARDING
+    });
+    let line = format!("pack chunks --out packed --size 3,1,1 --chunk 1,1,1 {options}");
+    let run = folder.run_after(&limit(chunk + 64 * MIB), &line);
+    run.expect_status(0)
+        .expect_line("packed/2.shard: packed, 1 chunk, 50331688 bytes");
+    write_shard_of(&folder, "expected", 2, chunk);
+    assert!(folder.read("packed/2.shard") == folder.read("expected"));
+    let run = folder.run_after(
+        &limit(chunk / 2),
+        &line.replace("--out packed", "--out less"),
+    );
+    run.expect_status(3);
+    assert!(run.stderr.contains("out of memory"), "{run}");
+    assert!(folder.names("less").is_empty());
+}
+
 /// A mesh shard of one manifest, the longest one that is allowed: its nodes lie
 /// along x, each with a fragment of one byte.
 fn write_mesh(folder: &Folder, name: &str) -> u64 {

@@ -5,6 +5,7 @@ use crate::shards::options;
 use crate::support::{Folder, Run, PROGRAM};
 use reference::names::shard_name;
 use reference::settle::settled_form;
+use reference::shard::list;
 use reference::sharding::Sharding;
 use std::collections::BTreeMap;
 use std::fs;
@@ -46,6 +47,20 @@ impl Deposit {
             forms.insert(name, settled_form(&SHARDING, &listed));
         }
         Deposit { folder, forms }
+    }
+
+    /// Writes each chunk to a file of its own, named as in a row of chunks of one
+    /// voxel, in which a cell's key is its place.
+    fn loosen(&self, under: &str) {
+        for (name, form) in &self.forms {
+            let number = u64::from_str_radix(name.trim_end_matches(".shard"), 16);
+            let number = number.expect("the name of a shard");
+            for entry in list(&SHARDING, number, form).expect("a sound shard") {
+                let name = format!("{}-{}_0-1_0-1", entry.id, entry.id + 1);
+                self.folder
+                    .write(format!("{under}/{name}"), entry.bytes(form));
+            }
+        }
     }
 
     /// The words of a run that settles all of it.
@@ -90,12 +105,12 @@ impl Deposit {
     }
 }
 
-#[test]
-fn killed_at_random_moments_while_settling() {
-    let deposit = Deposit::new(64, |_| 40_000);
+/// Kills the run of a line, which makes the forms, so many times, and then lets it
+/// end.
+fn killed_at_random_moments(deposit: &Deposit, line: &str, rounds: u64) {
     let rng = &mut Rng::new(9);
     let (mut midway, mut parts) = (0, 0);
-    for round in 0..40 {
+    for round in 0..rounds {
         if round % 3 == 0 {
             // Starts anew; the other rounds go on where the last was killed.
             let _ = fs::remove_dir_all(deposit.folder.at("settled"));
@@ -103,7 +118,7 @@ fn killed_at_random_moments_while_settling() {
         let mut child = deposit
             .folder
             .program()
-            .args(deposit.line().split_whitespace())
+            .args(line.split_whitespace())
             .stdout(Stdio::null())
             .stderr(Stdio::null())
             .spawn()
@@ -117,13 +132,29 @@ fn killed_at_random_moments_while_settling() {
         child.kill().expect("killed");
         child.wait().expect("ended");
         let whole = deposit.whole("settled");
-        midway += usize::from(0 < whole && whole < 64);
-        parts += usize::from(deposit.entries() > whole);
+        midway += u64::from(0 < whole && whole < 64);
+        parts += u64::from(deposit.entries() > whole);
     }
     // Otherwise nothing was tried.
-    assert!(midway > 5 && parts > 5, "{midway} {parts}");
-    deposit.folder.run_line(&deposit.line()).expect_status(0);
+    let least = rounds / 8;
+    assert!(midway > least && parts > least, "{midway} {parts}");
+    deposit.folder.run_line(line).expect_status(0);
     deposit.finished("settled");
+}
+
+#[test]
+fn killed_at_random_moments_while_settling() {
+    let deposit = Deposit::new(64, |_| 40_000);
+    killed_at_random_moments(&deposit, &deposit.line(), 40);
+}
+
+#[test]
+fn killed_at_random_moments_while_packing() {
+    let deposit = Deposit::new(64, |_| 40_000);
+    deposit.loosen("chunks");
+    let volume = "--size 1024,1,1 --chunk 1,1,1";
+    let line = format!("pack chunks --out settled {volume} {}", options(&SHARDING));
+    killed_at_random_moments(&deposit, &line, 20);
 }
 
 #[test]

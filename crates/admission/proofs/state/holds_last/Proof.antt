@@ -1,0 +1,16 @@
+use Rattle.admission.proofs.States.{testing}
+use Rattle.admission.proofs.state.holds_last.Statement.{statement}
+use Rattle.admission.proofs.state.holds_last.Tie as tie
+
+pub holds-last-spec : {M : Type 1} → statement M
+holds-last-spec =
+    tie.close
+    (tie.spec
+    (λ c. search testing)
+    (λ c. search testing)
+    (λ c κs. search testing)
+    (λ c. search testing)
+    (λ c κs. search testing)
+    (λ c. search testing)
+    (λ c. search testing)
+    (λ c. search testing))

@@ -1,0 +1,227 @@
+-- Each call leaves a state whose numbers contradict neither each other nor the second buffer.
+use Prim.Native.Nat.{ℕ, _+_, _*_, _-_, _^_, _≤_, _<_}
+use mathlib.Core.Path.{_≡_, refl, sym, ap, _∙_}
+use mathlib.Core.Bool.{Bool, true, false, _&&_, _||_, or-true}
+use mathlib.Core.Logic.{_⊎_, inl, inr}
+use mathlib.Core.List.{List}
+use native.Mathlib.Omega.{arith}
+use lib.Dec.{ltb, leb, eqb}
+use lib.ListN.{length}
+use borrow.Author.Tests.{ltb-true, leb-true, leb-false, lt-ltb, le-leb, eqb-true, eqb-false, eq-eqb, ne-eqb}
+use Rattle.refusal.specs.Choice.{pick}
+use Rattle.refusal.proofs.Tests.{both, neither}
+use Rattle.endian.specs.Place.{paste}
+use Rattle.sharding.specs.declared.Sharding.{Sharding}
+use Rattle.sharding.specs.Specification.{noSuchShard}
+use Rattle.sharding.specs.Place.{shardOf, minishardOf}
+use Rattle.shard.specs.File.{indexLength}
+use Rattle.waiting.specs.Held.{pair, idHeld, sizeHeld}
+use Rattle.waiting.proofs.Pairs.{pair-id, pair-size}
+use Rattle.admission.specs.declared.Intake.{Intake}
+use Rattle.admission.specs.State.{most, announcedLength, notVolume, fresh, placed, begun, waits, going, sane}
+use Rattle.admission.specs.Refusals.{outOfOrder, countIn}
+use Rattle.admission.proofs.Passing.{volume-allowed, Fresh, fresh-parts, going-parts, Sane, sane-parts, unusable-parts, Opens, Announces, not-below, foreign-ours}
+use Rattle.intake.specs.Calls.{opened, turned, announced, taken}
+use Rattle.intake.proofs.Stepped.{turned-count}
+use Rattle.delivered.proofs.Keeping.{turned-there}
+
+positive : (k : ℕ) → (k ≡ 0 → ⊥) → 0 < k
+positive k h = omega arith
+
+-- ---- a sane state from its parts
+
+fresh-made : {s : Intake} → Fresh s → fresh s ≡ true
+unfolding fresh
+fresh-made h = rw (h .minishard, h .last, h .begin, h .next, h .owed)
+
+-- where the open minishard began
+pub record Begun (s : Intake) : Type 0 where
+  pub ordered : s .begin ≤ s .next
+  pub behind : (s .begin ≡ 0) ⊎ ((0 < s .minishard) × (24 ≤ s .begin))
+
+begun-parts : (s : Intake) → begun s ≡ true → Begun s
+unfolding begun
+begun-parts s e = let a = both _ _ e in record { ordered = leb-true _ _ (a .0); behind = go (eqb (s .begin) 0) refl (a .1) }
+  where
+    go : (b : Bool) → eqb (s .begin) 0 ≡ b → (b || (ltb 0 (s .minishard) && leb 24 (s .begin))) ≡ true → (s .begin ≡ 0) ⊎ ((0 < s .minishard) × (24 ≤ s .begin))
+    go true f g = inl (eqb-true _ _ f)
+    go false f g = let h = both _ _ g in inr (ltb-true _ _ (h .0), leb-true _ _ (h .1))
+
+begun-made : (s : Intake) → Begun s → begun s ≡ true
+unfolding begun
+begun-made s h = rw (le-leb (s .begin) (s .next) (h .ordered)) (go (h .behind))
+  where
+    go : (s .begin ≡ 0) ⊎ ((0 < s .minishard) × (24 ≤ s .begin)) → (eqb (s .begin) 0 || (ltb 0 (s .minishard) && leb 24 (s .begin))) ≡ true
+    go (inl e) = rw (eq-eqb (s .begin) 0 e)
+    go (inr g) = rw (lt-ltb 0 (s .minishard) (g .0), le-leb 24 (s .begin) (g .1)) (or-true (eqb (s .begin) 0))
+
+-- the last pair that waits
+record Waits (s : Intake) (w : List ℕ) : Type 0 where
+  id : idHeld w (s .count - 1) ≡ s .last
+  owed : s .owed ≤ sizeHeld w (s .count - 1)
+  came : s .begin + sizeHeld w (s .count - 1) ≤ s .next + s .owed
+
+waits-parts : (s : Intake) (w : List ℕ) → waits s w ≡ true → Waits s w
+unfolding waits
+waits-parts s w e = let a = both _ _ e in let b = both _ _ (a .1) in record { id = eqb-true _ _ (a .0); owed = leb-true _ _ (b .0); came = leb-true _ _ (b .1) }
+
+waits-made : (s : Intake) (w : List ℕ) → Waits s w → waits s w ≡ true
+unfolding waits
+waits-made s w h =
+    rw (eq-eqb _ _ (h .id), le-leb (s .owed) (sizeHeld w (s .count - 1)) (h .owed), le-leb (s .begin + sizeHeld w (s .count - 1)) (s .next + s .owed) (h .came))
+
+going-made : (s : Intake) (w : List ℕ) → shardOf (s .spec) (s .last) ≡ s .shard → minishardOf (s .spec) (s .last) ≡ s .minishard → s .count - 1 ≤ s .last
+    → Begun s → Waits s w → going s w ≡ true
+unfolding going placed
+going-made s w a b c d e = rw (eq-eqb _ _ a, eq-eqb _ _ b, le-leb (s .count - 1) (s .last) c, begun-made s d, waits-made s w e)
+
+sane-made : (s : Intake) (w : List ℕ) → Sane s w → sane s w ≡ true
+unfolding sane
+sane-made s w h =
+    rw (h .volume, h .numbered, le-leb (16 * s .count) (s .waiting) (h .held), le-leb (announcedLength s) (most (s .output)) (h .room)) (h .either)
+
+either-begun : (s : Intake) (w : List ℕ) (b : Bool) → pick b (fresh s) (going s w) ≡ true → Begun s
+either-begun s w true e = let z = fresh-parts s e in record { ordered = omega arith; behind = inl (z .begin) }
+either-begun s w false e = begun-parts s (going-parts s w e .begun)
+
+-- as many ids as chunks are not above the last one
+either-ids : (s : Intake) (w : List ℕ) (b : Bool) → pick b (fresh s) (going s w) ≡ true → eqb (s .count) 0 ≡ b → s .count - 1 ≤ s .last
+either-ids s w true e f = let z = eqb-true (s .count) 0 f in omega arith
+either-ids s w false e f = going-parts s w e .ids
+
+-- ---- each step leaves a sane state
+
+pub opened-sane : (spec : Sharding) (shard output waiting : ℕ) (w : List ℕ) → Opens spec shard output → sane (opened spec shard output waiting) w ≡ true
+opened-sane spec shard output waiting w h =
+    sane-made (opened spec shard output waiting) w
+    (record {
+      volume = h .volume;
+      numbered = h .numbered;
+      held = omega arith;
+      room = omega (arith, h .room);
+      either = fresh-made {s = opened spec shard output waiting} (record { minishard = refl; last = refl; begin = refl; next = refl; owed = refl });
+    })
+
+pub taken-sane : (s : Intake) (n : ℕ) (w : List ℕ) → sane s w ≡ true → n ≤ s .owed → sane (taken s n) w ≡ true
+taken-sane s n w e l =
+    let h = sane-parts s w e in
+    sane-made (taken s n) w
+    (record {
+      volume = h .volume;
+      numbered = h .numbered;
+      held = h .held;
+      room = omega (arith, h .room);
+      either = go (eqb (s .count) 0) (h .either);
+    })
+  where
+    go : (b : Bool) → pick b (fresh s) (going s w) ≡ true → pick b (fresh (taken s n)) (going (taken s n) w) ≡ true
+    go true f =
+        let z = fresh-parts s f in
+        fresh-made {s = taken s n} (record { minishard = z .minishard; last = z .last; begin = z .begin; next = omega arith; owed = omega arith })
+    go false f =
+        let z = going-parts s w f in
+        let b = begun-parts s (z .begun) in
+        let v = waits-parts s w (z .waits) in
+        going-made (taken s n) w (z .ours) (z .here) (z .ids) (record { ordered = omega arith; behind = b .behind })
+        (record { id = v .id; owed = omega arith; came = omega arith })
+
+-- what a new minishard changes of the numbers
+pub record Turns (s : Intake) (w : List ℕ) (m : ℕ) (t : Intake) : Type 0 where
+  pub spec : t .spec ≡ s .spec
+  pub shard : t .shard ≡ s .shard
+  pub output : t .output ≡ s .output
+  pub waiting : t .waiting ≡ s .waiting
+  pub phase : t .phase ≡ s .phase
+  pub begun : s .minishard ≤ m → sane s w ≡ true → Begun t
+  pub place : t .next + 24 * t .count ≡ s .next + 24 * s .count
+
+pub turns : (s : Intake) (w : List ℕ) (m : ℕ) → Turns s w m (turned s m)
+unfolding turned
+turns s w m = go (eqb m (s .minishard)) refl
+  where
+    -- it begins behind a minishard index, or, where none came before it, where the data does
+    new : (b : Bool) → eqb (s .count) 0 ≡ b → pick b (fresh s) (going s w) ≡ true → s .minishard < m → (s .next + 24 * s .count ≡ 0) ⊎ ((0 < m) × (24 ≤ s .next + 24 * s .count))
+    new true f e l = let z = fresh-parts s e in let n = eqb-true (s .count) 0 f in inl (omega arith)
+    new false f e l = let n = positive (s .count) (eqb-false (s .count) 0 f) in inr (omega arith, omega arith)
+
+    other : eqb m (s .minishard) ≡ false → s .minishard ≤ m → s .minishard < m
+    other e l = let n = eqb-false m (s .minishard) e in omega arith
+
+    go : (b : Bool) → eqb m (s .minishard) ≡ b → Turns s w m (turned s m)
+    go true e =
+        rw e
+        (record {
+          spec = refl;
+          shard = refl;
+          output = refl;
+          waiting = refl;
+          phase = refl;
+          begun = λ l h. either-begun s w (eqb (s .count) 0) (sane-parts s w h .either);
+          place = refl;
+        })
+    go false e =
+        rw e
+        (record {
+          spec = refl;
+          shard = refl;
+          output = refl;
+          waiting = refl;
+          phase = refl;
+          begun = λ l h. record { ordered = omega arith; behind = new (eqb (s .count) 0) refl (sane-parts s w h .either) (other e l) };
+          place = omega arith;
+        })
+
+-- an id in order is above as many ids as chunks of its minishard came
+count-below : (s : Intake) (w : List ℕ) (id : ℕ) → sane s w ≡ true → outOfOrder s id ≡ false → countIn s (minishardOf (s .spec) id) ≤ id
+unfolding countIn outOfOrder
+count-below s w id h o =
+    go (eqb (minishardOf (s .spec) id) (s .minishard)) (neither (ltb (minishardOf (s .spec) id) (s .minishard)) _ o .1)
+  where
+    go : (b : Bool) → (b && (ltb 0 (s .count) && leb id (s .last))) ≡ false → pick b (s .count) 0 ≤ id
+    go false f = omega arith
+    go true f = some (eqb (s .count) 0) refl
+      where
+        some : (b : Bool) → eqb (s .count) 0 ≡ b → s .count ≤ id
+        some true g = let n = eqb-true (s .count) 0 g in omega arith
+        some false g =
+            let n = positive (s .count) (eqb-false (s .count) 0 g) in
+            let k = either-ids s w (eqb (s .count) 0) (sane-parts s w h .either) refl in
+            omega (arith, leb-false id (s .last) (rw (lt-ltb 0 (s .count) n) at f))
+
+pub announced-sane : (s : Intake) (id size output : ℕ) (w : List ℕ) → Announces s id size output w → id < 2 ^ 64
+    → sane (announced s id size) (paste (16 * countIn s (minishardOf (s .spec) id)) (pair id size) w) ≡ true
+announced-sane s id size output w h l =
+    let m = minishardOf (s .spec) id in
+    let t = turned s m in
+    let q = turns s w m in
+    let a = announced s id size in
+    let sn = unusable-parts s w (h .usable) .0 in
+    let f = sane-parts s w sn in
+    let w₁ = paste (16 * countIn s m) (pair id size) w in
+    let ou = q .output in
+    let wa = q .waiting in
+    let pl = q .place in
+    let tc : t .count ≡ countIn s m = turned-count s m in
+    let il : indexLength (t .spec) ≡ indexLength (s .spec) = ap indexLength (q .spec) in
+    let n : t .count + 1 ≡ 0 → ⊥ = λ z. omega arith in
+    let c : t .count + 1 - 1 ≡ countIn s m = omega arith in
+    let b = q .begun (not-below s id (h .order)) sn in
+    let room = h .room in
+    let sl : 16 * countIn s m + 16 ≤ length w = omega (arith, h .slot, h .usual .waits) in
+    let i : idHeld w₁ (t .count + 1 - 1) ≡ id = rw c (pair-id (16 * countIn s m) id size w sl l) in
+    let z : sizeHeld w₁ (t .count + 1 - 1) ≡ size = rw c (pair-size (16 * countIn s m) id size w sl (omega arith)) in
+    sane-made a w₁
+    (record {
+      volume = ap notVolume (q .spec) ∙ f .volume;
+      numbered = ap (λ (x : Sharding). noSuchShard x (t .shard)) (q .spec) ∙ ap (noSuchShard (s .spec)) (q .shard) ∙ f .numbered;
+      held = omega (arith, h .slot);
+      room = omega (arith, h .paid);
+      either =
+          rw (ne-eqb (t .count + 1) 0 n)
+          (going-made a w₁
+          (ap (λ (x : Sharding). shardOf x id) (q .spec) ∙ foreign-ours s id (volume-allowed (s .spec) (f .volume)) (h .ours) ∙ sym (q .shard))
+          (ap (λ (x : Sharding). minishardOf x id) (q .spec) ∙ sym (turned-there s m))
+          (omega (arith, count-below s w id sn (h .order)))
+          (record { ordered = b .ordered; behind = b .behind })
+          (record { id = i; owed = omega arith; came = omega (arith, b .ordered) }));
+    })

@@ -1,0 +1,1 @@
+// What an intake makes of what is delivered to it: statements, no function.

@@ -1,0 +1,4 @@
+-- Laws of the four calls of an intake.
+pub mod Stepped
+pub mod Answered
+pub mod Refused

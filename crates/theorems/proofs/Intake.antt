@@ -1,0 +1,19 @@
+-- Order 11's promises, from the crates' laws.
+use Rattle.delivered.proofs.Laws.{takes-in-order, closes-settled, closes-paid, cut-differently, closes-sound}
+use Rattle.delivered.proofs.Room.{open-says}
+use Rattle.delivered.proofs.Says.{announce-says, part-says, close-says, closed-unusable}
+use Rattle.theorems.specs.Intake.{Order11}
+
+pub order-11 : Order11
+order-11 = record {
+  settled = λ spec shard out waiting xs d n t q. closes-settled t q;
+  cut = λ spec shard out waiting out′ waiting′ xs ys d e m n t q u r z. cut-differently t q u r z;
+  paid = λ spec shard out waiting xs d t z. closes-paid t z;
+  sound = λ spec shard out waiting xs d n t q. closes-sound t q;
+  ordered = λ spec shard out waiting xs d t. takes-in-order t;
+  opens = open-says;
+  announces = λ spec shard out waiting xs d x t e. announce-says t x e;
+  parts = λ spec shard out waiting xs d n t. part-says t n;
+  closes = λ spec shard out waiting xs d t. close-says t;
+  over = closed-unusable;
+}

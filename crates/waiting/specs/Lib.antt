@@ -1,0 +1,2 @@
+-- The second buffer of an intake (02, order 11).
+pub mod Held
