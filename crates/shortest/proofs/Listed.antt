@@ -120,7 +120,7 @@ settled-listed : {spec : Sharding} {c : List (List Item)} → Readable spec c �
 settled-listed {spec} {c} good =
     rw (index-back spec c (good .count), data-back spec c (good .count)) (none-counted spec (row (entriesFrom 0 c)) (partsFrom 0 c) .1 (λ q l. byte-listed good q l))
 
--- "law: a settled form has none": of a sound shard, at most 1 GiB long
+-- of a sound shard, where it is at most 1 GiB long
 pub form-listed : {spec : Sharding} {shard : ℕ} {a : List ℕ} → SoundShard spec shard a → Short spec a → fileUnlisted spec (fileForm spec a) ≡ 0
 unfolding formOf
 form-listed {spec} {shard} {a} sound short = settled-listed (readable-content sound (omega (arith, file-form-length spec a)))

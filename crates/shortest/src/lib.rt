@@ -1,1 +1,1 @@
-// The ranges of a settled form, and that nothing is shorter than it: definitions and laws, no code.
+// No code: the ranges of a settled form, and that nothing is shorter than it.

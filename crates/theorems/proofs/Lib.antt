@@ -5,3 +5,4 @@ pub mod Demands
 pub mod Orders
 pub mod Pairs
 pub mod Intake
+pub mod Shortest
