@@ -37,15 +37,16 @@
  *       CORONAGAMBA_HAS_POSITION(word))
  *     look_at(file + CORONAGAMBA_POSITION(word));
  *
- * What names a minishard: coronagamba_check and coronagamba_pair_check with 7
- * to 11, 15 to 17 and 21. What names a position: coronagamba_check,
- * coronagamba_lookup, coronagamba_fragment, coronagamba_listed_count,
- * coronagamba_listing, coronagamba_unlisted, coronagamba_settled_length,
- * coronagamba_settle, coronagamba_pair_check, coronagamba_pair_lookup,
- * coronagamba_pair_fragment, coronagamba_pair_listed_count,
- * coronagamba_pair_listing, coronagamba_pair_unlisted,
- * coronagamba_pair_settled_length and coronagamba_pair_settle with 7 to 11, 15
- * to 17 and 21.
+ * What names a minishard: coronagamba_check, coronagamba_pair_check,
+ * coronagamba_measure and coronagamba_pair_measure with 7 to 11, 15 to 17 and
+ * 21. What names a position: coronagamba_check, coronagamba_lookup,
+ * coronagamba_fragment, coronagamba_listed_count, coronagamba_listing,
+ * coronagamba_unlisted, coronagamba_settled_length, coronagamba_settle,
+ * coronagamba_pair_check, coronagamba_pair_lookup, coronagamba_pair_fragment,
+ * coronagamba_pair_listed_count, coronagamba_pair_listing,
+ * coronagamba_pair_unlisted, coronagamba_pair_settled_length,
+ * coronagamba_pair_settle, coronagamba_measure and coronagamba_pair_measure
+ * with 7 to 11, 15 to 17 and 21.
  *
  * A position is a byte of the shard, counted from its start. With 7 and 8 the
  * minishard's entry in the shard index begins there, 16 bytes: start and end.
@@ -71,15 +72,21 @@
  * nothing that a caller need look at. A state that no calls could have left is
  * refused with 25, and whatever is lent, nothing past it is touched.
  *
+ * Sheets. A holdings sheet is CORONAGAMBA_SHEET_ROWS numbers of the caller: the
+ * calls that add to it read them and, unless they refuse, write the new ones.
+ * The order in which shards are added, or sheets of parts joined, makes no
+ * difference where no total passes 2^64 - 1.
+ *
  * A comment below ends with the refusals that its function can give, in the
  * order in which they are tested.
  *
  * Results. They go through pointers, and need not be initialised before: what
- * stands behind them is not read, but for the state of an intake. A refusal
- * leaves everything behind them as it was, so a result that was not initialised
- * is then still not. A function that writes into a lent buffer writes at its
- * front and gives in `length` how many bytes or numbers it wrote; what lies past
- * them is as it was. The calls of an intake write where the shard grows.
+ * stands behind them is not read, but for the state of an intake and a holdings
+ * sheet. A refusal leaves everything behind them as it was, so a result that was
+ * not initialised is then still not. A function that writes into a lent buffer
+ * writes at its front and gives in `length` how many bytes or numbers it wrote;
+ * what lies past them is as it was. The calls of an intake write where the shard
+ * grows.
  *
  * Reals. A real crosses as the bits of its 32-bit float, in a uint32_t, since a
  * float need not keep the bits of a NaN. A program has the float by
@@ -241,6 +248,11 @@
  * announced or the shard closed while bytes are owed */
 #define CORONAGAMBA_REFUSED_INTAKE_OWED 26
 
+/* a total of the holdings sheet would pass 2^64 - 1, and the sheet stays as
+ * before that shard; of one shard's measure, the sizes of its chunks
+ * together pass it */
+#define CORONAGAMBA_REFUSED_TOTAL_TOO_LARGE 27
+
 /* at an intake, after opening, a lent buffer has another length than then */
 #define CORONAGAMBA_REFUSED_INTAKE_BUFFERS 30
 
@@ -273,6 +285,9 @@
 
 /* how many numbers the state of an intake has */
 #define CORONAGAMBA_INTAKE_NUMBERS 15
+
+/* how many numbers a holdings sheet has */
+#define CORONAGAMBA_SHEET_ROWS 17
 
 #ifdef __cplusplus
 extern "C" {
@@ -660,6 +675,51 @@ uint64_t coronagamba_intake_part(uint64_t state[15], const uint8_t *bytes,
 uint64_t coronagamba_intake_close(uint64_t state[15], uint8_t *out,
                                   size_t count, const uint8_t *waiting,
                                   size_t waiting_count, uint64_t *length);
+
+/* ---- Measures of shards, and the yearly holdings sheet ------------------- */
+
+/* What a shard holds. Writes four numbers to `counts`: the chunks listed,
+ * the sum of their sizes, the unlisted bytes, and the bytes of the settled
+ * form, 1,073,741,825 where that would pass 1 GiB. The shard is judged once,
+ * as coronagamba_check judges it. Refusals: 1, 5, 6, 7 to 11, 15 to 17
+ * (mesh), 21 (mesh) with the minishard and the position, 27 where the sizes
+ * together pass 2^64 - 1 */
+uint64_t coronagamba_measure(coronagamba_sharding sharding, uint64_t shard,
+                             const uint8_t *file, size_t count,
+                             uint64_t counts[4]);
+
+/* coronagamba_measure of a pair. The position is that in the joined file.
+ * Refusals: 1, 5, 23, 6, 7 to 11, 15 to 17 (mesh), 21 (mesh) with the
+ * minishard and the position, 27 where the sizes together pass 2^64 - 1 */
+uint64_t coronagamba_pair_measure(coronagamba_sharding sharding, uint64_t shard,
+                                  const uint8_t *index, size_t count,
+                                  const uint8_t *data, size_t data_count,
+                                  uint64_t counts[4]);
+
+/* Adds a shard to a holdings sheet: to its shards sound, or to those refused
+ * with the number that coronagamba_check gives; where it is sound, to the
+ * chunks listed, the sum of their sizes and the unlisted bytes. `sheet` has
+ * 17 numbers in this order: shards sound; shards refused with 1, 5, 6, 7, 8,
+ * 9, 10, 11, 15, 16, 17, 21, 23; chunks, their bytes, unlisted bytes. An
+ * empty sheet is 0 in each; any numbers are taken. The shard is judged once.
+ * Refused, the sheet stays as it was. Refusals: 27 where a total would pass
+ * 2^64 - 1 */
+uint64_t coronagamba_sheet_add(uint64_t sheet[17],
+                               coronagamba_sharding sharding, uint64_t shard,
+                               const uint8_t *file, size_t count);
+
+/* coronagamba_sheet_add of a pair. Refusals: 27 where a total would pass
+ * 2^64 - 1 */
+uint64_t coronagamba_pair_sheet_add(uint64_t sheet[17],
+                                    coronagamba_sharding sharding,
+                                    uint64_t shard, const uint8_t *index,
+                                    size_t count, const uint8_t *data,
+                                    size_t data_count);
+
+/* Adds a sheet to another, row by row: the sheets of two parts of a year's
+ * work make that of both. Refused, `sheet` stays as it was. Refusals: 27
+ * where a total would pass 2^64 - 1 */
+uint64_t coronagamba_sheet_join(uint64_t sheet[17], const uint64_t other[17]);
 
 /* ---- Deposit cards ------------------------------------------------------- */
 

@@ -16,8 +16,9 @@ from .intake import Intake
 from .manifest import Corners, Header, Manifest, Node, Visit
 from .pair import Half, Held, Pair
 from .refusal import Absent, Refused
-from .shard import Listed, Shard, Span
+from .shard import Counts, Listed, Shard, Span
 from .sharding import IDENTITY, MESH, MURMUR, VOLUME, Place, Sharding
+from .sheet import Sheet
 
 __all__ = [
     "IDENTITY",
@@ -29,6 +30,7 @@ __all__ = [
     "Card",
     "Cell",
     "Corners",
+    "Counts",
     "Extents",
     "Half",
     "Header",
@@ -44,6 +46,7 @@ __all__ = [
     "Refused",
     "Shard",
     "Sharding",
+    "Sheet",
     "Span",
     "Visit",
     "Volume",

@@ -40,6 +40,9 @@ FILE_DATA = 1
 # how many numbers the state of an intake has
 INTAKE_NUMBERS = 15
 
+# how many numbers a holdings sheet has
+SHEET_ROWS = 17
+
 
 class Sharding(ctypes.Structure):
     """The numbers as they stand in a card: hash 0 is identity, 1 is murmur;
@@ -703,6 +706,79 @@ FUNCTIONS: Dict[str, Tuple[Any, Tuple[Any, ...]]] = {
             POINTER(ctypes.c_uint8),
             ctypes.c_size_t,
             POINTER(ctypes.c_uint64),
+        ),
+    ),
+    # What a shard holds. Writes four numbers to `counts`: the chunks listed,
+    # the sum of their sizes, the unlisted bytes, and the bytes of the settled
+    # form, 1,073,741,825 where that would pass 1 GiB. The shard is judged
+    # once, as coronagamba_check judges it.
+    # Refusals: 1, 5, 6, 7 to 11, 15 to 17 (mesh), 21 (mesh) with the minishard
+    # and the position, 27 where the sizes together pass 2^64 - 1
+    "coronagamba_measure": (
+        ctypes.c_uint64,
+        (
+            Sharding,
+            ctypes.c_uint64,
+            POINTER(ctypes.c_uint8),
+            ctypes.c_size_t,
+            POINTER(ctypes.c_uint64 * 4),
+        ),
+    ),
+    # coronagamba_measure of a pair. The position is that in the joined file.
+    # Refusals: 1, 5, 23, 6, 7 to 11, 15 to 17 (mesh), 21 (mesh) with the
+    # minishard and the position, 27 where the sizes together pass 2^64 - 1
+    "coronagamba_pair_measure": (
+        ctypes.c_uint64,
+        (
+            Sharding,
+            ctypes.c_uint64,
+            POINTER(ctypes.c_uint8),
+            ctypes.c_size_t,
+            POINTER(ctypes.c_uint8),
+            ctypes.c_size_t,
+            POINTER(ctypes.c_uint64 * 4),
+        ),
+    ),
+    # Adds a shard to a holdings sheet: to its shards sound, or to those
+    # refused with the number that coronagamba_check gives; where it is sound,
+    # to the chunks listed, the sum of their sizes and the unlisted bytes.
+    # `sheet` has 17 numbers in this order: shards sound; shards refused with
+    # 1, 5, 6, 7, 8, 9, 10, 11, 15, 16, 17, 21, 23; chunks, their bytes,
+    # unlisted bytes. An empty sheet is 0 in each; any numbers are taken. The
+    # shard is judged once. Refused, the sheet stays as it was.
+    # Refusals: 27 where a total would pass 2^64 - 1
+    "coronagamba_sheet_add": (
+        ctypes.c_uint64,
+        (
+            POINTER(ctypes.c_uint64 * 17),
+            Sharding,
+            ctypes.c_uint64,
+            POINTER(ctypes.c_uint8),
+            ctypes.c_size_t,
+        ),
+    ),
+    # coronagamba_sheet_add of a pair.
+    # Refusals: 27 where a total would pass 2^64 - 1
+    "coronagamba_pair_sheet_add": (
+        ctypes.c_uint64,
+        (
+            POINTER(ctypes.c_uint64 * 17),
+            Sharding,
+            ctypes.c_uint64,
+            POINTER(ctypes.c_uint8),
+            ctypes.c_size_t,
+            POINTER(ctypes.c_uint8),
+            ctypes.c_size_t,
+        ),
+    ),
+    # Adds a sheet to another, row by row: the sheets of two parts of a year's
+    # work make that of both. Refused, `sheet` stays as it was.
+    # Refusals: 27 where a total would pass 2^64 - 1
+    "coronagamba_sheet_join": (
+        ctypes.c_uint64,
+        (
+            POINTER(ctypes.c_uint64 * 17),
+            POINTER(ctypes.c_uint64 * 17),
         ),
     ),
     # What a deposit card of these bytes says. Writes preshift, hash, minishard

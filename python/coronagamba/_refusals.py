@@ -119,6 +119,11 @@ class Numbers:
     # announced or the shard closed while bytes are owed
     INTAKE_OWED = 26
 
+    # a total of the holdings sheet would pass 2^64 - 1, and the sheet stays as
+    # before that shard; of one shard's measure, the sizes of its chunks
+    # together pass it
+    TOTAL_TOO_LARGE = 27
+
     # at an intake, after opening, a lent buffer has another length than then
     INTAKE_BUFFERS = 30
 
@@ -169,5 +174,6 @@ SENTENCES: Dict[int, str] = {
         "have left this state."
     ),
     26: "The part is longer than what is still owed, or bytes are owed.",
+    27: "A total would pass 2^64 - 1.",
     30: "A buffer has another length than when the shard was opened.",
 }

@@ -10,7 +10,8 @@ class Refused(Numbers, Exception):
     """A call was refused: a number from the archive's table, as in
     `Refused.NOT_LISTED`; of a shard, with 7 to 11, 15 to 17 and 21, the
     position, which is the byte to look at, counted from the start of the
-    shard; and, from the whole-shard check, the minishard with the fault.
+    shard; and, from the whole-shard check and the measure, the minishard with
+    the fault.
 
     With 7 and 8 the minishard's entry in the shard index begins at the
     position, 16 bytes; with 9 and 10 the id step of the first entry that

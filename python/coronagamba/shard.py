@@ -1,5 +1,5 @@
 """Shard files: lookup, fragments, the whole-shard check, listings, unlisted
-bytes and settling. What a shard in one file and one in two files have in
+bytes, measures and settling. What a shard in one file and one in two files have in
 common is said once, in `Stored`."""
 
 from __future__ import annotations
@@ -28,6 +28,18 @@ class Listed(NamedTuple):
 
     id: int
     span: Span
+
+
+class Counts(NamedTuple):
+    """What a sound shard holds: how many chunks it lists, their sizes together
+    as stored, how many of its bytes are unlisted, and how many its settled
+    form has, or 1,073,741,825 where that would pass 1 GiB, which settling
+    refuses with 13."""
+
+    chunks: int
+    bytes: int
+    unlisted: int
+    settled: int
 
 
 class Stored(Releasing):
@@ -161,6 +173,15 @@ class Stored(Releasing):
         with self._lent() as loan:
             self._ask("unlisted", loan, byref(count))
         return count.value
+
+    def measure(self) -> Counts:
+        """What a sound shard holds, for which it is judged once. Refused as
+        `check` is, then with 27 where the sizes of the chunks together pass
+        2^64 - 1."""
+        counts = (c_uint64 * 4)()
+        with self._lent() as loan:
+            self._ask("measure", loan, byref(counts))
+        return Counts(*counts)
 
     def settled_length(self, *, drop_unlisted: bool = False) -> int:
         """The length of the settled form, which is one file, also of a pair.

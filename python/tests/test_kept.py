@@ -56,6 +56,8 @@ OUT = (c_uint8 * 40, 40)
 WAITING = (c_uint8 * 16, 16)
 # The word of a fault in the second entry of the shard index.
 SECOND = 7 + (16 + 1 << 32)
+# The same with its minishard.
+SECOND_MINISHARD = SECOND + (2 << 8)
 # A refusing call: its word, the function, what it is given in front, and
 # the types of what it could write, with a count where it asks for one, and
 # numbers that stand between them.
@@ -110,6 +112,10 @@ CALLS = [
     (24, "pair_range", (ALLOWED, FILE, 32, MORE, 9, 31, 33), RANGE),
     (23, "pair_range", (ALLOWED, MORE, 33, MORE, 9, 0, 0), RANGE),
     (1, "pair_range", (FORBIDDEN, FILE, 32, MORE, 9, 0, 0), RANGE),
+    (SECOND_MINISHARD, "pair_measure", PAIR, [c_uint64 * 4]),
+    (23, "pair_measure", LONG, [c_uint64 * 4]),
+    (SECOND_MINISHARD, "measure", SHARD, [c_uint64 * 4]),
+    (1, "measure", (FORBIDDEN, 0, FILE, 32), [c_uint64 * 4]),
     (SECOND, "lookup", SHARD + (1,), [U64, U64]),
     (12, "lookup", SHARD + (2,), [U64, U64]),
     (SECOND, "fragment", SHARD + (1, 0, 0), [U64, U64]),
@@ -158,6 +164,18 @@ CALLS = [
     (18, "manifest_corners", (MANIFEST, 28, 0, 0), [THREE_U32, THREE_U32]),
 ]
 
+ONE_CHUNK = (c_uint64 * 17)(*[0] * 14, 1, 0, 0)
+# Calls on a sheet: the row to which each adds 1, and what is behind the sheet.
+SHEET_CALLS = [
+    ("sheet_add", 0, LISTED),
+    ("sheet_add", 4, SHARD),
+    ("sheet_add", 14, LISTED),
+    ("sheet_add", 16, UNLISTED),
+    ("pair_sheet_add", 0, LISTED_PAIR),
+    ("pair_sheet_add", 13, LONG),
+    ("sheet_join", 14, (byref(ONE_CHUNK),)),
+]
+
 
 class Kept(unittest.TestCase):
     def test_a_refusal_leaves_all_as_it_was(self):
@@ -182,8 +200,24 @@ class Kept(unittest.TestCase):
     def test_every_function_with_results_is_tried(self):
         without = {"version", "check", "pair_check", "manifest_check"}
         tried = {f"coronagamba_{name}" for _, name, *_ in CALLS}
+        tried |= {f"coronagamba_{name}" for name, *_ in SHEET_CALLS}
         tried |= {f"coronagamba_{name}" for name in without}
         self.assertEqual(tried, set(_declared.FUNCTIONS))
+
+    def test_a_full_sheet_stays(self):
+        for name, row, arguments in SHEET_CALLS:
+            with self.subTest(name=name):
+                call = getattr(library, f"coronagamba_{name}")
+                sheet = filled(c_uint64 * 17)
+                sheet[row] = 2**64 - 1
+                kept = bytes(sheet)
+                self.assertEqual(call(byref(sheet), *arguments), 27)
+                self.assertEqual(bytes(sheet), kept)
+                sheet[row] -= 1
+                expected = list(sheet)
+                expected[row] += 1
+                self.assertEqual(call(byref(sheet), *arguments), 0)
+                self.assertEqual(sheet[row], expected[row])
 
     def test_the_checks_word_carries_the_minishard_too(self):
         word = SECOND + 256 * 2

@@ -34,7 +34,7 @@ def told(call):
 
 def answers(shard, ids):
     """What all calls give on some ids."""
-    found = [told(shard.check), told(shard.unlisted)]
+    found = [told(shard.check), told(shard.unlisted), told(shard.measure)]
     for id in ids:
         found += [told(lambda: shard.lookup(id)), told(lambda: shard.chunk(id))]
         for call in (shard.lookup_fragment, shard.fragment):

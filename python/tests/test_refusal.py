@@ -7,7 +7,7 @@ import unittest
 from ctypes import byref, c_uint8, c_uint64
 
 from coronagamba import Absent, Card, Intake, Manifest, Pair, Refused, Shard
-from coronagamba import Sharding, Volume
+from coronagamba import Sharding, Sheet, Volume
 from coronagamba._library import library
 from coronagamba._refusals import SENTENCES
 from coronagamba.refusal import answer
@@ -241,6 +241,12 @@ CALLS = {
         lambda: intake(owed=1).part(b"ab"),
         lambda: intake(owed=1).announce(2, 0),
         lambda: intake(owed=1).close(),
+    ],
+    27: [
+        lambda: Sheet([2**64 - 1] * 17).add(shard(bytes(16))),
+        lambda: Sheet([2**64 - 1] * 17).add(shard(b"")),
+        lambda: Sheet([2**64 - 1] * 17).add(Pair(ONE, 0, b"", b"")),
+        lambda: Sheet([2**63] * 17).join(Sheet([2**63] * 17)),
     ],
     30: [other_length],
 }

@@ -6,3 +6,4 @@ pub mod Writing
 pub mod Answered
 pub mod Word
 pub mod Intaken
+pub mod Sheeted

@@ -4,6 +4,7 @@ pub mod Places
 pub mod Cells
 pub mod Shards
 pub mod Pairs
+pub mod Sheets
 pub mod Manifests
 pub mod Cards
 pub mod Intakes

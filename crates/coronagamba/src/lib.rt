@@ -8,5 +8,6 @@ mod numbers;
 pub mod pairs;
 pub mod places;
 pub mod shards;
+pub mod sheets;
 pub mod texts;
 pub mod version;

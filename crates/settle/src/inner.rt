@@ -125,7 +125,7 @@ fn length_of_all(spec: Sharding, index: &[u8], data: &[u8], n: usize) -> usize
 }
 
 // The length of the settled form of a shard, or 1 GiB and a byte where it is longer than 1 GiB.
-fn form_length(spec: Sharding, index: &[u8], data: &[u8]) -> usize
+pub fn form_length(spec: Sharding, index: &[u8], data: &[u8]) -> usize
     requires { ⌜ SettleableShard spec (now index) (now «data») ⌝ }
     ensures { λ r. ⌜ r ≡ capped (formLength spec (now (index .entry)) (now («data» .entry))) ⌝ }
 {

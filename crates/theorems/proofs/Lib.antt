@@ -6,3 +6,4 @@ pub mod Orders
 pub mod Pairs
 pub mod Intake
 pub mod Shortest
+pub mod Holdings

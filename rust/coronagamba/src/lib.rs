@@ -23,6 +23,7 @@ mod scan;
 mod settle;
 mod shard;
 mod sharding;
+mod sheet;
 mod version;
 
 pub use card::Card;
@@ -36,4 +37,5 @@ pub use scan::Scan;
 pub use settle::Unlisted;
 pub use shard::{Chunk, Chunks, Listed, Shard, Span};
 pub use sharding::{Place, Sharding};
+pub use sheet::{Counts, Sheet};
 pub use version::version;

@@ -34,6 +34,9 @@ pub const FILE_DATA: u32 = 1;
 /// How many numbers the state of an intake has.
 pub const INTAKE_NUMBERS: usize = 15;
 
+/// How many numbers a holdings sheet has.
+pub const SHEET_ROWS: usize = 17;
+
 impl Refusal {
     /// Preshift above 63, hash neither identity nor murmur, minishard bits above 16, shard bits
     /// above 32, or a kind that is neither volume nor mesh; at an intake also the kind mesh.
@@ -133,6 +136,10 @@ impl Refusal {
     /// closed while bytes are owed.
     pub const INTAKE_OWED: u8 = 26;
 
+    /// A total of the holdings sheet would pass 2^64 - 1, and the sheet stays as before that shard;
+    /// of one shard's measure, the sizes of its chunks together pass it.
+    pub const TOTAL_TOO_LARGE: u8 = 27;
+
     /// At an intake, after opening, a lent buffer has another length than then.
     pub const INTAKE_BUFFERS: u8 = 30;
 }
@@ -216,6 +223,7 @@ pub(crate) const SENTENCES: &[(u8, &str)] = &[
         26,
         "The part is longer than what is still owed, or bytes are owed.",
     ),
+    (27, "A total would pass 2^64 - 1."),
     (
         30,
         "A buffer has another length than when the shard was opened.",

@@ -5,8 +5,8 @@ use std::error::Error;
 use std::fmt;
 
 /// Why a call refused: a number from the archive's table; of a shard, with 7 to
-/// 11, 15 to 17 and 21, the place of what offends and, from the whole-shard check,
-/// the minishard that it is in.
+/// 11, 15 to 17 and 21, the place of what offends and, from the whole-shard check
+/// and the measure, the minishard that it is in.
 ///
 /// ```
 /// use coronagamba::Refusal;
@@ -22,7 +22,8 @@ use std::fmt;
 pub struct Refusal {
     /// The number in the table, as in [`Refusal::NOT_LISTED`].
     pub number: u8,
-    /// The minishard with the fault, from the whole-shard check only.
+    /// The minishard with the fault, from the whole-shard check and the measure
+    /// only.
     pub minishard: Option<u64>,
     /// Of a shard, with 7 to 11, 15 to 17 and 21, the byte to look at, counted
     /// from the start of the shard, of a [`Pair`](crate::Pair) from the start of

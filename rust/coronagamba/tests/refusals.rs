@@ -2,7 +2,8 @@
 
 use coronagamba::intake::State;
 use coronagamba::{
-    Card, Half, Held, Intake, Manifest, Pair, Refusal, Shard, Sharding, Span, Unlisted, Volume,
+    Card, Half, Held, Intake, Manifest, Pair, Refusal, Shard, Sharding, Sheet, Span, Unlisted,
+    Volume,
 };
 use std::error::Error;
 
@@ -144,6 +145,7 @@ fn refused(number: u8) -> Refusal {
             intake.announce(5, 0).map(|_| ())
         }),
         26 => intake(|intake| intake.announce(5, 2)?.part(b"abc")),
+        27 => Sheet::from_rows([u64::MAX; 17]).add(&Shard::open(TWO, 0, &[0; 32])),
         30 => {
             let mut out = [0; 32];
             let opened = State::open(TWO, 0, &mut out, &[]);
@@ -232,8 +234,8 @@ fn fragments() {
     assert_eq!(form.map(|form| form == file), Ok(true));
 }
 
-/// All calls that read a shard pass the position on; the check alone names the
-/// minishard.
+/// All calls that read a shard pass the position on; the check and the measure
+/// alone name the minishard.
 #[test]
 fn each_call_passes_the_position_on() {
     for number in FAULTS {
@@ -249,6 +251,7 @@ fn each_call_passes_the_position_on() {
             ..told
         };
         assert_eq!(shard.check(), Err(checked));
+        assert_eq!(shard.measure(), Err(checked));
         assert_eq!(shard.chunks().map(|_| ()), Err(checked));
         assert_eq!(shard.lookup(5), Err(told));
         assert_eq!(shard.chunk(5), Err(told));
@@ -295,6 +298,7 @@ fn a_pair_is_refused_as_the_joined_file() {
             assert_eq!(pair.listing(minishard), shard.listing(minishard));
         }
         assert_eq!(pair.unlisted(), shard.unlisted());
+        assert_eq!(pair.measure(), shard.measure());
         for unlisted in [Unlisted::Refuse, Unlisted::Drop] {
             assert_eq!(
                 pair.settled_length(unlisted),
@@ -320,6 +324,7 @@ fn an_index_file_of_another_length() {
             assert_eq!(number(pair.listing(2).map(|_| ())), Err(5));
             assert_eq!(number(pair.chunks().map(|_| ())), Err(23));
             assert_eq!(number(pair.unlisted().map(|_| ())), Err(23));
+            assert_eq!(number(pair.measure().map(|_| ())), Err(23));
             assert_eq!(number(pair.settled(Unlisted::Drop).map(|_| ())), Err(23));
             assert_eq!(number(pair.range(9, 3).map(|_| ())), Err(23));
             let pair = Pair::open(TWO, 1, index, data);
@@ -422,6 +427,7 @@ fn values_go_between_threads() {
     is_shared::<Card>();
     is_shared::<Shard>();
     is_shared::<Pair>();
+    is_shared::<Sheet>();
     is_shared::<coronagamba::Chunks>();
     is_shared::<Manifest>();
     is_shared::<coronagamba::manifest::Nodes>();

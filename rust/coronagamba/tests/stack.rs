@@ -1,6 +1,8 @@
 //! How much stack a call needs: what the header says is enough.
 
-use coronagamba::{Bounds, Card, Intake, Manifest, Pair, Shard, Sharding, Unlisted, Volume};
+use coronagamba::{
+    Bounds, Card, Intake, Manifest, Pair, Shard, Sharding, Sheet, Unlisted, Volume,
+};
 use std::thread;
 
 /// The bytes that coronagamba.h names; the thread's own needs come out of them
@@ -100,6 +102,19 @@ fn shard_calls() {
     assert_eq!(pair.listing(0).map(|listed| listed.len()), Ok(1));
     assert!(pair.settled(Unlisted::Drop).is_ok_and(|form| form == file));
     assert_eq!(pair.range(32, 34), Ok(&b"ab"[..]));
+    sheet_calls(shard, pair, 0);
+}
+
+/// The calls that measure a sound shard, in one file and in two.
+fn sheet_calls(shard: Shard, pair: Pair, unlisted: u64) {
+    let counts = shard.measure().expect("the shard is sound");
+    assert_eq!(counts.unlisted, unlisted);
+    assert_eq!(pair.measure(), Ok(counts));
+    let mut sheet = Sheet::default();
+    assert!(sheet.add(&shard).is_ok() && sheet.add_pair(&pair).is_ok());
+    let other = sheet;
+    assert!(sheet.join(&other).is_ok());
+    assert_eq!((sheet.sound(), sheet.unlisted()), (4, 4 * unlisted));
 }
 
 /// The calls of an intake, with 1,000 chunks in a minishard.
@@ -147,6 +162,7 @@ fn mesh_calls() {
     assert_eq!(pair.check(), Ok(()));
     assert_eq!(pair.fragment(1, 0, 0), Ok(&b"---------"[..]));
     assert_eq!(pair.settled(Unlisted::Drop), Ok(form));
+    sheet_calls(shard, pair, 0);
 }
 
 /// A mesh shard of 1 GiB with one byte that nothing lists, the last. Its first
@@ -189,6 +205,7 @@ fn counting_calls(sharding: Sharding, file: &[u8], unlisted: u64) {
     assert_eq!(pair.unlisted(), Ok(unlisted));
     assert_eq!(pair.settled_length(Unlisted::Refuse), length);
     assert_eq!(pair.settle(Unlisted::Refuse, &mut []), settled);
+    sheet_calls(shard, pair, unlisted);
 }
 
 /// A call of each kind but those. One that passes the stack ends the program.

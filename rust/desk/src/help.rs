@@ -69,6 +69,7 @@ shards
   settle     write the settled form of each shard
   pack       write shards from loose chunk files
   same       do two shards or two deposits hold the same chunks?
+  holdings   the yearly sheet: shards sound and refused, chunks and bytes
   get        the bytes of one chunk, or of one fragment of a mesh
   list       all chunks of a shard with their places
   range      bytes of a shard's two files of the earlier edition, as one file
@@ -300,6 +301,63 @@ example:
   coronagamba same demo/copy-a demo/copy-b --card demo/deposit.card
   coronagamba same demo/copy-b demo/pairs --card demo/deposit.card
   coronagamba same demo/mesh-a demo/mesh-b --card demo/mesh.card
+",
+);
+
+/// `holdings`.
+pub const HOLDINGS: &str = concat!(
+    "\
+Counts all shards for the yearly holdings sheet: those that are sound, those
+that the check refuses, for each number by itself, and over the sound ones the
+chunks listed, the sum of their sizes, and the unlisted bytes: those past the
+shard index in no listed chunk, no fragment and no nonempty minishard index.
+
+usage: coronagamba holdings PATH... [OPTIONS]
+       coronagamba holdings --add SHEET... [--json]
+
+PATH is a shard file, or a folder: then all of its shards are counted, as
+'check' finds them, pairs of the earlier edition too. A shard that two PATHs
+lead to is counted once. The sheet is a line for each row, always the same 17:
+
+  shards sound N
+  shards refused K N        a line each: 1, 5 to 11, 15, 16, 17, 21, 23
+  chunks N
+  chunk bytes N             as stored: in a mesh, of manifests
+  unlisted bytes N
+
+They are the same bytes in whatever order shards and folders come. What cannot
+be counted is named on standard error, and a last line, 'left out N', tells how
+many files these are: they cannot be read, have no shard's name, are half a pair
+or are there in both editions. A refused shard is in its row, and not left out.
+
+With --add the sheets in these files are added up to one, row by row, each in
+lines or in JSON as it was printed: so many machines can share a year's work,
+each with its own deposits and settings. One that is no sheet or cannot be read
+is told, and nothing is printed then. A total past 2^64 - 1 is refused with 27.
+
+",
+    sharding!(),
+    kind!(),
+    "
+options:
+  --add               add up sheets that were printed before
+  --verbose           name each refused shard on standard error, and why
+",
+    shard!(),
+    "  --jobs N            how many shards are counted at once; all cores otherwise\n",
+    "  --json              the sheet as one JSON object; the numbers are exact,
+                      and some readers round them above 2^53
+",
+    "
+exit status: 0 all that was found is in the sheet, refused shards too; 1
+something is left out, a folder has no shards, or a total is refused; 2 wrong
+use, or a file is no sheet; 3 something cannot be read.
+
+example:
+  coronagamba holdings demo/copy-a demo/pairs --card demo/deposit.card
+  coronagamba holdings demo/mesh-a --card demo/mesh.card > meshes.sheet
+  coronagamba holdings demo/copy-b --card demo/deposit.card --json > volumes.sheet
+  coronagamba holdings --add meshes.sheet volumes.sheet
 ",
 );
 

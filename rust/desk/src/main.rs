@@ -13,6 +13,7 @@ mod fault;
 mod files;
 mod folder;
 mod fragments;
+mod gather;
 mod help;
 mod json;
 mod memory;
@@ -25,6 +26,7 @@ mod report;
 mod round;
 mod sample;
 mod settings;
+mod sheet;
 #[cfg(test)]
 mod trial;
 

@@ -294,12 +294,14 @@ pub fn tell_no_shards(folder: &Path, others: u64, report: &mut Report) -> Result
         let object = Object::new().path(folder).text("result", "no shards");
         report.object(object.number("other_files", others))
     } else {
-        let text = format!(
-            "{}: no shards, no file's name ends in .shard, or as those of a pair do",
-            shown(folder)
-        );
-        report.line(text + &passed_over(others))
+        report.line(no_shards(folder, others))
     }
+}
+
+/// What is told of it.
+pub fn no_shards(folder: &Path, others: u64) -> String {
+    let text = "no shards, no file's name ends in .shard, or as those of a pair do";
+    format!("{}: {text}{}", shown(folder), passed_over(others))
 }
 
 /// `, 3 other files passed over`, or nothing.
@@ -330,18 +332,15 @@ pub fn refused(
     Refused::file(path, refusal, diagnosis).into()
 }
 
-/// Reads a shard and checks it; gives how many chunks a sound one lists. Where a
-/// bit for each of its bytes is asked for, there is memory for these too.
+/// Reads a shard and checks it; gives how many chunks a sound one lists.
 pub fn check(
     sharding: &Sharding,
     number: u64,
     source: &Source,
-    bits: bool,
     room: &mut Room,
 ) -> Result<u64, Fault> {
     let check = |room: &mut Room| {
-        let length = source.length_to_read();
-        room.wait_for([length, u64::from(bits) * length.div_ceil(8), 0]);
+        room.wait_for([source.length_to_read(), 0, 0]);
         room.file.read(source)?;
         let bytes = room.file.bytes();
         let shard = bytes.open(sharding, number);
@@ -349,6 +348,33 @@ pub fn check(
         counted.map_err(|refusal| refused(&source.path, sharding, number, bytes, refusal))
     };
     room.attempt(check, lacks_memory)
+}
+
+/// The same, with how many bytes nothing lists, and with memory for a bit for each
+/// of its bytes. The shard is judged once, but where the sizes of its chunks are
+/// too large to be added up, which is no fault of theirs.
+pub fn measure(
+    sharding: &Sharding,
+    number: u64,
+    source: &Source,
+    room: &mut Room,
+) -> Result<(u64, u64), Fault> {
+    let measure = |room: &mut Room| {
+        let length = source.length_to_read();
+        room.wait_for([length, length.div_ceil(8), 0]);
+        room.file.read(source)?;
+        let bytes = room.file.bytes();
+        let shard = bytes.open(sharding, number);
+        let counted = match shard.measure() {
+            Err(refusal) if refusal.number == Refusal::TOTAL_TOO_LARGE => {
+                let chunks = chunk_count(sharding, &shard);
+                chunks.and_then(|chunks| Ok((chunks, shard.unlisted()?)))
+            }
+            counted => counted.map(|counts| (counts.chunks, counts.unlisted)),
+        };
+        counted.map_err(|refusal| refused(&source.path, sharding, number, bytes, refusal))
+    };
+    room.attempt(measure, lacks_memory)
 }
 
 /// Whether there was no memory for an answer.

@@ -20,6 +20,7 @@ pub mod pair;
 pub mod settle;
 pub mod shard;
 pub mod sharding;
+pub mod sheet;
 pub mod unlisted;
 pub mod vectors;
 

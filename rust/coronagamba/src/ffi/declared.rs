@@ -588,6 +588,69 @@ extern "C" {
         length: *mut u64,
     ) -> u64;
 
+    /// What a shard holds. Writes four numbers to `counts`: the chunks listed, the sum of their
+    /// sizes, the unlisted bytes, and the bytes of the settled form, 1,073,741,825 where that would
+    /// pass 1 GiB. The shard is judged once, as coronagamba_check judges it.
+    ///
+    /// Refusals: 1, 5, 6, 7 to 11, 15 to 17 (mesh), 21 (mesh) with the minishard and the position,
+    /// 27 where the sizes together pass 2^64 - 1
+    pub fn coronagamba_measure(
+        sharding: Sharding,
+        shard: u64,
+        file: *const u8,
+        count: usize,
+        counts: *mut [u64; 4],
+    ) -> u64;
+
+    /// coronagamba_measure of a pair. The position is that in the joined file.
+    ///
+    /// Refusals: 1, 5, 23, 6, 7 to 11, 15 to 17 (mesh), 21 (mesh) with the minishard and the
+    /// position, 27 where the sizes together pass 2^64 - 1
+    pub fn coronagamba_pair_measure(
+        sharding: Sharding,
+        shard: u64,
+        index: *const u8,
+        count: usize,
+        data: *const u8,
+        data_count: usize,
+        counts: *mut [u64; 4],
+    ) -> u64;
+
+    /// Adds a shard to a holdings sheet: to its shards sound, or to those refused with the number
+    /// that coronagamba_check gives; where it is sound, to the chunks listed, the sum of their
+    /// sizes and the unlisted bytes. `sheet` has 17 numbers in this order: shards sound; shards
+    /// refused with 1, 5, 6, 7, 8, 9, 10, 11, 15, 16, 17, 21, 23; chunks, their bytes, unlisted
+    /// bytes. An empty sheet is 0 in each; any numbers are taken. The shard is judged once.
+    /// Refused, the sheet stays as it was.
+    ///
+    /// Refusals: 27 where a total would pass 2^64 - 1
+    pub fn coronagamba_sheet_add(
+        sheet: *mut [u64; 17],
+        sharding: Sharding,
+        shard: u64,
+        file: *const u8,
+        count: usize,
+    ) -> u64;
+
+    /// coronagamba_sheet_add of a pair.
+    ///
+    /// Refusals: 27 where a total would pass 2^64 - 1
+    pub fn coronagamba_pair_sheet_add(
+        sheet: *mut [u64; 17],
+        sharding: Sharding,
+        shard: u64,
+        index: *const u8,
+        count: usize,
+        data: *const u8,
+        data_count: usize,
+    ) -> u64;
+
+    /// Adds a sheet to another, row by row: the sheets of two parts of a year's work make that of
+    /// both. Refused, `sheet` stays as it was.
+    ///
+    /// Refusals: 27 where a total would pass 2^64 - 1
+    pub fn coronagamba_sheet_join(sheet: *mut [u64; 17], other: *const [u64; 17]) -> u64;
+
     /// What a deposit card of these bytes says. Writes preshift, hash, minishard bits, shard bits
     /// and kind to `sharding`, and volume size, chunk size and voxel offset along x, y and z to
     /// `size`, `chunk` and `offset`. To use them in other calls, copy the numbers into the structs

@@ -1,8 +1,8 @@
 //! Each call that writes, refused in each way that the header names for it:
 //! the answer is the refusal's number, of a shard with 7 to 11, 15 to 17 and 21
-//! the position too and nothing else, and every byte that was lent is as it was,
-//! whatever it was; of an intake the state and the second buffer, which it reads,
-//! are as they were too.
+//! the position too, from the measure the minishard before it, and nothing else;
+//! and every byte that was lent is as it was, whatever it was; of an intake the
+//! state and the second buffer, which it reads, are as they were too.
 
 use super::*;
 use crate::{Cell, Point, Sharding, Volume};
@@ -236,11 +236,20 @@ fn faulty_mesh(number: u64, entry: u64, second: Vec<u8>, lead: u64) -> Faulty {
     (at(number, steps + 8 * entry), MESH, 0, file)
 }
 
+/// The same word with the second minishard, where it has a position.
+const fn with_minishard(word: u64) -> u64 {
+    match word >> 32 {
+        0 => word,
+        _ => word + (2 << 8),
+    }
+}
+
 /// The calls that write, on a shard whose second minishard is faulty.
 fn on_faulty_shard((word, sharding, shard, file): &Faulty) -> Vec<Case<'_>> {
     let (word, sharding, shard) = (*word, *sharding, *shard);
     let (from, count) = (file.as_ptr(), file.len());
     Vec::from(cases! { lent:
+        with_minishard(word) => coronagamba_measure(sharding, shard, from, count, lent.one());
         word => coronagamba_lookup(sharding, shard, from, count, 5, lent.one(), lent.one());
         word => coronagamba_fragment(
             sharding, shard, from, count, 5, 0, 0, lent.one(), lent.one(),
@@ -336,6 +345,7 @@ fn on_faulty_pair(pair: &FaultyPair) -> Vec<Case<'_>> {
     let (word, spec, shard) = (pair.word, pair.sharding, pair.shard);
     let (i, n, d, m) = files((&pair.index, &pair.data));
     Vec::from(cases! { lent:
+        with_minishard(word) => coronagamba_pair_measure(spec, shard, i, n, d, m, lent.one());
         word => coronagamba_pair_lookup(spec, shard, i, n, d, m, 5, lent.one(), lent.one());
         word => coronagamba_pair_fragment(
             spec, shard, i, n, d, m, 5, 0, 0, lent.one(), lent.one(),
@@ -804,8 +814,80 @@ fn a_refusal_leaves_every_lent_byte() {
         .iter()
         .map(|case| (case.name.to_string(), case.word & 0xff))
         .collect();
-    assert_eq!(tried, named(), "the refusals tried and those of the header");
+    // Full sheets are tried below. No shard is known of which the measure gives 27:
+    // it would list more than 2^34 chunks.
+    let with_27 = |name: &str| (format!("coronagamba_{name}"), 27);
+    let others = [
+        "sheet_add",
+        "pair_sheet_add",
+        "sheet_join",
+        "measure",
+        "pair_measure",
+    ];
+    let expected = &named() - &BTreeSet::from(others.map(with_27));
+    assert_eq!(
+        tried, expected,
+        "the refusals tried and those of the header"
+    );
     stays(&cases);
+}
+
+/// Sheets of all contents, of which one row is at its end, and shards or sheets
+/// that would add to it.
+#[test]
+fn a_full_sheet_stays() {
+    let sound = shard([5, 53], ROWS);
+    let more = [&sound[..], b"-"].concat();
+    let (i, n, d, m) = files(more.split_at(32));
+    for content in contents() {
+        let mut sheet = [0; 17];
+        sheet.copy_from_slice(&content[..17]);
+        // A sound shard adds to the first row and to the last three.
+        for row in [0, 14, 15, 16] {
+            let mut full = sheet;
+            full[row] = u64::MAX;
+            let mut lent = full;
+            // SAFETY: each pointer and count are those of one live slice, and the
+            // rows are lent to one call at a time.
+            unsafe {
+                let told = coronagamba_sheet_add(&mut lent, TWO, 0, more.as_ptr(), more.len());
+                assert_eq!((told, lent), (27, full));
+                let told = coronagamba_pair_sheet_add(&mut lent, TWO, 0, i, n, d, m);
+                assert_eq!((told, lent), (27, full));
+            }
+        }
+        // The faulty shards and pairs between them add to all other rows.
+        for (word, sharding, number, file) in faulty_shards() {
+            let mut full = sheet;
+            full[row_of(word & 0xff)] = u64::MAX;
+            let mut lent = full;
+            let (from, count) = (file.as_ptr(), file.len());
+            // SAFETY: as above.
+            let told = unsafe { coronagamba_sheet_add(&mut lent, sharding, number, from, count) };
+            assert_eq!((told, lent), (27, full));
+        }
+        let mut full = sheet;
+        full[row_of(23)] = u64::MAX;
+        let mut lent = full;
+        // SAFETY: as above.
+        let told = unsafe { coronagamba_pair_sheet_add(&mut lent, TWO, 0, i, n - 1, d, m) };
+        assert_eq!((told, lent), (27, full));
+        for row in 0..17 {
+            let (mut full, mut one) = (sheet, [0; 17]);
+            (full[row], one[row]) = (u64::MAX, 1);
+            let mut lent = full;
+            // SAFETY: as above.
+            let told = unsafe { coronagamba_sheet_join(&mut lent, &one) };
+            assert_eq!((told, lent), (27, full));
+        }
+    }
+}
+
+/// The row of a number that the check gives, as the header orders them.
+fn row_of(number: u64) -> usize {
+    let numbers = [1, 5, 6, 7, 8, 9, 10, 11, 15, 16, 17, 21, 23];
+    let place = numbers.iter().position(|known| *known == number);
+    1 + place.expect("the check gives the number")
 }
 
 #[test]

@@ -1,21 +1,16 @@
 //! `check`.
 
-use std::collections::BTreeSet;
-use std::ffi::OsString;
-use std::path::Path;
-
-use coronagamba::{Refusal, Sharding};
+use coronagamba::Sharding;
 
 use super::Command;
 use crate::args::{flag, Args};
 use crate::diagnosis::Gaps;
-use crate::edition::Bytes;
 use crate::fault::Fault;
-use crate::folder::{is_folder, list, single, Input};
+use crate::folder::Input;
+use crate::gather::gather;
 use crate::help;
 use crate::json::Object;
 use crate::memory::Room;
-use crate::presence::Presence;
 use crate::report::{counted, shown, Report};
 use crate::round::{self, and, passed_over, Aside, Outcome, Verdict};
 use crate::settings;
@@ -38,11 +33,10 @@ const UNLISTED: &str = "--unlisted";
 fn run(args: &Args, report: &mut Report) -> Result<(), Fault> {
     let sharding = settings::of_shards(args)?.sharding;
     let workers = round::workers(args, 1)?;
-    let paths = args.at_least_one("PATH")?;
-    if paths.len() > 1 && args.flag("--shard") {
-        return Err(Fault::wrong_use("--shard is for one file"));
+    let found = gather(args, &sharding)?;
+    for (folder, others) in &found.empty {
+        round::tell_no_shards(folder, *others, report)?;
     }
-    let found = gather(args, &sharding, paths, report)?;
     let counting = args.flag(UNLISTED);
     let mut summary = Summary {
         others: found.others,
@@ -62,48 +56,6 @@ fn run(args: &Args, report: &mut Report) -> Result<(), Fault> {
     }
 }
 
-/// What the paths lead to.
-#[derive(Default)]
-struct Found {
-    inputs: Vec<Input>,
-    others: u64,
-    /// Which shards each folder has, where that can be told.
-    folders: Vec<Option<Presence>>,
-}
-
-/// All shards that the paths lead to, in their order; one pair whose two files were
-/// named comes once.
-fn gather(
-    args: &Args,
-    sharding: &Sharding,
-    paths: &[OsString],
-    report: &mut Report,
-) -> Result<Found, Fault> {
-    let (mut found, mut pairs) = (Found::default(), BTreeSet::new());
-    for path in paths.iter().map(Path::new) {
-        if !is_folder(path) {
-            let input = single(args, sharding, path);
-            if input.source.data.is_none() || pairs.insert(input.source.clone()) {
-                found.inputs.push(input);
-            }
-            continue;
-        }
-        round::no_shard_option(args, path)?;
-        let listing = list(sharding, path);
-        let others = listing.others;
-        let presence = Presence::of(sharding, path, &listing);
-        let inputs = listing.inputs(path);
-        if inputs.is_empty() {
-            round::tell_no_shards(path, others, report)?;
-        } else {
-            found.inputs.extend(inputs);
-            found.others += others;
-            found.folders.push(presence);
-        }
-    }
-    Ok(found)
-}
-
 /// What is told of a sound shard.
 struct Sound {
     chunks: u64,
@@ -119,13 +71,6 @@ struct Unlisted {
 }
 
 impl Unlisted {
-    /// Of a shard that passed the check.
-    fn of(sharding: &Sharding, number: u64, file: Bytes) -> Result<Self, Refusal> {
-        let bytes = file.open(sharding, number).unlisted()?;
-        let gaps = Gaps::of(sharding, number, file, bytes);
-        Ok(Unlisted { bytes, gaps })
-    }
-
     /// `, 5 unlisted bytes in 2 gaps: byte 32 (3 bytes), byte 90 (2 bytes)`
     fn line(&self) -> String {
         match &self.gaps {
@@ -159,19 +104,23 @@ fn check(
         Ok(number) => number,
         Err(trouble) => return Verdict::from(trouble).of(source.path, 0),
     };
-    let checked = round::check(sharding, number, &source, counting, room);
+    let counted = match counting {
+        true => round::measure(sharding, number, &source, room)
+            .map(|(chunks, unlisted)| (chunks, Some(unlisted))),
+        false => round::check(sharding, number, &source, room).map(|chunks| (chunks, None)),
+    };
     let file = room.file.bytes();
-    let (path, bytes) = (source.path, file.len());
-    let answer = checked.and_then(|chunks| {
-        let unlisted = counting.then(|| Unlisted::of(sharding, number, file));
-        let explain = |refusal| round::refused(&path, sharding, number, file, refusal);
-        Ok(Sound {
-            chunks,
+    let bytes = file.len();
+    let gaps = |unlisted| Gaps::of(sharding, number, file, unlisted);
+    let answer = counted.map(|(chunks, unlisted)| Sound {
+        chunks,
+        bytes,
+        unlisted: unlisted.map(|bytes| Unlisted {
             bytes,
-            unlisted: unlisted.transpose().map_err(explain)?,
-        })
+            gaps: gaps(bytes),
+        }),
     });
-    Verdict::from(answer).of(path, bytes)
+    Verdict::from(answer).of(source.path, bytes)
 }
 
 /// Counts over all shards.

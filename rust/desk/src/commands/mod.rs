@@ -17,6 +17,7 @@ mod check;
 mod cover;
 mod explain;
 mod get;
+mod holdings;
 mod list;
 mod locate;
 mod manifest;
@@ -42,11 +43,12 @@ pub struct Command {
 }
 
 /// All commands, in the order of the help.
-pub static COMMANDS: [Command; 19] = [
+pub static COMMANDS: [Command; 20] = [
     check::COMMAND,
     settle::COMMAND,
     pack::COMMAND,
     same::COMMAND,
+    holdings::COMMAND,
     get::COMMAND,
     list::COMMAND,
     range::COMMAND,

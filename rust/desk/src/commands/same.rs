@@ -223,7 +223,7 @@ impl Copies {
 /// it is refused or not read, its trouble is noted.
 fn judged(sharding: &Sharding, input: &mut Input, room: &mut Room) -> Option<u64> {
     let number = *input.number.as_ref().ok()?;
-    match round::check(sharding, number, &input.source, false, room) {
+    match round::check(sharding, number, &input.source, room) {
         Ok(chunks) => Some(chunks),
         Err(fault) => {
             input.number = Err(Trouble::Fault(fault));

@@ -3,11 +3,11 @@
 use std::ffi::{OsStr, OsString};
 use std::path::{Path, PathBuf};
 
-use coronagamba::{Sharding, Unlisted};
+use coronagamba::{Counts, Refusal, Sharding, Unlisted};
 
 use super::Command;
 use crate::args::{flag, value, Args};
-use crate::edition::Source;
+use crate::edition::{Opened, Source};
 use crate::fault::{Fault, Status};
 use crate::files::{one_place, Inputs};
 use crate::folder::{is_folder, list, single, Input};
@@ -114,6 +114,12 @@ struct Settled {
     to: usize,
 }
 
+/// A settled form before it is made: its length, and how many chunks it has.
+struct Form {
+    to: usize,
+    chunks: u64,
+}
+
 /// What all shards are settled with.
 struct Task {
     sharding: Sharding,
@@ -191,7 +197,7 @@ impl Task {
         // Before the work, and again where a file is to be replaced.
         self.inputs.spare(out)?;
         output::is_taken(out)?;
-        let to = self.read(room, source, number)?;
+        let Form { to, chunks } = self.read(room, source, number)?;
         let (path, bytes) = (&source.path, room.file.bytes());
         let shard = bytes.open(&self.sharding, number);
         let form =
@@ -199,7 +205,6 @@ impl Task {
         let explain = |refusal| round::refused(path, &self.sharding, number, bytes, refusal);
         // What is unlisted was told with the length, or is to be dropped.
         shard.settle(Unlisted::Drop, form).map_err(explain)?;
-        let chunks = chunk_count(&self.sharding, &shard).map_err(explain)?;
         Ok(Settled {
             placed: output::place(out, self.force, form, &self.inputs)?,
             out: out.to_path_buf(),
@@ -213,7 +218,7 @@ impl Task {
     /// there is memory then. That length is known only when the file is read:
     /// where the memory for it is held by others, the file is given back, waits
     /// for both, and is read again.
-    fn read(&self, room: &mut Room, source: &Source, number: u64) -> Result<usize, Fault> {
+    fn read(&self, room: &mut Room, source: &Source, number: u64) -> Result<Form, Fault> {
         let guess = source.length_to_read();
         let mut lengths = [guess, guess, 0];
         loop {
@@ -221,14 +226,37 @@ impl Task {
             room.file.read(source)?;
             let bytes = room.file.bytes();
             let shard = bytes.open(&self.sharding, number);
-            let length = shard.settled_length(self.unlisted).map_err(|refusal| {
+            let form = self.form(&shard).map_err(|refusal| {
                 round::refused(&source.path, &self.sharding, number, bytes, refusal)
             })?;
-            lengths = [guess, lengths[1].max(length), 0];
+            lengths = [guess, lengths[1].max(form.to as u64), 0];
             if room.may_have(lengths) {
-                return Ok(length as usize);
+                return Ok(form);
             }
         }
+    }
+
+    /// Asks for the form's length. Where unlisted bytes are to be dropped, they need
+    /// not be counted, which takes long where chunks lie in no order. Else one call
+    /// tells all, but a refusal, which is told as settling tells it.
+    fn form(&self, shard: &Opened) -> Result<Form, Refusal> {
+        let measured = match self.unlisted {
+            Unlisted::Refuse => shard.measure().ok(),
+            Unlisted::Drop => None,
+        };
+        let (length, chunks) = match measured {
+            Some(counts) if counts.unlisted == 0 && counts.settled < Counts::TOO_LONG => {
+                (counts.settled, counts.chunks)
+            }
+            _ => {
+                let length = shard.settled_length(self.unlisted)?;
+                (length, chunk_count(&self.sharding, shard)?)
+            }
+        };
+        Ok(Form {
+            to: length as usize,
+            chunks,
+        })
     }
 }
 

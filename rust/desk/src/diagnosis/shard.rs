@@ -35,8 +35,8 @@ fn is_fault(number: u8) -> bool {
     matches!(number, 7..=11 | 15..=17 | 21)
 }
 
-/// A refusal of the whole-shard check or of settling: 1, 5 to 11, 13, 15 to 17,
-/// 21 to 23.
+/// A refusal of the whole-shard check, of settling or of a sheet: 1, 5 to 11, 13,
+/// 15 to 17, 21 to 23, 27.
 pub fn of_shard<'a>(
     sharding: &'a Sharding,
     number: u64,
@@ -52,6 +52,11 @@ pub fn of_shard<'a>(
         number if is_fault(number) => told(seen.first_fault(refusal)),
         13 => told(seen.settled_length()),
         22 => told(seen.gaps().map(of_gaps)),
+        27 => Diagnosis::new(
+            "chunks whose sizes are larger together",
+            format!("sizes of at most {} together", u64::MAX),
+            "the sizes in the minishard indexes, which share bytes",
+        ),
         _ => Diagnosis::not_found_again(),
     }
 }

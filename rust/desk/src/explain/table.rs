@@ -251,6 +251,15 @@ pub const TABLE: &[Explained] = &[
          before the next chunk or the close.",
     },
     Explained {
+        number: 27,
+        given: "a total of the holdings sheet would pass 2^64 - 1, and the sheet stays as before \
+         that shard; of one shard's measure, the sizes of its chunks together pass it",
+        cause: "A sheet that was not made by adding shards, numbers of another kind read as a \
+         sheet, or sheets that were joined again and again.",
+        remedy: "Begin with an empty sheet, 0 in each row, and add the shards again. Sums of \
+         honest holdings stay far below the limit.",
+    },
+    Explained {
         number: 30,
         given: "at an intake, after opening, a lent buffer has another length than then",
         cause: "Another buffer than the one that the shard was opened with, a shorter part of \

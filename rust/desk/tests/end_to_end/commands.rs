@@ -6,11 +6,12 @@ use std::os::unix::fs::symlink;
 use std::process::Command;
 
 /// All commands, with those that have members.
-const COMMANDS: [&str; 21] = [
+const COMMANDS: [&str; 22] = [
     "check",
     "settle",
     "pack",
     "same",
+    "holdings",
     "get",
     "list",
     "range",
@@ -76,6 +77,12 @@ fn statuses() -> Vec<(String, i32)> {
         ("same demo/copy-a", 2),
         ("same demo/copy-a demo/copy-b/0.shard", 2),
         ("same demo/copy-a nothing", 3),
+        ("holdings demo/copy-a demo/pairs", 0),
+        ("holdings demo/damaged", 0),
+        ("holdings demo/copy-a --jobs 0", 2),
+        ("holdings demo/copy-a --add", 2),
+        ("holdings", 2),
+        ("holdings nothing/0.shard", 3),
         ("get demo/copy-a 21", 0),
         ("get demo/copy-b --cell 1,2,1", 0),
         ("get demo/copy-a/5.shard 0x15", 0),
@@ -572,6 +579,8 @@ fn json_lines_are_json_objects() {
         ("same demo/copy-a demo/copy-b", 0),
         ("same demo/copy-a demo/damaged", 1),
         ("same demo/copy-a/0.shard demo/copy-b/0.shard", 0),
+        ("holdings demo/copy-a demo/damaged", 0),
+        ("holdings nothing/0.shard", 3),
         ("list demo/copy-a/0.shard", 0),
         ("list demo/damaged/2.shard", 1),
         ("check demo/pairs", 0),

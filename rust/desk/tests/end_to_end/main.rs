@@ -6,6 +6,7 @@ mod answers;
 mod commands;
 mod copies;
 mod folders;
+mod holdings;
 mod json;
 mod memory;
 mod meshes;

@@ -1,0 +1,129 @@
+-- Measures and sheets across the border. Each law has the shape of a need.
+use Prim.Native.Nat.{ℕ, _+_, _<_}
+use mathlib.Core.Path.{_≡_, refl, sym, _∙_}
+use mathlib.Core.List.{List, [], _∷_}
+use mathlib.Core.Option.{some}
+use borrow.Author.Needs.{needs}
+use lib.ListN.{getD}
+use Rattle.sharding.specs.declared.Sharding.{Sharding}
+use Rattle.shard.specs.declared.CheckAnswer.the-variants as C
+use Rattle.shard.specs.File.{indexPart, dataPart, checkAnswer}
+use Rattle.pair.specs.Answers.{pairCheck}
+use Rattle.measure.specs.declared.Counts.{Counts}
+use Rattle.measure.specs.declared.MeasureAnswer.{MeasureAnswer}
+use Rattle.measure.specs.declared.MeasureAnswer.the-variants as M
+use Rattle.measure.specs.Answers.{measureAnswer, pairMeasure}
+use Rattle.measure.proofs.Answered.{named-fault}
+use Rattle.holdings.specs.declared.Sheet.{Sheet}
+use Rattle.holdings.specs.declared.SheetAnswer.{SheetAnswer}
+use Rattle.holdings.specs.declared.SheetAnswer.the-variants.{Total, Refused}
+use Rattle.holdings.specs.Sheet.{rows}
+use Rattle.holdings.specs.Answers.{joinAnswer, addAnswer, pairAddAnswer}
+use Rattle.coronagamba.specs.Word.{word}
+use Rattle.coronagamba.specs.Sheets.{measureWord, countsOf, countsAfter, sheetOf, sheetWord, rowsAfter}
+use Rattle.coronagamba.proofs.Told.{told, after}
+use Rattle.coronagamba.proofs.Checked.{minishard-fits, check-fits}
+use Rattle.coronagamba.proofs.Paired.{pair-minishard-fits, pair-check-fits}
+
+-- ---- the measure
+
+-- a fault that it names is the check's
+module _ (spec : Sharding) (shard : ℕ) {a : MeasureAnswer} {k m p : ℕ} where
+  module _ (file : List ℕ) (e : a ≡ measureAnswer spec shard file) (h : a ≡ M.Faulty k m p) where
+    named : checkAnswer spec shard file ≡ C.Faulty k m p
+    unfolding measureAnswer
+    named = named-fault spec (indexPart spec file) (dataPart spec file) (checkAnswer spec shard file) (sym e ∙ h)
+
+    pub measure-minishard-fits : m + 1 < 16777216
+    measure-minishard-fits = minishard-fits spec shard file refl named
+
+    pub measure-fits : p + 1 < 4294967296
+    measure-fits = check-fits spec shard file refl named
+
+  module _ (index d : List ℕ) (e : a ≡ pairMeasure spec shard index d) (h : a ≡ M.Faulty k m p) where
+    pair-named : pairCheck spec shard index d ≡ C.Faulty k m p
+    unfolding pairMeasure
+    pair-named = named-fault spec index d (pairCheck spec shard index d) (sym e ∙ h)
+
+    pub pair-measure-minishard-fits : m + 1 < 16777216
+    pair-measure-minishard-fits = pair-minishard-fits spec shard index d refl pair-named
+
+    pub pair-measure-fits : p + 1 < 4294967296
+    pair-measure-fits = pair-check-fits spec shard index d refl pair-named
+
+pub ruleset fitting = (measure-minishard-fits, measure-fits, pair-measure-minishard-fits, pair-measure-fits, needs)
+
+module _ {a b : MeasureAnswer} (e : b ≡ a) where
+  pub measure-given : {k : Counts} → b ≡ M.Sound k → 0 ≡ measureWord a
+  measure-given h = told measureWord e h
+
+  pub measure-refused : {k : ℕ} → b ≡ M.Refused k → k ≡ measureWord a
+  measure-refused h = told measureWord e h
+
+  pub measure-faulty : {k m p r : ℕ} → r ≡ word k (some m) (some p) → b ≡ M.Faulty k m p → r ≡ measureWord a
+  measure-faulty w h = w ∙ told measureWord e h
+
+  pub counts-given : (x : List ℕ) {k : Counts} {s : List ℕ} → s ≡ countsOf k → b ≡ M.Sound k → s ≡ countsAfter a x
+  counts-given x q h = q ∙ after countsAfter x e h
+
+  pub counts-refused : (x : List ℕ) {k : ℕ} → b ≡ M.Refused k → x ≡ countsAfter a x
+  counts-refused x h = after countsAfter x e h
+
+  pub counts-faulty : (x : List ℕ) {k m p : ℕ} → b ≡ M.Faulty k m p → x ≡ countsAfter a x
+  counts-faulty x h = after countsAfter x e h
+
+pub ruleset measuring = (measure-given, measure-refused, measure-faulty, counts-given, counts-refused, counts-faulty, needs)
+
+-- ---- the sheet
+
+pub sheet-is : (s : List ℕ) → record { sound = getD s 0 0; refused1 = getD s 1 0; refused5 = getD s 2 0; refused6 = getD s 3 0; refused7 = getD s 4 0; refused8 = getD s 5 0; refused9 = getD s 6 0; refused10 = getD s 7 0; refused11 = getD s 8 0; refused15 = getD s 9 0; refused16 = getD s 10 0; refused17 = getD s 11 0; refused21 = getD s 12 0; refused23 = getD s 13 0; chunks = getD s 14 0; bytes = getD s 15 0; unlisted = getD s 16 0 } ≡ sheetOf s
+unfolding sheetOf
+sheet-is s = refl
+
+pub rows-are : (s : Sheet) → s .sound ∷ s .refused1 ∷ s .refused5 ∷ s .refused6 ∷ s .refused7 ∷ s .refused8 ∷ s .refused9 ∷ s .refused10 ∷ s .refused11 ∷ s .refused15 ∷ s .refused16 ∷ s .refused17 ∷ s .refused21 ∷ s .refused23 ∷ s .chunks ∷ s .bytes ∷ s .unlisted ∷ [] ≡ rows s
+unfolding rows
+rows-are s = refl
+
+module _ {a b : SheetAnswer} (e : b ≡ a) where
+  pub sheet-given : {s : Sheet} → b ≡ Total s → 0 ≡ sheetWord a
+  sheet-given h = told sheetWord e h
+
+  pub sheet-refused : {k : ℕ} → b ≡ Refused k → k ≡ sheetWord a
+  sheet-refused h = told sheetWord e h
+
+  pub rows-given : (x : List ℕ) {s : Sheet} {r : List ℕ} → r ≡ rows s → b ≡ Total s → r ≡ rowsAfter a x
+  rows-given x q h = q ∙ after rowsAfter x e h
+
+  pub rows-refused : (x : List ℕ) {k : ℕ} → b ≡ Refused k → x ≡ rowsAfter a x
+  rows-refused x h = after rowsAfter x e h
+
+pub ruleset rowing = (sheet-is, rows-are, needs)
+
+pub ruleset adding = (sheet-given, sheet-refused, rows-given, rows-refused, needs)
+
+-- ---- the calls
+
+module _ (x : List ℕ) {s : Sheet} (q : s ≡ sheetOf x) {a : SheetAnswer} where
+  module _ (spec : Sharding) (shard : ℕ) where
+    module _ (file : List ℕ) (g : a ≡ addAnswer s spec shard file) where
+      pub add-word : {r : ℕ} → r ≡ sheetWord a → r ≡ sheetWord (addAnswer (sheetOf x) spec shard file)
+      add-word p = rw (← q, ← g) p
+
+      pub add-rows : {o : List ℕ} → o ≡ rowsAfter a x → o ≡ rowsAfter (addAnswer (sheetOf x) spec shard file) x
+      add-rows p = rw (← q, ← g) p
+
+    module _ (index d : List ℕ) (g : a ≡ pairAddAnswer s spec shard index d) where
+      pub pair-word : {r : ℕ} → r ≡ sheetWord a → r ≡ sheetWord (pairAddAnswer (sheetOf x) spec shard index d)
+      pair-word p = rw (← q, ← g) p
+
+      pub pair-rows : {o : List ℕ} → o ≡ rowsAfter a x → o ≡ rowsAfter (pairAddAnswer (sheetOf x) spec shard index d) x
+      pair-rows p = rw (← q, ← g) p
+
+  module _ (y : List ℕ) {t : Sheet} (u : t ≡ sheetOf y) (g : a ≡ joinAnswer s t) where
+    pub join-word : {r : ℕ} → r ≡ sheetWord a → r ≡ sheetWord (joinAnswer (sheetOf x) (sheetOf y))
+    join-word p = rw (← q, ← u, ← g) p
+
+    pub join-rows : {o : List ℕ} → o ≡ rowsAfter a x → o ≡ rowsAfter (joinAnswer (sheetOf x) (sheetOf y)) x
+    join-rows p = rw (← q, ← u, ← g) p
+
+pub ruleset calling = (add-word, add-rows, pair-word, pair-rows, join-word, join-rows, needs)

@@ -1,0 +1,186 @@
+// Measures of shards, and the yearly holdings sheet.
+ghost use mathlib.Core.Path.{_≡_};
+ghost use Rattle.measure.specs.Answers.{measureAnswer, pairMeasure};
+ghost use Rattle.holdings.specs.Answers.{joinAnswer, addAnswer, pairAddAnswer};
+ghost use Rattle.holdings.specs.Sheet.{rows};
+ghost use Rattle.coronagamba.specs.Sheets.{measureWord, countsOf, countsAfter, sheetOf, sheetWord, rowsAfter};
+use crate::shards::fault_word;
+use holdings::Sheet;
+use holdings::SheetAnswer;
+use measure::Counts;
+use measure::MeasureAnswer;
+use sharding::Sharding;
+
+fn counts_of(counts: Counts) -> [u64; 4]
+    ensures { λ r. ⌜ r ≡ countsOf counts ⌝ }
+{
+    [counts.chunks, counts.bytes, counts.unlisted, counts.settled]
+}
+
+fn sheet_of(numbers: &[u64; 17]) -> Sheet
+    ensures { λ r. ⌜ r ≡ sheetOf (now (numbers .entry)) ⌝ }
+{
+    Sheet {
+        sound: numbers[0],
+        refused1: numbers[1],
+        refused5: numbers[2],
+        refused6: numbers[3],
+        refused7: numbers[4],
+        refused8: numbers[5],
+        refused9: numbers[6],
+        refused10: numbers[7],
+        refused11: numbers[8],
+        refused15: numbers[9],
+        refused16: numbers[10],
+        refused17: numbers[11],
+        refused21: numbers[12],
+        refused23: numbers[13],
+        chunks: numbers[14],
+        bytes: numbers[15],
+        unlisted: numbers[16],
+    }
+}
+
+fn rows_of(sheet: Sheet) -> [u64; 17]
+    ensures { λ r. ⌜ r ≡ rows sheet ⌝ }
+{
+    [
+        sheet.sound,
+        sheet.refused1,
+        sheet.refused5,
+        sheet.refused6,
+        sheet.refused7,
+        sheet.refused8,
+        sheet.refused9,
+        sheet.refused10,
+        sheet.refused11,
+        sheet.refused15,
+        sheet.refused16,
+        sheet.refused17,
+        sheet.refused21,
+        sheet.refused23,
+        sheet.chunks,
+        sheet.bytes,
+        sheet.unlisted,
+    ]
+}
+
+// The new rows, or the refusal.
+fn put_sheet(sheet: &mut [u64; 17], answer: SheetAnswer) -> u64
+    ensures { λ r. ⌜ r ≡ sheetWord answer ⌝ }
+    ensures { λ _. ⌜ now (sheet .exit) ≡ rowsAfter answer (now (sheet .entry)) ⌝ }
+{
+    match answer {
+        SheetAnswer::Total(next) => {
+            *sheet = rows_of(next);
+            0
+        }
+        SheetAnswer::Refused(refusal) => refusal as u64,
+    }
+}
+
+// What a shard holds. Writes four numbers to `counts`: the chunks listed, the sum of their sizes, the
+// unlisted bytes, and the bytes of the settled form, 1,073,741,825 where that would pass 1 GiB. The
+// shard is judged once, as coronagamba_check judges it.
+// Refusals: 1, 5, 6, 7 to 11, 15 to 17 (mesh), 21 (mesh) with the minishard and the position, 27
+// where the sizes together pass 2^64 - 1
+#[no_mangle]
+pub extern "C" fn coronagamba_measure(
+    sharding: Sharding,
+    shard: u64,
+    file: &[u8],
+    counts: &mut [u64; 4],
+) -> u64
+    ensures answer { λ r. ⌜ r ≡ measureWord (measureAnswer sharding shard (now (file .entry))) ⌝ }
+    ensures counts { λ _. ⌜ now (counts .exit) ≡ countsAfter (measureAnswer sharding shard (now (file .entry))) (now (counts .entry)) ⌝ }
+{
+    match measure::measure(sharding, shard, file) {
+        MeasureAnswer::Sound(found) => {
+            *counts = counts_of(found);
+            0
+        }
+        MeasureAnswer::Refused(refusal) => refusal as u64,
+        MeasureAnswer::Faulty {
+            number: refusal,
+            minishard,
+            position,
+        } => fault_word(refusal, minishard, position),
+    }
+}
+
+// coronagamba_measure of a pair. The position is that in the joined file.
+// Refusals: 1, 5, 23, 6, 7 to 11, 15 to 17 (mesh), 21 (mesh) with the minishard and the position, 27
+// where the sizes together pass 2^64 - 1
+#[no_mangle]
+pub extern "C" fn coronagamba_pair_measure(
+    sharding: Sharding,
+    shard: u64,
+    index: &[u8],
+    data: &[u8],
+    counts: &mut [u64; 4],
+) -> u64
+    ensures answer { λ r. ⌜ r ≡ measureWord (pairMeasure sharding shard (now (index .entry)) (now («data» .entry))) ⌝ }
+    ensures counts { λ _. ⌜ now (counts .exit) ≡ countsAfter (pairMeasure sharding shard (now (index .entry)) (now («data» .entry))) (now (counts .entry)) ⌝ }
+{
+    match measure::measure_pair(sharding, shard, index, data) {
+        MeasureAnswer::Sound(found) => {
+            *counts = counts_of(found);
+            0
+        }
+        MeasureAnswer::Refused(refusal) => refusal as u64,
+        MeasureAnswer::Faulty {
+            number: refusal,
+            minishard,
+            position,
+        } => fault_word(refusal, minishard, position),
+    }
+}
+
+// Adds a shard to a holdings sheet: to its shards sound, or to those refused with the number that
+// coronagamba_check gives; where it is sound, to the chunks listed, the sum of their sizes and the
+// unlisted bytes. `sheet` has 17 numbers in this order: shards sound; shards refused with 1, 5, 6, 7,
+// 8, 9, 10, 11, 15, 16, 17, 21, 23; chunks, their bytes, unlisted bytes. An empty sheet is 0 in each;
+// any numbers are taken. The shard is judged once. Refused, the sheet stays as it was.
+// Refusals: 27 where a total would pass 2^64 - 1
+#[no_mangle]
+pub extern "C" fn coronagamba_sheet_add(
+    sheet: &mut [u64; 17],
+    sharding: Sharding,
+    shard: u64,
+    file: &[u8],
+) -> u64
+    ensures answer { λ r. ⌜ r ≡ sheetWord (addAnswer (sheetOf (now (sheet .entry))) sharding shard (now (file .entry))) ⌝ }
+    ensures sheet { λ _. ⌜ now (sheet .exit) ≡ rowsAfter (addAnswer (sheetOf (now (sheet .entry))) sharding shard (now (file .entry))) (now (sheet .entry)) ⌝ }
+{
+    let answer = holdings::add(sheet_of(sheet), sharding, shard, file);
+    put_sheet(sheet, answer)
+}
+
+// coronagamba_sheet_add of a pair.
+// Refusals: 27 where a total would pass 2^64 - 1
+#[no_mangle]
+pub extern "C" fn coronagamba_pair_sheet_add(
+    sheet: &mut [u64; 17],
+    sharding: Sharding,
+    shard: u64,
+    index: &[u8],
+    data: &[u8],
+) -> u64
+    ensures answer { λ r. ⌜ r ≡ sheetWord (pairAddAnswer (sheetOf (now (sheet .entry))) sharding shard (now (index .entry)) (now («data» .entry))) ⌝ }
+    ensures sheet { λ _. ⌜ now (sheet .exit) ≡ rowsAfter (pairAddAnswer (sheetOf (now (sheet .entry))) sharding shard (now (index .entry)) (now («data» .entry))) (now (sheet .entry)) ⌝ }
+{
+    let answer = holdings::add_pair(sheet_of(sheet), sharding, shard, index, data);
+    put_sheet(sheet, answer)
+}
+
+// Adds a sheet to another, row by row: the sheets of two parts of a year's work make that of both.
+// Refused, `sheet` stays as it was.
+// Refusals: 27 where a total would pass 2^64 - 1
+#[no_mangle]
+pub extern "C" fn coronagamba_sheet_join(sheet: &mut [u64; 17], other: &[u64; 17]) -> u64
+    ensures answer { λ r. ⌜ r ≡ sheetWord (joinAnswer (sheetOf (now (sheet .entry))) (sheetOf (now (other .entry)))) ⌝ }
+    ensures sheet { λ _. ⌜ now (sheet .exit) ≡ rowsAfter (joinAnswer (sheetOf (now (sheet .entry))) (sheetOf (now (other .entry)))) (now (sheet .entry)) ⌝ }
+{
+    let answer = holdings::join(sheet_of(sheet), sheet_of(other));
+    put_sheet(sheet, answer)
+}

@@ -1,0 +1,63 @@
+// The yearly holdings sheet: shards sound, shards refused for each number, and what the sound ones hold.
+mod rows;
+
+ghost use mathlib.Core.Path.{_≡_};
+ghost use Rattle.holdings.specs.Answers.{joinAnswer, addAnswer, pairAddAnswer};
+use crate::rows::add_measured;
+use crate::rows::passes;
+use crate::rows::together;
+use measure::measure;
+use measure::measure_pair;
+use sharding::Sharding;
+
+// Plain numbers: how many shards were sound, how many were refused with each number that the check gives, and over the sound ones the
+// chunks listed, the sum of their sizes and the unlisted bytes. An empty sheet has 0 in each row.
+pub struct Sheet {
+    pub sound: u64,
+    pub refused1: u64,
+    pub refused5: u64,
+    pub refused6: u64,
+    pub refused7: u64,
+    pub refused8: u64,
+    pub refused9: u64,
+    pub refused10: u64,
+    pub refused11: u64,
+    pub refused15: u64,
+    pub refused16: u64,
+    pub refused17: u64,
+    pub refused21: u64,
+    pub refused23: u64,
+    pub chunks: u64,
+    pub bytes: u64,
+    pub unlisted: u64,
+}
+
+// The new sheet, or 27.
+pub enum SheetAnswer {
+    Total(Sheet),
+    Refused(u8),
+}
+
+// Two sheets together, as those of the parts of a year's work.
+pub fn join(sheet: Sheet, other: Sheet) -> SheetAnswer
+    ensures answer { λ r. ⌜ r ≡ joinAnswer sheet other ⌝ }
+{
+    if passes(sheet, other) {
+        return SheetAnswer::Refused(27);
+    }
+    SheetAnswer::Total(together(sheet, other))
+}
+
+// A sheet with one shard more, sound or not.
+pub fn add(sheet: Sheet, spec: Sharding, shard: u64, file: &[u8]) -> SheetAnswer
+    ensures answer { λ r. ⌜ r ≡ addAnswer sheet spec shard (now (file .entry)) ⌝ }
+{
+    add_measured(sheet, measure(spec, shard, file))
+}
+
+// A sheet with one pair more of the earlier edition.
+pub fn add_pair(sheet: Sheet, spec: Sharding, shard: u64, index: &[u8], data: &[u8]) -> SheetAnswer
+    ensures answer { λ r. ⌜ r ≡ pairAddAnswer sheet spec shard (now (index .entry)) (now («data» .entry)) ⌝ }
+{
+    add_measured(sheet, measure_pair(spec, shard, index, data))
+}

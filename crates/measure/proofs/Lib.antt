@@ -1,0 +1,3 @@
+-- Laws of the measure.
+pub mod Counting
+pub mod Answered

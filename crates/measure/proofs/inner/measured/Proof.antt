@@ -1,0 +1,15 @@
+use Rattle.measure.proofs.Answered.{measuring}
+use Rattle.measure.proofs.inner.measured.Statement.{statement}
+use Rattle.measure.proofs.inner.measured.Tie as tie
+
+pub measured-spec : {M : Type 1} → statement M
+measured-spec =
+    tie.close
+    (tie.spec
+    (λ c κs. search measuring)
+    (λ c κs. search measuring)
+    (λ c. search measuring)
+    (λ c κs. search measuring)
+    (λ c κs. search measuring)
+    (λ c κs. search measuring)
+    (λ c. search measuring))

@@ -1,0 +1,40 @@
+-- What is counted over a sound shard: "chunks listed, sum of chunk sizes, and unlisted bytes as defined in order 8" (02, order 13), and the length of
+-- its settled form. A shard is two lists here: its shard index, and the data behind it.
+use Prim.Native.Nat.{ℕ}
+use mathlib.Core.List.{List}
+use Rattle.endian.specs.Range.{sumTo}
+use Rattle.sharding.specs.declared.Sharding.{Sharding}
+use Rattle.sharding.specs.Specification.{minishardCount}
+use Rattle.index.specs.Index.{entryStart, sizes}
+use Rattle.shard.specs.File.{indexPart, dataPart}
+use Rattle.ranges.specs.Ranges.{countIn}
+use Rattle.ranges.specs.Covered.{unlistedBytes}
+use Rattle.form.specs.Content.{formLength}
+use Rattle.minishard.specs.Writing.{capped}
+use Rattle.measure.specs.declared.Counts.{Counts}
+
+-- "chunks listed": those of all minishards
+unfoldable pub chunkCount : Sharding → List ℕ → ℕ
+chunkCount spec index = sumTo (countIn index) (minishardCount spec)
+
+-- the sizes of the chunks that minishard m lists, together: of manifests in a mesh, whose fragments are no chunks
+unfoldable pub sizesIn : List ℕ → List ℕ → ℕ → ℕ
+sizesIn index d m = sumTo (sizes d (entryStart index m) (countIn index m)) (countIn index m)
+
+-- "sum of chunk sizes"
+unfoldable pub chunkBytes : Sharding → List ℕ → List ℕ → ℕ
+chunkBytes spec index d = sumTo (sizesIn index d) (minishardCount spec)
+
+-- all of them; the settled length is counted up to the first one that settling refuses with 13
+unfoldable pub measureOf : Sharding → List ℕ → List ℕ → Counts
+measureOf spec index d =
+    record {
+      chunks = chunkCount spec index;
+      bytes = chunkBytes spec index d;
+      unlisted = unlistedBytes spec index d;
+      settled = capped (formLength spec index d);
+    }
+
+-- of a file
+abbrev pub fileMeasure : Sharding → List ℕ → Counts
+fileMeasure spec file = measureOf spec (indexPart spec file) (dataPart spec file)

@@ -1,0 +1,2 @@
+-- The program `sheet` (02, order 13).
+pub mod Turns

@@ -1,0 +1,244 @@
+-- Order 13's promises, from the crates' laws.
+use Prim.Native.Nat.{ℕ, _+_}
+use mathlib.Core.Path.{_≡_, refl, sym, ap, ap₂, subst, _∙_}
+use mathlib.Core.Bool.{Bool, true, false, _||_, false≢true}
+use mathlib.Core.Logic.{⊎-elim}
+use mathlib.Core.List.{List, [], _∷_, _++_}
+use native.Mathlib.Nat.{zero-add}
+use native.Mathlib.Omega.{arith}
+use borrow.Author.Tests.{ltb-false, le-ltb, ne-eqb}
+use lib.ListN.{length, getD}
+use Rattle.refusal.specs.Choice.{pick}
+use Rattle.refusal.proofs.Tests.{neither}
+use Rattle.ids.proofs.Cases.{eq-or-not}
+use Rattle.shard.specs.declared.CheckAnswer.{CheckAnswer}
+use Rattle.shard.specs.declared.CheckAnswer.the-variants.{Sound, Refused, Faulty}
+use Rattle.measure.specs.declared.Counts.{Counts}
+use Rattle.measure.specs.Answers.{mostTotal, passes}
+use Rattle.holdings.specs.declared.Sheet.{Sheet}
+use Rattle.holdings.specs.declared.SheetAnswer.the-variants.{Total}
+use Rattle.holdings.specs.Sheet.{rows, empty, anyPasses, both, tally, soundSheet, refusedSheet, shardSheet, numbers, isAmong, hasRow}
+use Rattle.holdings.specs.Answers.{joinAnswer, sheetOf, addAnswer, pairSheet, pairAddAnswer}
+use Rattle.holdings.proofs.Numbers.{Told, check-told, pair-told}
+use Rattle.holdings.proofs.Answered.{join-pick}
+use Rattle.theorems.specs.Holdings.{Holding, oneFile, twoFiles, verdictOn, countsOf, addOne, keptBy, addAll, NoneRefused, isSound, isRefusedWith, howMany, sumOver, sheetOver, Within, Reordered, none, first, swapped, then, shardsOn, Order13}
+
+-- ---- rows, added one by one; a list that ends goes on with 0
+
+added : List ℕ → List ℕ → List ℕ
+added [] ys = ys
+added (x ∷ xs) [] = x ∷ xs
+added (x ∷ xs) (y ∷ ys) = (x + y) ∷ added xs ys
+
+added-assoc : (xs ys zs : List ℕ) → added (added xs ys) zs ≡ added xs (added ys zs)
+unfolding added
+added-assoc [] ys zs = refl
+added-assoc (x ∷ xs) [] zs = refl
+added-assoc (x ∷ xs) (y ∷ ys) [] = refl
+added-assoc (x ∷ xs) (y ∷ ys) (z ∷ zs) = ap₂ (λ (n : ℕ) (ns : List ℕ). n ∷ ns) (omega arith) (added-assoc xs ys zs)
+
+added-comm : (xs ys : List ℕ) → added xs ys ≡ added ys xs
+unfolding added
+added-comm [] [] = refl
+added-comm [] (y ∷ ys) = refl
+added-comm (x ∷ xs) [] = refl
+added-comm (x ∷ xs) (y ∷ ys) = ap₂ (λ (n : ℕ) (ns : List ℕ). n ∷ ns) (omega arith) (added-comm xs ys)
+
+-- where no total passes, no number does
+less-passes : (a b : ℕ) → passes (a + b) ≡ false → passes a ≡ false
+unfolding passes
+less-passes a b h = le-ltb mostTotal a (omega (arith, ltb-false mostTotal (a + b) h))
+
+neither-of : {a b : Bool} → a ≡ false → b ≡ false → a || b ≡ false
+neither-of p q = rw (p, q)
+
+added-within : (xs ys : List ℕ) → anyPasses (added xs ys) ≡ false → anyPasses xs ≡ false
+unfolding added anyPasses
+added-within [] ys h = refl
+added-within (x ∷ xs) [] h = h
+added-within (x ∷ xs) (y ∷ ys) h =
+    let e = neither (passes (x + y)) (anyPasses (added xs ys)) h in
+    neither-of (less-passes x y (e .0)) (added-within xs ys (e .1))
+
+-- ---- sheets
+
+sheetBy : List ℕ → Sheet
+sheetBy s = record { sound = getD s 0 0; refused1 = getD s 1 0; refused5 = getD s 2 0; refused6 = getD s 3 0; refused7 = getD s 4 0; refused8 = getD s 5 0; refused9 = getD s 6 0; refused10 = getD s 7 0; refused11 = getD s 8 0; refused15 = getD s 9 0; refused16 = getD s 10 0; refused17 = getD s 11 0; refused21 = getD s 12 0; refused23 = getD s 13 0; chunks = getD s 14 0; bytes = getD s 15 0; unlisted = getD s 16 0 }
+
+same-rows : (a b : Sheet) → rows a ≡ rows b → a ≡ b
+unfolding rows sheetBy
+same-rows a b e = ap sheetBy e
+
+module _ (a b : Sheet) where
+  rows-both : rows (both a b) ≡ added (rows a) (rows b)
+  unfolding rows both added
+  rows-both = refl
+
+  pub within-first : anyPasses (rows (both a b)) ≡ false → anyPasses (rows a) ≡ false
+  within-first h = added-within (rows a) (rows b) (rw rows-both at h)
+
+both-comm : (a b : Sheet) → both a b ≡ both b a
+both-comm a b = same-rows _ _ (rows-both a b ∙ added-comm (rows a) (rows b) ∙ sym (rows-both b a))
+
+rows-three : (a b c : Sheet) → rows (both (both a b) c) ≡ added (added (rows a) (rows b)) (rows c)
+rows-three a b c = rows-both (both a b) c ∙ ap (λ (x : List ℕ). added x (rows c)) (rows-both a b)
+
+rows-other : (a b c : Sheet) → rows (both a (both b c)) ≡ added (rows a) (added (rows b) (rows c))
+rows-other a b c = rows-both a (both b c) ∙ ap (added (rows a)) (rows-both b c)
+
+both-assoc : (a b c : Sheet) → both (both a b) c ≡ both a (both b c)
+both-assoc a b c = same-rows _ _ (rows-three a b c ∙ added-assoc (rows a) (rows b) (rows c) ∙ sym (rows-other a b c))
+
+both-swap : (a b c : Sheet) → both a (both b c) ≡ both b (both a c)
+both-swap a b c = sym (both-assoc a b c) ∙ ap (λ (s : Sheet). both s c) (both-comm a b) ∙ both-assoc b a c
+
+both-empty : (a : Sheet) → both empty a ≡ a
+unfolding both
+both-empty a = simp zero-add
+
+-- ---- a list of shards
+
+one : Holding → Sheet
+one h = shardSheet (verdictOn h) (countsOf h)
+
+sums : List Holding → Sheet
+sums [] = empty
+sums (h ∷ hs) = both (one h) (sums hs)
+
+over-one : (v : CheckAnswer) (k : Counts) (s : Sheet) → record { sound = pick (isSound v) 1 0 + s .sound; refused1 = pick (isRefusedWith 1 v) 1 0 + s .refused1; refused5 = pick (isRefusedWith 5 v) 1 0 + s .refused5; refused6 = pick (isRefusedWith 6 v) 1 0 + s .refused6; refused7 = pick (isRefusedWith 7 v) 1 0 + s .refused7; refused8 = pick (isRefusedWith 8 v) 1 0 + s .refused8; refused9 = pick (isRefusedWith 9 v) 1 0 + s .refused9; refused10 = pick (isRefusedWith 10 v) 1 0 + s .refused10; refused11 = pick (isRefusedWith 11 v) 1 0 + s .refused11; refused15 = pick (isRefusedWith 15 v) 1 0 + s .refused15; refused16 = pick (isRefusedWith 16 v) 1 0 + s .refused16; refused17 = pick (isRefusedWith 17 v) 1 0 + s .refused17; refused21 = pick (isRefusedWith 21 v) 1 0 + s .refused21; refused23 = pick (isRefusedWith 23 v) 1 0 + s .refused23; chunks = pick (isSound v) (k .chunks) 0 + s .chunks; bytes = pick (isSound v) (k .bytes) 0 + s .bytes; unlisted = pick (isSound v) (k .unlisted) 0 + s .unlisted } ≡ both (shardSheet v k) s
+unfolding both shardSheet soundSheet refusedSheet tally
+over-one Sound k s = refl
+over-one (Refused n) k s = refl
+over-one (Faulty n m p) k s = refl
+
+over-sums : (hs : List Holding) → sheetOver hs ≡ sums hs
+unfolding sheetOver howMany sumOver sums one
+over-sums [] = refl
+over-sums (h ∷ hs) = over-one (verdictOn h) (countsOf h) (sheetOver hs) ∙ ap (both (shardSheet (verdictOn h) (countsOf h))) (over-sums hs)
+
+-- ---- adding them
+
+add-one : (s : Sheet) (h : Holding) → addOne s h ≡ joinAnswer s (one h)
+unfolding addOne one verdictOn countsOf addAnswer sheetOf pairAddAnswer pairSheet
+add-one s (oneFile spec shard file) = refl
+add-one s (twoFiles spec shard index d) = refl
+
+joined : (a b : Sheet) → anyPasses (rows (both a b)) ≡ false → joinAnswer a b ≡ Total (both a b)
+joined a b h = join-pick a b ∙ rw h
+
+module _ (s : Sheet) (h : Holding) (hs : List Holding) (w : anyPasses (rows (both s (sums (h ∷ hs)))) ≡ false) where
+  regrouped : both s (sums (h ∷ hs)) ≡ both (both s (one h)) (sums hs)
+  unfolding sums
+  regrouped = sym (both-assoc s (one h) (sums hs))
+
+  rest-within : anyPasses (rows (both (both s (one h)) (sums hs))) ≡ false
+  rest-within = ap (λ (x : Sheet). anyPasses (rows x)) (sym regrouped) ∙ w
+
+  here : addOne s h ≡ Total (both s (one h))
+  here = add-one s h ∙ joined s (one h) (within-first (both s (one h)) (sums hs) rest-within)
+
+  stepped : keptBy s (addOne s h) ≡ both s (one h)
+  unfolding keptBy
+  stepped = rw here
+
+add-all : (s : Sheet) (hs : List Holding) → anyPasses (rows (both s (sums hs))) ≡ false → addAll s hs ≡ both s (sums hs)
+unfolding addAll
+add-all s [] w = unfold sums in (sym (both-comm s empty ∙ both-empty s))
+add-all s (h ∷ hs) w = rw (stepped s h hs w, regrouped s h hs w) (add-all (both s (one h)) hs (rest-within s h hs w))
+
+none-refused : (s : Sheet) (hs : List Holding) → anyPasses (rows (both s (sums hs))) ≡ false → NoneRefused s hs
+unfolding NoneRefused
+none-refused s [] w = tt
+none-refused s (h ∷ hs) w = rw (stepped s h hs w) (here s h hs w, none-refused (both s (one h)) hs (rest-within s h hs w))
+
+within-sums : (hs : List Holding) → Within hs → anyPasses (rows (both empty (sums hs))) ≡ false
+within-sums hs w = rw (both-empty (sums hs)) (rw (over-sums hs) at w)
+
+add-counts : (hs : List Holding) → Within hs → addAll empty hs ≡ sheetOver hs
+add-counts hs w = add-all empty hs (within-sums hs w) ∙ both-empty (sums hs) ∙ sym (over-sums hs)
+
+-- ---- in another order, and in parts
+
+reordered : {hs gs : List Holding} → Reordered hs gs → sums hs ≡ sums gs
+unfolding sums
+reordered none = refl
+reordered (first h r) = ap (both (one h)) (reordered r)
+reordered (swapped h g hs) = both-swap (one h) (one g) (sums hs)
+reordered (then r q) = reordered r ∙ reordered q
+
+same-sheet : (hs gs : List Holding) → Reordered hs gs → Within hs → addAll empty hs ≡ addAll empty gs
+same-sheet hs gs r w =
+    let e : sheetOver hs ≡ sheetOver gs = over-sums hs ∙ reordered r ∙ sym (over-sums gs) in
+    add-counts hs w ∙ e ∙ sym (add-counts gs (rw e at w))
+
+sums-parts : (hs gs : List Holding) → sums (hs ++ gs) ≡ both (sums hs) (sums gs)
+unfolding sums
+sums-parts [] gs = sym (both-empty (sums gs))
+sums-parts (h ∷ hs) gs = ap (both (one h)) (sums-parts hs gs) ∙ sym (both-assoc (one h) (sums hs) (sums gs))
+
+module _ (hs gs : List Holding) (w : Within (hs ++ gs)) where
+  parts-within : anyPasses (rows (both (sums hs) (sums gs))) ≡ false
+  parts-within = ap (λ (x : Sheet). anyPasses (rows x)) (sym (over-sums (hs ++ gs) ∙ sums-parts hs gs)) ∙ w
+
+  first-part : addAll empty hs ≡ sums hs
+  first-part = add-all empty hs (rw (both-empty (sums hs)) (within-first (sums hs) (sums gs) parts-within)) ∙ both-empty (sums hs)
+
+  second-part : addAll empty gs ≡ sums gs
+  second-part = add-all empty gs (rw (both-empty (sums gs)) (within-first (sums gs) (sums hs) (rw (both-comm (sums hs) (sums gs)) at parts-within))) ∙ both-empty (sums gs)
+
+  whole : addAll empty (hs ++ gs) ≡ both (sums hs) (sums gs)
+  whole = add-counts (hs ++ gs) w ∙ over-sums (hs ++ gs) ∙ sums-parts hs gs
+
+  parts-join : joinAnswer (addAll empty hs) (addAll empty gs) ≡ Total (addAll empty (hs ++ gs))
+  parts-join = rw (first-part, second-part, whole) (joined (sums hs) (sums gs) parts-within)
+
+-- ---- each shard is in a row
+
+shards-both : (a b : Sheet) → shardsOn (both a b) ≡ shardsOn a + shardsOn b
+unfolding shardsOn both
+shards-both a b = omega arith
+
+All : (ℕ → Type 0) → List ℕ → Type 0
+All P [] = Unit {0}
+All P (n ∷ ns) = P n × All P ns
+
+all-among : (P : ℕ → Type 0) (k : ℕ) (ns : List ℕ) → All P ns → isAmong k ns ≡ true → P k
+unfolding All
+all-among P k [] h e = absurd (false≢true e)
+all-among P k (n ∷ ns) h e =
+    ⊎-elim (λ (q : k ≡ n). subst P (sym q) (h .0)) (λ (q : k ≡ n → ⊥). all-among P k ns (h .1) (rw (ne-eqb k n q) at e)) (eq-or-not k n)
+
+shards-refused : (k : ℕ) → hasRow k ≡ true → shardsOn (refusedSheet k) ≡ 1
+unfolding hasRow
+shards-refused k e = all-among (λ j. shardsOn (refusedSheet j) ≡ 1) k numbers each e
+  where
+    each : All (λ j. shardsOn (refusedSheet j) ≡ 1) numbers
+    each = unfold All shardsOn refusedSheet tally in (refl, (refl, (refl, (refl, (refl, (refl, (refl, (refl, (refl, (refl, (refl, (refl, (refl, tt)))))))))))))
+
+shards-one : (v : CheckAnswer) (k : Counts) → Told v → shardsOn (shardSheet v k) ≡ 1
+unfolding shardSheet
+shards-one Sound k t = unfold shardsOn soundSheet in refl
+shards-one (Refused n) k t = shards-refused n t
+shards-one (Faulty n m p) k t = shards-refused n t
+
+told-of : (h : Holding) → Told (verdictOn h)
+unfolding verdictOn
+told-of (oneFile spec shard file) = check-told spec shard file
+told-of (twoFiles spec shard index d) = pair-told spec shard index d
+
+shards-sums : (hs : List Holding) → shardsOn (sums hs) ≡ length hs
+unfolding sums one
+shards-sums [] = unfold shardsOn in refl
+shards-sums (h ∷ hs) = omega (arith, shards-both (one h) (sums hs), shards-one (verdictOn h) (countsOf h) (told-of h), shards-sums hs)
+
+-- ----
+
+pub order-13 : Order13
+order-13 = record {
+  order = same-sheet;
+  counts = add-counts;
+  all = λ hs w. none-refused empty hs (within-sums hs w);
+  shards = λ hs w. ap shardsOn (add-counts hs w ∙ over-sums hs) ∙ shards-sums hs;
+  parts = parts-join;
+  stays = λ sheet h e. unfold keptBy in rw e;
+}

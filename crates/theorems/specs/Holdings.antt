@@ -1,0 +1,129 @@
+-- What order 13 promises (02): the yearly holdings sheet counts, and the order in which shards are added makes no difference.
+use Prim.Native.Nat.{ℕ, _+_}
+use mathlib.Core.Path.{_≡_}
+use mathlib.Core.Bool.{Bool, true, false}
+use mathlib.Core.List.{List, [], _∷_, _++_}
+use lib.Dec.{eqb}
+use lib.ListN.{length}
+use Rattle.refusal.specs.Choice.{pick}
+use Rattle.sharding.specs.declared.Sharding.{Sharding}
+use Rattle.shard.specs.declared.CheckAnswer.{CheckAnswer}
+use Rattle.shard.specs.declared.CheckAnswer.the-variants.{Sound, Refused, Faulty}
+use Rattle.shard.specs.File.{checkAnswer}
+use Rattle.pair.specs.Answers.{pairCheck}
+use Rattle.measure.specs.declared.Counts.{Counts}
+use Rattle.measure.specs.Measures.{measureOf, fileMeasure}
+use Rattle.holdings.specs.declared.Sheet.{Sheet}
+use Rattle.holdings.specs.declared.SheetAnswer.{SheetAnswer}
+use Rattle.holdings.specs.declared.SheetAnswer.the-variants.{Total, Refused as SheetRefused}
+use Rattle.holdings.specs.Sheet.{rows, empty, anyPasses}
+use Rattle.holdings.specs.Answers.{joinAnswer, addAnswer, pairAddAnswer}
+
+-- ---- shards, "with specification and number each"
+
+-- one file, or a pair of the earlier edition
+pub data Holding : Type 0 where
+  oneFile : Sharding → ℕ → List ℕ → Holding
+  twoFiles : Sharding → ℕ → List ℕ → List ℕ → Holding
+
+-- what the check says of it, and what is counted over it where it is sound
+unfoldable pub verdictOn : Holding → CheckAnswer
+verdictOn (oneFile spec shard file) = checkAnswer spec shard file
+verdictOn (twoFiles spec shard index d) = pairCheck spec shard index d
+
+unfoldable pub countsOf : Holding → Counts
+countsOf (oneFile spec shard file) = fileMeasure spec file
+countsOf (twoFiles spec shard index d) = measureOf spec index d
+
+-- ---- the sheet that is made of them, "added to the sheet one at a time"
+
+unfoldable pub addOne : Sheet → Holding → SheetAnswer
+addOne sheet (oneFile spec shard file) = addAnswer sheet spec shard file
+addOne sheet (twoFiles spec shard index d) = pairAddAnswer sheet spec shard index d
+
+-- 27: "the sheet stays as before that shard"
+unfoldable pub keptBy : Sheet → SheetAnswer → Sheet
+keptBy sheet (Total next) = next
+keptBy sheet (SheetRefused k) = sheet
+
+unfoldable pub addAll : Sheet → List Holding → Sheet
+addAll sheet [] = sheet
+addAll sheet (h ∷ hs) = addAll (keptBy sheet (addOne sheet h)) hs
+
+-- none of them is refused with 27
+unfoldable pub NoneRefused : Sheet → List Holding → Type 0
+NoneRefused sheet [] = Unit {0}
+NoneRefused sheet (h ∷ hs) = (addOne sheet h ≡ Total (keptBy sheet (addOne sheet h))) × NoneRefused (keptBy sheet (addOne sheet h)) hs
+
+-- ---- what it should say
+
+abbrev pub isSound : CheckAnswer → Bool
+isSound Sound = true
+isSound (Refused k) = false
+isSound (Faulty k m p) = false
+
+abbrev pub isRefusedWith : ℕ → CheckAnswer → Bool
+isRefusedWith n Sound = false
+isRefusedWith n (Refused k) = eqb k n
+isRefusedWith n (Faulty k m p) = eqb k n
+
+-- how many of them the check answers so, and the sum of a count over these
+unfoldable pub howMany : (CheckAnswer → Bool) → List Holding → ℕ
+howMany test [] = 0
+howMany test (h ∷ hs) = pick (test (verdictOn h)) 1 0 + howMany test hs
+
+unfoldable pub sumOver : (CheckAnswer → Bool) → (Counts → ℕ) → List Holding → ℕ
+sumOver test count [] = 0
+sumOver test count (h ∷ hs) = pick (test (verdictOn h)) (count (countsOf h)) 0 + sumOver test count hs
+
+-- "shards sound, shards the check refuses for each number and, over sound shards, chunks listed, sum of chunk sizes, and unlisted bytes"
+unfoldable pub sheetOver : List Holding → Sheet
+sheetOver hs =
+    record {
+      sound = howMany isSound hs;
+      refused1 = howMany (isRefusedWith 1) hs;
+      refused5 = howMany (isRefusedWith 5) hs;
+      refused6 = howMany (isRefusedWith 6) hs;
+      refused7 = howMany (isRefusedWith 7) hs;
+      refused8 = howMany (isRefusedWith 8) hs;
+      refused9 = howMany (isRefusedWith 9) hs;
+      refused10 = howMany (isRefusedWith 10) hs;
+      refused11 = howMany (isRefusedWith 11) hs;
+      refused15 = howMany (isRefusedWith 15) hs;
+      refused16 = howMany (isRefusedWith 16) hs;
+      refused17 = howMany (isRefusedWith 17) hs;
+      refused21 = howMany (isRefusedWith 21) hs;
+      refused23 = howMany (isRefusedWith 23) hs;
+      chunks = sumOver isSound (λ k. k .chunks) hs;
+      bytes = sumOver isSound (λ k. k .bytes) hs;
+      unlisted = sumOver isSound (λ k. k .unlisted) hs;
+    }
+
+-- "no total over all of them passes 2^64-1"
+abbrev pub Within : List Holding → Type 0
+Within hs = anyPasses (rows (sheetOver hs)) ≡ false
+
+-- ---- "the same shards in another order"
+
+pub data Reordered : List Holding → List Holding → Type 0 where
+  none : Reordered [] []
+  first : {hs gs : List Holding} (h : Holding) → Reordered hs gs → Reordered (h ∷ hs) (h ∷ gs)
+  swapped : (h g : Holding) (hs : List Holding) → Reordered (h ∷ g ∷ hs) (g ∷ h ∷ hs)
+  then : {hs gs fs : List Holding} → Reordered hs gs → Reordered gs fs → Reordered hs fs
+
+-- the rows of shards, together
+unfoldable pub shardsOn : Sheet → ℕ
+shardsOn s = s .sound + s .refused1 + s .refused5 + s .refused6 + s .refused7 + s .refused8 + s .refused9 + s .refused10 + s .refused11 + s .refused15 + s .refused16 + s .refused17 + s .refused21 + s .refused23
+
+pub record Order13 : Type 0 where
+  -- "Where the sheet began empty and no total over all of them passes 2^64-1, the same shards in another order give the same sheet."
+  pub order : (hs gs : List Holding) → Reordered hs gs → Within hs → addAll empty hs ≡ addAll empty gs
+  -- It is what it should be, and no shard was refused with 27.
+  pub counts : (hs : List Holding) → Within hs → addAll empty hs ≡ sheetOver hs
+  pub all : (hs : List Holding) → Within hs → NoneRefused empty hs
+  -- Each shard is in a row: no number that the check gives is forgotten.
+  pub shards : (hs : List Holding) → Within hs → shardsOn (addAll empty hs) ≡ length hs
+  -- The sheets of two parts, joined, are that of the whole.
+  pub parts : (hs gs : List Holding) → Within (hs ++ gs) → joinAnswer (addAll empty hs) (addAll empty gs) ≡ Total (addAll empty (hs ++ gs))
+  -- 27 is given exactly when a total would pass, of any sheet, and leaves it.
+  pub stays : (sheet : Sheet) (h : Holding) → addOne sheet h ≡ SheetRefused 27 → keptBy sheet (addOne sheet h) ≡ sheet
