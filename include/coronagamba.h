@@ -146,7 +146,8 @@
 #define CORONAGAMBA_REFUSED_SHARDING_NOT_ALLOWED 1
 
 /* a volume or chunk extent is 0, or a cell coordinate is not below its grid
- * size */
+ * size; in a chunk of labels also where a block size or the channel count is
+ * 0, or a voxel or channel is outside */
 #define CORONAGAMBA_REFUSED_NO_SUCH_CELL 2
 
 /* a key is made or decoded, or a card read or written, or an info file read,
@@ -189,7 +190,8 @@
  * exceed 1,073,741,824 bytes; at an intake, on opening or announcing, the
  * settled form of all announced so far, this chunk included, would pass the
  * output or 1,073,741,824 bytes, or the second buffer has no 16 bytes left
- * for it */
+ * for it; asked for an unpacked length, also where it does not fit 64 bits,
+ * so that no output can have the room */
 #define CORONAGAMBA_REFUSED_NO_ROOM 13
 
 /* the card is malformed */
@@ -252,6 +254,15 @@
  * before that shard; of one shard's measure, the sizes of its chunks
  * together pass it */
 #define CORONAGAMBA_REFUSED_TOTAL_TOO_LARGE 27
+
+/* in a chunk of labels, a channel offset, header, packed 32-bit word or
+ * table entry to be read is not whole in the chunk; at width 0 no packed
+ * word is read */
+#define CORONAGAMBA_REFUSED_LABELS_CUT_OFF 28
+
+/* in a chunk of labels, a whole header has a packed width other than 0, 1,
+ * 2, 4, 8, 16 or 32 */
+#define CORONAGAMBA_REFUSED_LABEL_WIDTH 29
 
 /* at an intake, after opening, a lent buffer has another length than then */
 #define CORONAGAMBA_REFUSED_INTAKE_BUFFERS 30
@@ -800,6 +811,44 @@ uint64_t coronagamba_manifest_corners(const uint8_t *bytes, size_t count,
                                       uint32_t level, uint32_t node,
                                       uint32_t near_corner[3],
                                       uint32_t far_corner[3]);
+
+/* ---- Labels inside a chunk: the label of a voxel, a whole chunk unpacked - */
+
+/* The label of a voxel in a chunk of the compressed segmentation encoding.
+ * `size` and `block` are the chunk's and its blocks' extents in voxels.
+ * Where `wide` is 1 labels have 64 bits; any other number says 32. Voxel and
+ * channel count from 0 in the chunk. Writes the label to `label`. Refusals:
+ * 2 also where a block size or the channel count is 0 or a voxel or channel
+ * is outside, 29, 28 */
+uint64_t coronagamba_label(const uint8_t *chunk, size_t count,
+                           coronagamba_extents size, coronagamba_extents block,
+                           uint32_t channels, uint8_t wide, uint32_t x,
+                           uint32_t y, uint32_t z, uint32_t channel,
+                           uint64_t *label);
+
+/* How many bytes a chunk of labels has in the raw form, whatever it holds.
+ * `size` and `block` are the chunk's and its blocks' extents in voxels.
+ * Where `wide` is 1 labels have 64 bits; any other number says 32. Writes
+ * the number to `length`. Refusals: 2 also where a block size or the channel
+ * count is 0, 13 where the number does not fit 64 bits */
+uint64_t coronagamba_unpacked_length(coronagamba_extents size,
+                                     coronagamba_extents block,
+                                     uint32_t channels, uint8_t wide,
+                                     uint64_t *length);
+
+/* A whole chunk of the compressed segmentation encoding in the raw form:
+ * labels little-endian, x fastest, then y, z, channel. `size` and `block`
+ * are the chunk's and its blocks' extents in voxels. Where `wide` is 1
+ * labels have 64 bits; any other number says 32. Writes the raw form to the
+ * front of `out`, which needs the room that coronagamba_unpacked_length
+ * tells, and its number of bytes to `length`. Refusals: 2 also where a block
+ * size or the channel count is 0, 29 where it would refuse the label of any
+ * voxel, 28 where it would refuse the label of any voxel, 13 where `out` is
+ * shorter than the raw form */
+uint64_t coronagamba_unpack(const uint8_t *chunk, size_t count,
+                            coronagamba_extents size, coronagamba_extents block,
+                            uint32_t channels, uint8_t wide, uint8_t *out,
+                            size_t out_count, uint64_t *length);
 
 #ifdef __cplusplus
 }

@@ -13,6 +13,7 @@ from ._declared import __version__
 from .card import Card
 from .grid import Bounds, Cell, Extents, Offset, Point, Volume
 from .intake import Intake
+from .labels import Labels
 from .manifest import Corners, Header, Manifest, Node, Visit
 from .pair import Half, Held, Pair
 from .refusal import Absent, Refused
@@ -36,6 +37,7 @@ __all__ = [
     "Header",
     "Held",
     "Intake",
+    "Labels",
     "Listed",
     "Manifest",
     "Node",

@@ -914,4 +914,65 @@ FUNCTIONS: Dict[str, Tuple[Any, Tuple[Any, ...]]] = {
             POINTER(ctypes.c_uint32 * 3),
         ),
     ),
+    # The label of a voxel in a chunk of the compressed segmentation encoding.
+    # `size` and `block` are the chunk's and its blocks' extents in voxels.
+    # Where `wide` is 1 labels have 64 bits; any other number says 32. Voxel
+    # and channel count from 0 in the chunk. Writes the label to `label`.
+    # Refusals: 2 also where a block size or the channel count is 0 or a voxel
+    # or channel is outside, 29, 28
+    "coronagamba_label": (
+        ctypes.c_uint64,
+        (
+            POINTER(ctypes.c_uint8),
+            ctypes.c_size_t,
+            Extents,
+            Extents,
+            ctypes.c_uint32,
+            ctypes.c_uint8,
+            ctypes.c_uint32,
+            ctypes.c_uint32,
+            ctypes.c_uint32,
+            ctypes.c_uint32,
+            POINTER(ctypes.c_uint64),
+        ),
+    ),
+    # How many bytes a chunk of labels has in the raw form, whatever it holds.
+    # `size` and `block` are the chunk's and its blocks' extents in voxels.
+    # Where `wide` is 1 labels have 64 bits; any other number says 32. Writes
+    # the number to `length`.
+    # Refusals: 2 also where a block size or the channel count is 0, 13 where
+    # the number does not fit 64 bits
+    "coronagamba_unpacked_length": (
+        ctypes.c_uint64,
+        (
+            Extents,
+            Extents,
+            ctypes.c_uint32,
+            ctypes.c_uint8,
+            POINTER(ctypes.c_uint64),
+        ),
+    ),
+    # A whole chunk of the compressed segmentation encoding in the raw form:
+    # labels little-endian, x fastest, then y, z, channel. `size` and `block`
+    # are the chunk's and its blocks' extents in voxels. Where `wide` is 1
+    # labels have 64 bits; any other number says 32. Writes the raw form to the
+    # front of `out`, which needs the room that coronagamba_unpacked_length
+    # tells, and its number of bytes to `length`.
+    # Refusals: 2 also where a block size or the channel count is 0, 29 where
+    # it would refuse the label of any voxel, 28 where it would refuse the
+    # label of any voxel, 13 where `out` is shorter than the raw form
+    "coronagamba_unpack": (
+        ctypes.c_uint64,
+        (
+            POINTER(ctypes.c_uint8),
+            ctypes.c_size_t,
+            Extents,
+            Extents,
+            ctypes.c_uint32,
+            ctypes.c_uint8,
+            POINTER(ctypes.c_uint8),
+            ctypes.c_size_t,
+            POINTER(ctypes.c_uint64),
+        ),
+    ),
 }

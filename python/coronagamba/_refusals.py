@@ -17,7 +17,8 @@ class Numbers:
     SHARDING_NOT_ALLOWED = 1
 
     # a volume or chunk extent is 0, or a cell coordinate is not below its grid
-    # size
+    # size; in a chunk of labels also where a block size or the channel count
+    # is 0, or a voxel or channel is outside
     NO_SUCH_CELL = 2
 
     # a key is made or decoded, or a card read or written, or an info file
@@ -60,7 +61,8 @@ class Numbers:
     # exceed 1,073,741,824 bytes; at an intake, on opening or announcing, the
     # settled form of all announced so far, this chunk included, would pass the
     # output or 1,073,741,824 bytes, or the second buffer has no 16 bytes left
-    # for it
+    # for it; asked for an unpacked length, also where it does not fit 64 bits,
+    # so that no output can have the room
     NO_ROOM = 13
 
     # the card is malformed
@@ -124,6 +126,15 @@ class Numbers:
     # together pass it
     TOTAL_TOO_LARGE = 27
 
+    # in a chunk of labels, a channel offset, header, packed 32-bit word or
+    # table entry to be read is not whole in the chunk; at width 0 no packed
+    # word is read
+    LABELS_CUT_OFF = 28
+
+    # in a chunk of labels, a whole header has a packed width other than 0, 1,
+    # 2, 4, 8, 16 or 32
+    LABEL_WIDTH = 29
+
     # at an intake, after opening, a lent buffer has another length than then
     INTAKE_BUFFERS = 30
 
@@ -175,5 +186,10 @@ SENTENCES: Dict[int, str] = {
     ),
     26: "The part is longer than what is still owed, or bytes are owed.",
     27: "A total would pass 2^64 - 1.",
+    28: "Something that is to be read for a label is not whole in the chunk.",
+    29: (
+        "A block header has a packed width other than 0, 1, 2, 4, 8, 16 or 32 "
+        "bits."
+    ),
     30: "A buffer has another length than when the shard was opened.",
 }

@@ -1,8 +1,10 @@
 """Runs all tests. The last line is 'N passed, M failed'; a test that is
-skipped counts as failed."""
+skipped counts as failed. Where numpy is not there, the tests with it are not
+among them, and the line before says so."""
 
 import sys
 import unittest
+from importlib.util import find_spec
 from pathlib import Path
 
 
@@ -30,6 +32,8 @@ def main():
         + len(result.expectedFailures)
         + len(result.unexpectedSuccesses)
     )
+    if find_spec("numpy") is None:
+        print("numpy is not there: the tests with it were not run")
     print(f"{result.passed} passed, {failed} failed")
     return 0 if failed == 0 and result.passed > 0 else 1
 

@@ -6,8 +6,8 @@ import struct
 import unittest
 from ctypes import byref, c_uint8, c_uint64
 
-from coronagamba import Absent, Card, Intake, Manifest, Pair, Refused, Shard
-from coronagamba import Sharding, Sheet, Volume
+from coronagamba import Absent, Card, Intake, Labels, Manifest, Pair
+from coronagamba import Refused, Shard, Sharding, Sheet, Volume
 from coronagamba._library import library
 from coronagamba._refusals import SENTENCES
 from coronagamba.refusal import answer
@@ -24,6 +24,12 @@ SOUND = manifest((8, 8, 8), (0, 0, 0), [(1, (0, 0, 0), [(2**24, 0, 0, 5)])])
 
 def shard(file, sharding=ONE, number=0):
     return Shard(sharding, number, file)
+
+
+def labels(*words, size=UNIT, block=UNIT, channels=1):
+    """Labels of 32 bits in a chunk of these words."""
+    chunk = struct.pack(f"<{len(words)}I", *words)
+    return Labels(chunk, size=size, block=block, channels=channels, bits=32)
 
 
 def huge_settled_form():
@@ -80,6 +86,11 @@ CALLS = {
         lambda: Volume(UNIT, UNIT).chunk_name((0, 0, 1)),
         lambda: Volume(UNIT, (1, 0, 1)).cell(0),
         lambda: Card(ONE, Volume(UNIT, (0, 0, 0))).to_bytes(),
+        lambda: labels(1, 2, 0, 5).label((1, 0, 0)),
+        lambda: labels(1, 2, 0, 5).label((0, 0, 0), 1),
+        lambda: labels(1, 2, 0, 5, size=(1, 0, 1)).unpacked(),
+        lambda: labels(1, 2, 0, 5, block=(1, 0, 1)).unpacked_length(),
+        lambda: labels(1, 2, 0, 5, channels=0).unpack(bytearray(4)),
     ],
     3: [
         lambda: Volume((2**22, 2**22, 2**21), UNIT).key((0, 0, 0)),
@@ -146,6 +157,8 @@ CALLS = {
         lambda: Intake(ONE, 0, 40, 15).announce(0, 0),
         lambda: huge_settled_form().settled(),
         lambda: huge_settled_form().settled_length(),
+        lambda: labels(1, 2, 0, 5).unpack(bytearray(3)),
+        lambda: labels(1, 2, 0, 5, size=(2**32 - 1,) * 3).unpacked_length(),
     ],
     14: [
         lambda: Card.read(b""),
@@ -247,6 +260,18 @@ CALLS = {
         lambda: Sheet([2**64 - 1] * 17).add(shard(b"")),
         lambda: Sheet([2**64 - 1] * 17).add(Pair(ONE, 0, b"", b"")),
         lambda: Sheet([2**63] * 17).join(Sheet([2**63] * 17)),
+    ],
+    28: [
+        lambda: labels().label((0, 0, 0)),
+        lambda: labels(1, 2).label((0, 0, 0)),
+        lambda: labels(1, 2, 0).unpacked(),
+        lambda: labels(1, 1 << 24, 2).unpack(bytearray()),
+        lambda: labels(1, 2, 0, 5, size=(2, 1, 1)).view(),
+    ],
+    29: [
+        lambda: labels(1, 3 << 24, 0).label((0, 0, 0)),
+        lambda: labels(1, 33 << 24, 0).unpacked(),
+        lambda: labels(1, 255 << 24, 0).unpack(bytearray()),
     ],
     30: [other_length],
 }

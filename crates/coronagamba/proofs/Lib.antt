@@ -7,3 +7,4 @@ pub mod Answered
 pub mod Word
 pub mod Intaken
 pub mod Sheeted
+pub mod Labelled

@@ -8,3 +8,4 @@ pub mod Sheets
 pub mod Manifests
 pub mod Cards
 pub mod Intakes
+pub mod Labels

@@ -3,6 +3,7 @@ pub mod cards;
 pub mod cells;
 pub mod infos;
 pub mod intakes;
+pub mod labels;
 pub mod manifests;
 mod numbers;
 pub mod pairs;

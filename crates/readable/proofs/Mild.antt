@@ -15,6 +15,7 @@ use Rattle.segmentation.specs.Labels.{labelWords, valueIn}
 use Rattle.segmentation.specs.Steps.{entryAnswer, valueAnswer}
 use Rattle.readable.specs.Voxels.{refusalIn}
 use Rattle.readable.specs.Checks.{greatest, blockCount, placeRefusal, rowRefusal, layerRefusal, voxelsRefusal, blockRefusal, channelRefusal, blocksRefusal}
+use Rattle.readable.specs.Seen.{Seen, Sees, Blank}
 use Rattle.segmentation.proofs.Asked.{no-bits}
 use Rattle.readable.proofs.Inside.{inside-x, inside-y, inside-z}
 use Rattle.readable.proofs.Greatest.{le-greatest, greatest-at, greatest-flat, greatest-is, greatest-all, greatest-none, greatest-still}
@@ -167,22 +168,21 @@ module _ (s : List ℕ) (sh : Shape) (o n : ℕ) (h : noVoxels sh ≡ false) (l 
 
 -- ---- the walk over the channels
 
-pub record Passed (s : List ℕ) (sh : Shape) (count c last : ℕ) : Type 0 where
+pub record Passed (s : List ℕ) (sh : Shape) (count c : ℕ) (seen : List ℕ) : Type 0 where
   pub within : c ≤ sh .channels
   pub all : count ≡ blockCount sh
   pub none : 0 ≡ greatest (channelRefusal s sh) c
-  pub known : (o : ℕ) → o < 4294967296 → last ≡ o → 0 ≡ greatest (blockRefusal s sh o) count
+  pub known : (o : ℕ) → Seen seen o → 0 ≡ greatest (blockRefusal s sh o) count
 
-pub passed-start : (s : List ℕ) (sh : Shape) (count : ℕ) → count ≡ blockCount sh → Passed s sh count 0 4294967296
-passed-start s sh count e =
-    record { within = omega arith; all = e; none = greatest-none _; known = λ o h q. absurd (omega arith) }
+pub passed-start : (s : List ℕ) (sh : Shape) (count : ℕ) {seen : List ℕ} → count ≡ blockCount sh → Blank seen → Passed s sh count 0 seen
+passed-start s sh count e b = record { within = omega arith; all = e; none = greatest-none _; known = λ o h. absurd (b .none o h) }
 
-module _ {s : List ℕ} {sh : Shape} {count c last : ℕ} (r : Passed s sh count c last) where
+module _ {s : List ℕ} {sh : Shape} {count c : ℕ} {seen : List ℕ} (r : Passed s sh count c seen) where
   pub passed-count : count ≡ blockCount sh
   passed-count = r .all
 
-  pub passed-known : {o : ℕ} → o < 4294967296 → last ≡ o → 0 ≡ greatest (blockRefusal s sh o) count
-  passed-known {o} h e = r .known o h e
+  pub passed-known : {o : ℕ} → Seen seen o → 0 ≡ greatest (blockRefusal s sh o) count
+  passed-known {o} h = r .known o h
 
   pub passed-end : sh .channels ≤ c → 0 ≡ blocksRefusal s sh
   unfolding blocksRefusal
@@ -197,11 +197,13 @@ module _ {s : List ℕ} {sh : Shape} {count c last : ℕ} (r : Passed s sh count
     unfolding blocksRefusal
     passed-hit l = mild-hit _ (channel-mild s sh) (sh .channels) c h here l
 
-    pub passed-on : k ≤ 0 → Passed s sh count (c + 1) o
-    passed-on l =
+    pub passed-on : k ≤ 0 → {later : List ℕ} → Sees seen later o → Passed s sh count (c + 1) later
+    passed-on l v =
         record {
           within = omega arith;
           all = r .all;
           none = greatest-still _ c (r .none) here l;
-          known = λ x b q. let z : 0 ≡ greatest (blockRefusal s sh o) count = omega arith in z ∙ ap (λ (y : ℕ). greatest (blockRefusal s sh y) count) q;
+          known = λ x a.
+              ⊎-elim (λ p. r .known x p)
+              (λ (q : x ≡ o). let z : 0 ≡ greatest (blockRefusal s sh o) count = omega arith in z ∙ ap (λ (y : ℕ). greatest (blockRefusal s sh y) count) (sym q)) (v .only x a);
         }

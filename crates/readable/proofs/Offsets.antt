@@ -14,6 +14,7 @@ use Rattle.segmentation.specs.declared.Shape.{Shape}
 use Rattle.segmentation.specs.Words.{word}
 use Rattle.segmentation.specs.Layout.{across, down, deep, widthIn, isWidth}
 use Rattle.readable.specs.Checks.{greatest, blockCount, headerRefusal, channelHeaders, headersRefusal}
+use Rattle.readable.specs.Seen.{Seen, Sees, Blank}
 use Rattle.segmentation.proofs.Asked.{whole-yes, whole-no}
 use Rattle.readable.proofs.Greatest.{within-or-past, greatest-step, le-greatest, greatest-le, greatest-is, greatest-same, greatest-at}
 
@@ -177,18 +178,18 @@ channel-capped s g c =
     (λ (h : length s / 4 < suc c). channel-past s _ c (omega arith) ∙ sym (channel-past s g c (omega arith)))
     (within-or-past (suc c) (length s / 4))
 
--- the walk over the channels: what is found, and that the last channel looked at is among them
-pub record Walked (s : List ℕ) (count n c worst last : ℕ) : Type 0 where
+-- the walk over the channels: what is found, and that places which are noted are among those looked at
+pub record Walked (s : List ℕ) (count n c worst : ℕ) (seen : List ℕ) : Type 0 where
   pub within : c ≤ n
   pub found : worst ≡ greatest (channelHeaders s count) c
   pub below : worst < 29
-  pub known : (o : ℕ) → o < 4294967296 → last ≡ o → greatest (headerRefusal s o) count ≤ worst
+  pub known : (o : ℕ) → Seen seen o → greatest (headerRefusal s o) count ≤ worst
 
-pub walked-start : (s : List ℕ) (count n : ℕ) → Walked s count n 0 0 4294967296
+pub walked-start : (s : List ℕ) (count n : ℕ) {seen : List ℕ} → Blank seen → Walked s count n 0 0 seen
 unfolding greatest
-walked-start s count n = record { within = omega arith; found = refl; below = omega arith; known = λ o h e. absurd (omega arith) }
+walked-start s count n b = record { within = omega arith; found = refl; below = omega arith; known = λ o h. absurd (b .none o h) }
 
-module _ {s : List ℕ} {count n c worst last : ℕ} (r : Walked s count n c worst last) (h : c < n) (k : n ≤ length s / 4) {o next : ℕ} (oe : o ≡ word s c) (small : o < 4294967296) (e : next ≡ max worst (greatest (headerRefusal s o) count)) where
+module _ {s : List ℕ} {count n c worst : ℕ} {seen : List ℕ} (r : Walked s count n c worst seen) (h : c < n) (k : n ≤ length s / 4) {o next : ℕ} (oe : o ≡ word s c) (e : next ≡ max worst (greatest (headerRefusal s o) count)) where
   more : next ≡ greatest (channelHeaders s count) (c + 1)
   more =
       let q : channelHeaders s count c ≡ greatest (headerRefusal s o) count = channel-within s count c (omega arith) ∙ ap (λ (x : ℕ). greatest (headerRefusal s x) count) (sym oe) in
@@ -200,20 +201,22 @@ module _ {s : List ℕ} {count n c worst last : ℕ} (r : Walked s count n c wor
       (let m = greatest-le (channelHeaders s count) (c + 1) _ (λ i l. le-greatest (channelHeaders s count) n i (omega arith)) in omega (arith, more))
       (greatest-le (channelHeaders s count) n 29 (λ i l. channel-most s count i))
 
-  pub walked-on : (next ≡ 29 → ⊥) → Walked s count n (c + 1) next o
-  walked-on q =
+  pub walked-on : (next ≡ 29 → ⊥) → {later : List ℕ} → Sees seen later o → Walked s count n (c + 1) next later
+  walked-on q v =
       let m = greatest-le (channelHeaders s count) (c + 1) 29 (λ i l. channel-most s count i) in
       record {
         within = omega arith;
         found = more;
         below = omega (arith, more);
-        known = λ x l y. let z = ap (λ (x : ℕ). greatest (headerRefusal s x) count) y in omega arith;
+        known = λ x l.
+            ⊎-elim (λ a. let z = r .known x a in omega arith)
+            (λ (y : x ≡ o). let z = ap (λ (x : ℕ). greatest (headerRefusal s x) count) y in omega arith) (v .only x l);
       }
 
-pub walked-known : {s : List ℕ} {count n c worst last : ℕ} → Walked s count n c worst last → {o : ℕ} → o < 4294967296 → last ≡ o → greatest (headerRefusal s o) count ≤ worst
-walked-known r {o} h e = r .known o h e
+pub walked-known : {s : List ℕ} {count n c worst : ℕ} {seen : List ℕ} → Walked s count n c worst seen → {o : ℕ} → Seen seen o → greatest (headerRefusal s o) count ≤ worst
+walked-known r {o} h = r .known o h
 
-pub walked-end : {s : List ℕ} {count n c worst last : ℕ} → Walked s count n c worst last → n ≤ c → worst ≡ greatest (channelHeaders s count) n
+pub walked-end : {s : List ℕ} {count n c worst : ℕ} {seen : List ℕ} → Walked s count n c worst seen → n ≤ c → worst ≡ greatest (channelHeaders s count) n
 walked-end {s} {count} {n} {c} r h = let q : c ≡ n = omega (arith, r .within) in r .found ∙ ap (greatest (channelHeaders s count)) q
 
 -- ---- all channels

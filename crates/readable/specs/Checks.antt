@@ -3,6 +3,7 @@ use Prim.Native.Nat.{ℕ, zero, suc, _+_, _-_, _*_, _/_, _%_, _<_, min, max}
 use mathlib.Core.Path.{_≡_}
 use mathlib.Core.Bool.{true}
 use mathlib.Core.List.{List}
+use lib.ListN.{length}
 use Rattle.refusal.specs.Choice.{pick}
 use Rattle.grid.specs.declared.Extents.{Extents}
 use Rattle.segmentation.specs.declared.Shape.{Shape}
@@ -45,7 +46,25 @@ pub record Header (o first second : ℕ) : Type 0 where
 unfoldable pub span : ℕ → ℕ → ℕ → ℕ
 span extent block g = min block (extent - block * g)
 
+-- how many entries of the table at word t are whole
+abbrev pub wholeEntries : List ℕ → ℕ → ℕ → ℕ
+wholeEntries s e t = (length s / 4 - t) / e
+
+-- a run: voxels of a block one after another, from the number `from` on, whose packed words are whole
+pub record Packed (s : List ℕ) (o first second from count : ℕ) : Type 0 where
+  pub some : 0 < widthIn first
+  pub packed : (u : ℕ) → u < count → o + second + (u + from) * widthIn first / 32 < length s / 4
+
+-- the packed word of the last voxel inside is whole
+pub record Reached (s : List ℕ) (o first second : ℕ) (b inside : Extents) : Type 0 where
+  pub some : 0 < widthIn first
+  pub last : o + second + (inside .x - 1 + b .x * (inside .y - 1 + b .y * (inside .z - 1))) * widthIn first / 32 < length s / 4
+
 module _ (s : List ℕ) (e o first second : ℕ) where
+  -- voxel u of a run
+  unfoldable pub runRefusal : ℕ → ℕ → ℕ
+  runRefusal from u = refusalIn (valueAnswer s e o first second (u + from))
+
   unfoldable pub placeRefusal : Extents → ℕ → ℕ → ℕ → ℕ
   placeRefusal b w v u = refusalIn (valueAnswer s e o first second (u + b .x * (v + b .y * w)))
 

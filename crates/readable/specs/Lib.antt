@@ -1,2 +1,3 @@
 pub mod Voxels
 pub mod Checks
+pub mod Seen

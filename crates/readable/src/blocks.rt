@@ -4,24 +4,26 @@ ghost use mathlib.Core.Bool.{true, false};
 ghost use Prim.Native.Nat.{_+_, _*_, _/_, _<_, _≤_, _^_};
 ghost use lib.ListN.{length};
 ghost use Rattle.segmentation.specs.Words.{word};
-ghost use Rattle.segmentation.specs.Layout.{noVoxels, widthIn, isWidth};
+ghost use Rattle.segmentation.specs.Layout.{noVoxels, tableIn, widthIn, isWidth};
 ghost use Rattle.segmentation.specs.Labels.{labelWords};
 ghost use Rattle.readable.specs.Voxels.{refusalIn};
-ghost use Rattle.readable.specs.Checks.{Header, blockCount, headerRefusal, headersRefusal, insideOf, placeRefusal, rowRefusal, layerRefusal, voxelsRefusal, blockRefusal, blocksRefusal, greatest};
+ghost use Rattle.readable.specs.Checks.{Header, Packed, Reached, wholeEntries, blockCount, headerRefusal, headersRefusal, insideOf, runRefusal, rowRefusal, layerRefusal, voxelsRefusal, blockRefusal, blocksRefusal, greatest};
+ghost use Rattle.readable.specs.Seen.{Blank};
 use crate::headers::block_count;
 use crate::inner::span_of;
+use crate::seen::is_seen;
+use crate::seen::see;
 use grid::Extents;
 use grid::inner::grid_size;
 use segmentation::LabelAnswer;
 use segmentation::Shape;
 use segmentation::inner::Far;
+use segmentation::inner::bits;
 use segmentation::inner::entry_label;
-use segmentation::inner::entry_word;
 use segmentation::inner::is_below;
 use segmentation::inner::linear;
 use segmentation::inner::packed_word;
 use segmentation::inner::two_to;
-use segmentation::inner::value_label;
 use segmentation::inner::word_at;
 use segmentation::inner::words;
 
@@ -34,31 +36,52 @@ fn refusal_of(a: LabelAnswer) -> u8
     }
 }
 
-// Voxel (u, v, w) of a block.
-fn place_refusal(
+// How many entries of the table at word t are whole.
+fn whole_entries(chunk: &[u8], wide: bool, t: u64) -> u64
+    ensures { λ r. ⌜ r ≡ wholeEntries (now (chunk .entry)) (labelWords wide) t ⌝ }
+{
+    let n = words(chunk);
+    if n < t {
+        return 0;
+    }
+    if wide { (n - t) / 2 } else { n - t }
+}
+
+// A run of voxels, numbered from step * high on. `from` is the word, and `start` the voxel counted from it, at which it begins. A value is
+// refused where its entry is none of the whole ones. The first voxel that is refused decides, here and below: each number is 0 or 28.
+fn run_refusal(
     chunk: &[u8],
     wide: bool,
     o: u64,
     first: u64,
     second: u64,
-    block: Extents,
-    w: u32,
-    v: u32,
-    u: u32,
+    step: u64,
+    high: u64,
+    count: u32,
+    limit: u64,
 ) -> u8
     requires { ⌜ Header o first second ⌝ }
-    requires { ⌜ 0 < block .x ⌝ }
-    ensures { λ r. ⌜ r ≡ placeRefusal (now (chunk .entry)) (labelWords wide) o first second block w v u ⌝ }
+    requires { ⌜ (0 < count) × (step < 2 ^ 32) × (limit ≡ wholeEntries (now chunk) (labelWords wide) (o + tableIn first)) ⌝ }
+    requires { ⌜ Packed (now chunk) o first second (step * high) count ⌝ }
+    ensures { λ r. ⌜ r ≡ greatest (runRefusal (now (chunk .entry)) (labelWords wide) o first second (step * high)) count ⌝ }
 {
-    let m = Far {
-        low: u as u64,
-        step: block.x as u64,
-        high: linear(v, block.y, w),
-    };
-    refusal_of(value_label(chunk, wide, o, first, second, m))
+    let width = first / 16777216;
+    let per = 32 / width;
+    let from = o + second + step * (high / per);
+    let start = step * (high % per);
+    let mut u = 0u32;
+    while u < count {
+        let b = (start + u as u64) * width;
+        let v = bits(word_at(chunk, from + b / 32), b % 32, width);
+        if limit <= v {
+            return 28;
+        }
+        u += 1;
+    }
+    0
 }
 
-// The first voxel that is refused decides, here and below: each number is 0 or 28.
+// Row (v, w) of a block.
 fn row_refusal(
     chunk: &[u8],
     wide: bool,
@@ -67,23 +90,27 @@ fn row_refusal(
     second: u64,
     block: Extents,
     inside: Extents,
+    limit: u64,
     w: u32,
     v: u32,
 ) -> u8
     requires { ⌜ Header o first second ⌝ }
-    requires { ⌜ 0 < block .x ⌝ }
+    requires { ⌜ Reached (now chunk) o first second block inside ⌝ }
+    requires { ⌜ (0 < inside .x) × (limit ≡ wholeEntries (now chunk) (labelWords wide) (o + tableIn first)) × (w < inside .z) × (v < inside .y) ⌝ }
     ensures { λ r. ⌜ r ≡ rowRefusal (now (chunk .entry)) (labelWords wide) o first second block inside w v ⌝ }
 {
-    let count = inside.x;
-    let mut u = 0u32;
-    while u < count {
-        let k = place_refusal(chunk, wide, o, first, second, block, w, v, u);
-        if 0 < k {
-            return k;
-        }
-        u += 1;
-    }
-    0
+    let high = linear(v, block.y, w);
+    run_refusal(
+        chunk,
+        wide,
+        o,
+        first,
+        second,
+        block.x as u64,
+        high,
+        inside.x,
+        limit,
+    )
 }
 
 fn layer_refusal(
@@ -94,16 +121,18 @@ fn layer_refusal(
     second: u64,
     block: Extents,
     inside: Extents,
+    limit: u64,
     w: u32,
 ) -> u8
     requires { ⌜ Header o first second ⌝ }
-    requires { ⌜ 0 < block .x ⌝ }
+    requires { ⌜ Reached (now chunk) o first second block inside ⌝ }
+    requires { ⌜ (0 < inside .x) × (limit ≡ wholeEntries (now chunk) (labelWords wide) (o + tableIn first)) × (w < inside .z) ⌝ }
     ensures { λ r. ⌜ r ≡ layerRefusal (now (chunk .entry)) (labelWords wide) o first second block inside w ⌝ }
 {
     let count = inside.y;
     let mut v = 0u32;
     while v < count {
-        let k = row_refusal(chunk, wide, o, first, second, block, inside, w, v);
+        let k = row_refusal(chunk, wide, o, first, second, block, inside, limit, w, v);
         if 0 < k {
             return k;
         }
@@ -120,15 +149,17 @@ fn voxels_refusal(
     second: u64,
     block: Extents,
     inside: Extents,
+    limit: u64,
 ) -> u8
     requires { ⌜ Header o first second ⌝ }
-    requires { ⌜ 0 < block .x ⌝ }
+    requires { ⌜ Reached (now chunk) o first second block inside ⌝ }
+    requires { ⌜ (0 < inside .x) × (limit ≡ wholeEntries (now chunk) (labelWords wide) (o + tableIn first)) ⌝ }
     ensures { λ r. ⌜ r ≡ voxelsRefusal (now (chunk .entry)) (labelWords wide) o first second block inside ⌝ }
 {
     let count = inside.z;
     let mut w = 0u32;
     while w < count {
-        let k = layer_refusal(chunk, wide, o, first, second, block, inside, w);
+        let k = layer_refusal(chunk, wide, o, first, second, block, inside, limit, w);
         if 0 < k {
             return k;
         }
@@ -154,8 +185,8 @@ fn inside_of(shape: Shape, n: u64) -> Extents
     }
 }
 
-// All entries that values of this width could name are whole, and so is the last packed word: no voxel of the block is refused, and none need be asked.
-fn is_sure(
+// The packed word of the last voxel inside is whole; otherwise that voxel is refused.
+fn is_reached(
     chunk: &[u8],
     wide: bool,
     o: u64,
@@ -166,20 +197,22 @@ fn is_sure(
 ) -> bool
     requires { ⌜ Header o first second ⌝ }
     requires { ⌜ (0 < widthIn first) × (0 < block .x) × (0 < inside .x) × (0 < inside .y) × (0 < inside .z) ⌝ }
-    ensures { λ r. ⌜ (r ≡ true → 0 ≡ voxelsRefusal (now (chunk .entry)) (labelWords wide) o first second block inside) ⌝ }
+    ensures { λ r. ⌜ (r ≡ true → Reached (now (chunk .entry)) o first second block inside) ⌝ }
+    ensures { λ r. ⌜ (r ≡ false → 28 ≡ voxelsRefusal (now (chunk .entry)) (labelWords wide) o first second block inside) ⌝ }
 {
-    let width = first / 16777216;
-    if words(chunk) < entry_word(wide, o + first % 16777216, two_to(width)) {
-        return false;
-    }
     let last = Far {
         low: (inside.x - 1) as u64,
         step: block.x as u64,
         high: linear(inside.y - 1, block.y, inside.z - 1),
     };
-    is_below(o + second, packed_word(32 / width, last), words(chunk))
+    is_below(
+        o + second,
+        packed_word(32 / (first / 16777216), last),
+        words(chunk),
+    )
 }
 
+// Where all entries that values of this width could name are whole, none need be asked for.
 fn packed_refusal(
     chunk: &[u8],
     wide: bool,
@@ -193,10 +226,14 @@ fn packed_refusal(
     requires { ⌜ (0 < widthIn first) × (0 < block .x) × (0 < inside .x) × (0 < inside .y) × (0 < inside .z) ⌝ }
     ensures { λ r. ⌜ r ≡ voxelsRefusal (now (chunk .entry)) (labelWords wide) o first second block inside ⌝ }
 {
-    if is_sure(chunk, wide, o, first, second, block, inside) {
+    if !is_reached(chunk, wide, o, first, second, block, inside) {
+        return 28;
+    }
+    let limit = whole_entries(chunk, wide, o + first % 16777216);
+    if two_to(first / 16777216) <= limit {
         return 0;
     }
-    voxels_refusal(chunk, wide, o, first, second, block, inside)
+    voxels_refusal(chunk, wide, o, first, second, block, inside, limit)
 }
 
 // Block n. At width 0 each voxel has the table's first entry.
@@ -238,35 +275,35 @@ fn channel_refusal(chunk: &[u8], shape: Shape, o: u64, count: u64) -> u8
     0
 }
 
-// A channel at the place of the one before it has the same blocks.
-fn other_channel(chunk: &[u8], shape: Shape, last: u64, o: u64, count: u64) -> u8
+// A channel at the place of one that was looked at has the same blocks.
+fn other_channel(chunk: &[u8], shape: Shape, known: bool, o: u64, count: u64) -> u8
     requires { ⌜ (noVoxels shape ≡ false) × (count ≡ blockCount shape) ⌝ }
     requires { ⌜ (o < 2 ^ 32) × (greatest (headerRefusal (now chunk) o) count ≡ 0) ⌝ }
-    requires { ⌜ (last ≡ o → 0 ≡ greatest (blockRefusal (now chunk) shape o) count) ⌝ }
+    requires { ⌜ (known ≡ true → 0 ≡ greatest (blockRefusal (now chunk) shape o) count) ⌝ }
     ensures { λ r. ⌜ r ≡ greatest (blockRefusal (now (chunk .entry)) shape o) count ⌝ }
 {
-    if last == o {
+    if known {
         return 0;
     }
     channel_refusal(chunk, shape, o, count)
 }
 
 // The blocks of a chunk whose headers are all whole and have widths.
-pub fn blocks_refusal(chunk: &[u8], shape: Shape) -> u8
-    requires { ⌜ (noVoxels shape ≡ false) × (headersRefusal (now chunk) shape ≡ 0) ⌝ }
+pub fn blocks_refusal(chunk: &[u8], shape: Shape, seen: &mut [u64]) -> u8
+    requires { ⌜ (noVoxels shape ≡ false) × (headersRefusal (now chunk) shape ≡ 0) × Blank (now seen) ⌝ }
     ensures { λ r. ⌜ r ≡ blocksRefusal (now (chunk .entry)) shape ⌝ }
 {
     let count = block_count(shape, words(chunk) / 2 + 1);
     let n = shape.channels;
-    let mut last = 4294967296u64;
     let mut c = 0u32;
     while c < n {
         let o = word_at(chunk, c as u64);
-        let k = other_channel(chunk, shape, last, o, count);
+        let known = is_seen(seen, o);
+        let k = other_channel(chunk, shape, known, o, count);
         if 0 < k {
             return k;
         }
-        last = o;
+        see(seen, o);
         c += 1;
     }
     0

@@ -1,10 +1,13 @@
 // The refusal of a chunk's headers and channel offsets.
 ghost use mathlib.Core.Path.{_≡_};
-ghost use mathlib.Core.Bool.{false};
+ghost use mathlib.Core.Bool.{true, false};
 ghost use Prim.Native.Nat.{_+_, _/_, _<_, _≤_, _^_, min, max};
 ghost use lib.ListN.{length};
 ghost use Rattle.segmentation.specs.Layout.{noVoxels};
 ghost use Rattle.readable.specs.Checks.{blockCount, headerRefusal, channelHeaders, headersRefusal, greatest};
+ghost use Rattle.readable.specs.Seen.{Blank};
+use crate::seen::is_seen;
+use crate::seen::see;
 use grid::inner::grid_size;
 use segmentation::Shape;
 use segmentation::inner::is_width;
@@ -66,46 +69,46 @@ fn greater(a: u8, b: u8) -> u8
     if a < b { b } else { a }
 }
 
-// The greatest yet, and that of the channel at word o; the channel before it was at word `last`.
-fn with_channel(chunk: &[u8], worst: u8, last: u64, o: u64, count: u64) -> u8
+// The greatest yet, and that of the channel at word o, unless such a channel was looked at before.
+fn with_channel(chunk: &[u8], worst: u8, known: bool, o: u64, count: u64) -> u8
     requires { ⌜ (o < 2 ^ 32) × (count ≤ length (now chunk) / 4 + 1) ⌝ }
-    requires { ⌜ (last ≡ o → greatest (headerRefusal (now chunk) o) count ≤ worst) ⌝ }
+    requires { ⌜ (known ≡ true → greatest (headerRefusal (now chunk) o) count ≤ worst) ⌝ }
     ensures { λ r. ⌜ r ≡ max worst (greatest (headerRefusal (now (chunk .entry)) o) count) ⌝ }
 {
-    if last == o {
+    if known {
         return worst;
     }
     greater(worst, headers_at(chunk, o, count))
 }
 
-// The headers of the first n channels, whose offsets are whole. 29 ends the walk; channels one after another at one place are looked at once.
-fn headers_of(chunk: &[u8], count: u64, n: u64) -> u8
-    requires { ⌜ (count ≤ length (now chunk) / 4 + 1) × (n ≤ length (now chunk) / 4) ⌝ }
+// The headers of the first n channels, whose offsets are whole. 29 ends the walk; channels at one place are looked at once.
+fn headers_of(chunk: &[u8], count: u64, n: u64, seen: &mut [u64]) -> u8
+    requires { ⌜ (count ≤ length (now chunk) / 4 + 1) × (n ≤ length (now chunk) / 4) × Blank (now seen) ⌝ }
     ensures { λ r. ⌜ r ≡ greatest (channelHeaders (now (chunk .entry)) count) n ⌝ }
 {
     let mut worst = 0u8;
-    let mut last = 4294967296u64;
     let mut c = 0u64;
     while c < n {
         let o = word_at(chunk, c);
-        worst = with_channel(chunk, worst, last, o, count);
+        let known = is_seen(seen, o);
+        worst = with_channel(chunk, worst, known, o, count);
         if worst == 29 {
             return 29;
         }
-        last = o;
+        see(seen, o);
         c += 1;
     }
     worst
 }
 
-pub fn headers_refusal(chunk: &[u8], shape: Shape) -> u8
-    requires { ⌜ noVoxels shape ≡ false ⌝ }
+pub fn headers_refusal(chunk: &[u8], shape: Shape, seen: &mut [u64]) -> u8
+    requires { ⌜ (noVoxels shape ≡ false) × Blank (now seen) ⌝ }
     ensures { λ r. ⌜ r ≡ headersRefusal (now (chunk .entry)) shape ⌝ }
 {
     let whole = words(chunk);
     let count = block_count(shape, whole / 2 + 1);
     if whole < shape.channels as u64 {
-        return greater(headers_of(chunk, count, whole), 28);
+        return greater(headers_of(chunk, count, whole, seen), 28);
     }
-    headers_of(chunk, count, shape.channels as u64)
+    headers_of(chunk, count, shape.channels as u64, seen)
 }

@@ -4,8 +4,11 @@ ghost use mathlib.Core.Bool.{false};
 ghost use Rattle.segmentation.specs.Layout.{noVoxels};
 ghost use Rattle.readable.specs.Voxels.{chunkRefusal};
 ghost use Rattle.readable.specs.Checks.{span};
+ghost use Rattle.readable.specs.Seen.{Blank};
 use crate::blocks::blocks_refusal;
 use crate::headers::headers_refusal;
+use crate::seen::MAP_WORDS;
+use crate::seen::clear;
 use segmentation::Shape;
 use segmentation::inner::linear;
 
@@ -24,14 +27,23 @@ pub fn span_of(extent: u32, block: u32, g: u32) -> u32
     block
 }
 
-// What refuses the whole chunk, or 0.
+fn refusal_with(chunk: &[u8], shape: Shape, seen: &mut [u64]) -> u8
+    requires { ⌜ (noVoxels shape ≡ false) × Blank (now seen) ⌝ }
+    ensures { λ r. ⌜ r ≡ chunkRefusal (now (chunk .entry)) shape ⌝ }
+{
+    let k = headers_refusal(chunk, shape, seen);
+    if 0 < k {
+        return k;
+    }
+    clear(seen);
+    blocks_refusal(chunk, shape, seen)
+}
+
+// What refuses the whole chunk, or 0. One map of 32 KiB serves both walks over the channels.
 pub fn chunk_refusal(chunk: &[u8], shape: Shape) -> u8
     requires { ⌜ noVoxels shape ≡ false ⌝ }
     ensures { λ r. ⌜ r ≡ chunkRefusal (now (chunk .entry)) shape ⌝ }
 {
-    let k = headers_refusal(chunk, shape);
-    if 0 < k {
-        return k;
-    }
-    blocks_refusal(chunk, shape)
+    let mut seen = [0u64; MAP_WORDS];
+    refusal_with(chunk, shape, &mut seen)
 }

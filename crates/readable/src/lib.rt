@@ -2,3 +2,4 @@
 mod blocks;
 mod headers;
 pub mod inner;
+mod seen;

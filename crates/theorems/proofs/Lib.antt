@@ -7,3 +7,4 @@ pub mod Pairs
 pub mod Intake
 pub mod Shortest
 pub mod Holdings
+pub mod Labels

@@ -6,3 +6,4 @@ pub mod Pairs
 pub mod Intake
 pub mod Shortest
 pub mod Holdings
+pub mod Labels

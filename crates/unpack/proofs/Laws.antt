@@ -28,12 +28,12 @@ use Rattle.unpack.proofs.Places.{label-place}
 
 -- ---- answers turned into numbers
 
-length-none : (k a n : ℕ) → unless Refused k (Length a) ≡ Length n → k ≡ 0
+pub length-none : (k a n : ℕ) → unless Refused k (Length a) ≡ Length n → k ≡ 0
 unfolding unless
 length-none zero a n e = refl
 length-none (suc k) a n e = let z : _≡_ {A = ℕ} 0 1 = cc in absurd (omega arith)
 
-refused-number : (k a n : ℕ) → unless Refused k (Length a) ≡ Refused n → k ≡ n
+pub refused-number : (k a n : ℕ) → unless Refused k (Length a) ≡ Refused n → k ≡ n
 unfolding unless
 refused-number zero a n e = let z : _≡_ {A = ℕ} 0 1 = cc in absurd (omega arith)
 refused-number (suc k) a n e = cc

@@ -5,3 +5,4 @@ pub mod Wholes
 pub mod Entry
 pub mod Places
 pub mod Laws
+pub mod Lengths

@@ -71,7 +71,7 @@ module _ (s : List ℕ) (sh : Shape) where
 -- ---- room
 
 module _ (sh : Shape) (h : noVoxels sh ≡ false) where
-  bytes-are : allBytes sh ≡ sh .extents .z * sh .channels * (sh .extents .x * sh .extents .y) * labelBytes sh
+  pub bytes-are : allBytes sh ≡ sh .extents .z * sh .channels * (sh .extents .x * sh .extents .y) * labelBytes sh
   bytes-are =
       let x = sh .extents .x in
       let y = sh .extents .y in

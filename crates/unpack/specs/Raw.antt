@@ -1,6 +1,7 @@
 -- A whole chunk unpacked to the raw form of source 000: "labels little-endian, x fastest, then y, z, channel" (02, order 14).
-use Prim.Native.Nat.{ℕ, zero, suc, _*_}
+use Prim.Native.Nat.{ℕ, zero, suc, _*_, _^_}
 use mathlib.Core.List.{List, [], _∷_, _++_}
+use lib.Dec.{leb}
 use lib.ListN.{length}
 use Rattle.refusal.specs.Checks.{Check, check, answered, left}
 use Rattle.refusal.specs.Buffer.{room, over}
@@ -56,3 +57,16 @@ unpackAnswer s sh out = answered Refused (unpackChecks s sh out) (Length (length
 -- the raw form and, past it, what was there; refused, all that was there
 unfoldable pub unpackLeft : List ℕ → Shape → List ℕ → List ℕ
 unpackLeft s sh out = left (unpackChecks s sh out) (over (rawForm s sh) out) out
+
+-- ---- the unpacked length, by the shape alone
+
+-- as many labels as voxels and channels, each of so many bytes
+unfoldable pub unpackedBytes : Shape → ℕ
+unpackedBytes sh = labelBytes sh * (sh .extents .x * (sh .extents .y * (sh .extents .z * sh .channels)))
+
+-- 13: "the output is too short for the whole answer", here each output, whose length is a number of 64 bits
+unfoldable pub lengthChecks : Shape → List Check
+lengthChecks sh = check 2 (noVoxels sh) ∷ check 13 (leb (2 ^ 64) (unpackedBytes sh)) ∷ []
+
+unfoldable pub lengthAnswer : Shape → Written
+lengthAnswer sh = answered Refused (lengthChecks sh) (Length (unpackedBytes sh))

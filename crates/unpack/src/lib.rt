@@ -1,6 +1,6 @@
 // The labels inside a chunk, in the compressed segmentation encoding: a whole chunk unpacked to the raw form.
 ghost use mathlib.Core.Path.{_≡_};
-ghost use Rattle.unpack.specs.Raw.{unpackAnswer, unpackLeft};
+ghost use Rattle.unpack.specs.Raw.{lengthAnswer, unpackAnswer, unpackLeft};
 use readable::inner::chunk_refusal;
 use refusal::Written;
 use segmentation::Shape;
@@ -25,4 +25,17 @@ pub fn unpack(chunk: &[u8], shape: Shape, out: &mut [u8]) -> Written
         return Written::Refused(13);
     }
     Written::Length(raw::put_all(chunk, shape, out))
+}
+
+// How many bytes the raw form of a chunk has, whatever the chunk holds: 2 where there is no voxel, 13 where the number does not fit 64 bits.
+pub fn unpacked_length(shape: Shape) -> Written
+    ensures answer { λ r. ⌜ r ≡ lengthAnswer shape ⌝ }
+{
+    if has_none(shape) {
+        return Written::Refused(2);
+    }
+    if !raw::has_room(shape, 18446744073709551615) {
+        return Written::Refused(13);
+    }
+    Written::Length(raw::all_bytes(shape))
 }

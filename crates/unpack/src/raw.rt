@@ -290,3 +290,15 @@ pub fn has_room(shape: Shape, len: usize) -> bool
     let layers = linear(0, extents.z, shape.channels);
     layers <= room / layer
 }
+
+// How many bytes the raw form has, where that is a number of 64 bits.
+pub fn all_bytes(shape: Shape) -> usize
+    requires { ⌜ noVoxels shape ≡ false ⌝ }
+    requires { ⌜ allBytes shape < 2 ^ 64 ⌝ }
+    ensures { λ r. ⌜ r ≡ allBytes shape ⌝ }
+{
+    let extents = shape.extents;
+    let layer = linear(0, extents.x, extents.y);
+    let layers = linear(0, extents.z, shape.channels);
+    (label_bytes(shape.wide) * (layer * layers)) as usize
+}

@@ -6,7 +6,7 @@
 //! limit. Both sides do the same work with the same tests, and must give the
 //! same answers. Words on the command line choose the measures whose group has
 //! one of them: key, cover, place, shard, pair, intake, mesh, card, info, manifest,
-//! locate, desk.
+//! label, locate, desk.
 
 mod cards;
 mod clock;
@@ -14,6 +14,7 @@ mod desk;
 mod infos;
 mod intakes;
 mod keys;
+mod labels;
 mod locating;
 mod manifests;
 mod meshes;
@@ -23,7 +24,7 @@ mod runner;
 mod shards;
 
 /// The groups of measures, by the word that chooses them.
-const GROUPS: [(&str, fn()); 12] = [
+const GROUPS: [(&str, fn()); 13] = [
     ("key", keys::run_all),
     ("cover", places::run_covers),
     ("place", places::run_places),
@@ -34,6 +35,7 @@ const GROUPS: [(&str, fn()); 12] = [
     ("card", cards::run),
     ("info", infos::run),
     ("manifest", manifests::run),
+    ("label", labels::run),
     ("locate", locating::run),
     ("desk", desk::run),
 ];

@@ -95,6 +95,9 @@ pub const PARTS: &[Part] = &[
     parts::manifest::MANIFEST_NODES,
     parts::manifest::MANIFEST_ALL_NODES,
     parts::manifest::MANIFEST_CORNERS,
+    parts::labels::LABEL,
+    parts::labels::UNPACKED_LENGTH,
+    parts::labels::UNPACK,
 ];
 
 #[cfg(test)]

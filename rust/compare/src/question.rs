@@ -5,10 +5,11 @@
 //! meant: as it stands, or as a choice among what the other numbers or the file
 //! allow, so that any bytes ask deep questions as well. With that byte, a
 //! specification takes 5 bytes, one of any kind 6, a volume 37, a cell 13, a
-//! corner of a box 25, a number 9 and the length of an output 3. A wish to drop
-//! unlisted bytes is a byte, odd where it is one.
+//! corner of a box 25, a layout of labels 30, a number 9 and the length of an
+//! output 3. A wish to drop unlisted bytes is a byte, odd where it is one.
 
 use reference::grid::{grid_size, key_bits, key_of, Cell, Volume};
+use reference::labels::Layout;
 use reference::sharding::{Sharding, MESH, MOST_MINISHARD_BITS, VOLUME};
 use testkit::{manifests, shards, Rng};
 
@@ -44,6 +45,26 @@ impl<'a> Reader<'a> {
 
     fn words(&mut self) -> [u32; 3] {
         std::array::from_fn(|_| u32::from_le_bytes(self.take()))
+    }
+
+    /// Four numbers of 32 bits.
+    pub fn four(&mut self) -> [u32; 4] {
+        std::array::from_fn(|_| u32::from_le_bytes(self.take()))
+    }
+
+    /// A layout of labels as it stands, or brought to a few voxels.
+    pub fn layout(&mut self) -> Layout {
+        let kind = self.byte();
+        let brought = |number: u32, limit: u32| match kind % 2 {
+            1 => 1 + number % limit,
+            _ => number,
+        };
+        Layout {
+            size: self.words().map(|extent| brought(extent, 9)),
+            block: self.words().map(|extent| brought(extent, 5)),
+            channels: brought(u32::from_le_bytes(self.take()), 3),
+            wide: self.byte() % 2 == 1,
+        }
     }
 
     /// A specification of a volume, as it stands or brought into its limits.
@@ -181,6 +202,18 @@ impl Writer {
             .words(volume.size)
             .words(volume.chunk)
             .words(volume.offset.map(|number| number as u32))
+    }
+
+    pub fn four(self, numbers: [u32; 4]) -> Self {
+        self.rest(&numbers.map(u32::to_le_bytes).concat())
+    }
+
+    pub fn layout(self, layout: &Layout) -> Self {
+        self.byte(0)
+            .words(layout.size)
+            .words(layout.block)
+            .rest(&layout.channels.to_le_bytes())
+            .byte(layout.wide.into())
     }
 
     pub fn spot(self, spot: Spot) -> Self {

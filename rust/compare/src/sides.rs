@@ -2,7 +2,9 @@
 //! from here.
 
 use coronagamba::manifest::Node;
-use coronagamba::{Card, Cell, Extents, Place, Point, Refusal, Sharding, Unlisted, Volume};
+use coronagamba::{
+    Card, Cell, Extents, LabelBits, LabelShape, Place, Point, Refusal, Sharding, Unlisted, Volume,
+};
 
 /// A volume.
 pub fn volume(volume: &reference::grid::Volume) -> Volume {
@@ -33,6 +35,16 @@ pub fn sharding(sharding: &reference::sharding::Sharding) -> Sharding {
         shard_bits: sharding.shard_bits,
         kind: sharding.kind,
     }
+}
+
+/// How a chunk's labels are laid out.
+pub fn labels(layout: &reference::labels::Layout) -> LabelShape {
+    let bits = if layout.wide {
+        LabelBits::B64
+    } else {
+        LabelBits::B32
+    };
+    LabelShape::new(layout.size, layout.block, layout.channels, bits)
 }
 
 /// What is to become of unlisted bytes.

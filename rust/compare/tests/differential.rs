@@ -127,6 +127,9 @@ quick! {
     manifest_nodes: 100_000,
     manifest_all_nodes: 50_000,
     manifest_corners: 100_000,
+    label: 200_000,
+    unpacked_length: 200_000,
+    unpack: 60_000,
 }
 
 /// The number in a variable, where it is set.

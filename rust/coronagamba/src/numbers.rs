@@ -42,7 +42,9 @@ impl Refusal {
     /// above 32, or a kind that is neither volume nor mesh; at an intake also the kind mesh.
     pub const SHARDING_NOT_ALLOWED: u8 = 1;
 
-    /// A volume or chunk extent is 0, or a cell coordinate is not below its grid size.
+    /// A volume or chunk extent is 0, or a cell coordinate is not below its grid size; in a chunk
+    /// of labels also where a block size or the channel count is 0, or a voxel or channel is
+    /// outside.
     pub const NO_SUCH_CELL: u8 = 2;
 
     /// A key is made or decoded, or a card read or written, or an info file read, and the grid
@@ -81,7 +83,8 @@ impl Refusal {
     /// The output is too short for the whole answer, or a settled form would exceed 1,073,741,824
     /// bytes; at an intake, on opening or announcing, the settled form of all announced so far,
     /// this chunk included, would pass the output or 1,073,741,824 bytes, or the second buffer has
-    /// no 16 bytes left for it.
+    /// no 16 bytes left for it; asked for an unpacked length, also where it does not fit 64 bits,
+    /// so that no output can have the room.
     pub const NO_ROOM: u8 = 13;
 
     /// The card is malformed.
@@ -139,6 +142,13 @@ impl Refusal {
     /// A total of the holdings sheet would pass 2^64 - 1, and the sheet stays as before that shard;
     /// of one shard's measure, the sizes of its chunks together pass it.
     pub const TOTAL_TOO_LARGE: u8 = 27;
+
+    /// In a chunk of labels, a channel offset, header, packed 32-bit word or table entry to be read
+    /// is not whole in the chunk; at width 0 no packed word is read.
+    pub const LABELS_CUT_OFF: u8 = 28;
+
+    /// In a chunk of labels, a whole header has a packed width other than 0, 1, 2, 4, 8, 16 or 32.
+    pub const LABEL_WIDTH: u8 = 29;
 
     /// At an intake, after opening, a lent buffer has another length than then.
     pub const INTAKE_BUFFERS: u8 = 30;
@@ -224,6 +234,14 @@ pub(crate) const SENTENCES: &[(u8, &str)] = &[
         "The part is longer than what is still owed, or bytes are owed.",
     ),
     (27, "A total would pass 2^64 - 1."),
+    (
+        28,
+        "Something that is to be read for a label is not whole in the chunk.",
+    ),
+    (
+        29,
+        "A block header has a packed width other than 0, 1, 2, 4, 8, 16 or 32 bits.",
+    ),
     (
         30,
         "A buffer has another length than when the shard was opened.",

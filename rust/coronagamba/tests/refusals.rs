@@ -2,8 +2,8 @@
 
 use coronagamba::intake::State;
 use coronagamba::{
-    Card, Half, Held, Intake, Manifest, Pair, Refusal, Shard, Sharding, Sheet, Span, Unlisted,
-    Volume,
+    Card, Half, Held, Intake, LabelBits, LabelShape, Labels, Manifest, Pair, Refusal, Shard,
+    Sharding, Sheet, Span, Unlisted, Volume,
 };
 use std::error::Error;
 
@@ -103,6 +103,13 @@ fn intake(calls: impl Fn(&mut Intake) -> Result<(), Refusal>) -> Result<(), Refu
     calls(&mut Intake::open(TWO, 0, &mut out, &mut waiting)?)
 }
 
+/// Asks for the one label of a chunk of these words.
+fn label(words: &[u32]) -> Result<(), Refusal> {
+    let shape = LabelShape::new([1; 3], [1; 3], 1, LabelBits::B32);
+    let chunk = items(words);
+    Labels::open(shape, &chunk).label(0, 0, 0, 0).map(|_| ())
+}
+
 /// A call that gives the refusal of this number.
 fn refused(number: u8) -> Refusal {
     let grid = |size: [u32; 3]| Volume::new(size, [1; 3], [0; 3]);
@@ -146,6 +153,8 @@ fn refused(number: u8) -> Refusal {
         }),
         26 => intake(|intake| intake.announce(5, 2)?.part(b"abc")),
         27 => Sheet::from_rows([u64::MAX; 17]).add(&Shard::open(TWO, 0, &[0; 32])),
+        28 => label(&[1, 2, 0]),
+        29 => label(&[1, 3 << 24, 0]),
         30 => {
             let mut out = [0; 32];
             let opened = State::open(TWO, 0, &mut out, &[]);
@@ -433,4 +442,5 @@ fn values_go_between_threads() {
     is_shared::<coronagamba::manifest::Nodes>();
     is_shared::<Intake>();
     is_shared::<State>();
+    is_shared::<Labels>();
 }

@@ -1,7 +1,8 @@
 //! How much stack a call needs: what the header says is enough.
 
 use coronagamba::{
-    Bounds, Card, Intake, Manifest, Pair, Shard, Sharding, Sheet, Unlisted, Volume,
+    Bounds, Card, Intake, LabelBits, LabelShape, Labels, Manifest, Pair, Shard, Sharding, Sheet,
+    Unlisted, Volume,
 };
 use std::thread;
 
@@ -242,6 +243,30 @@ fn calls() {
     assert!(manifest.node(0, 0).is_ok() && manifest.corners(0, 0).is_ok());
 }
 
+/// The calls on a chunk of labels: one of 64 by 64 by 64 voxels, with room and
+/// without.
+fn label_calls() {
+    let blocks = 8 * 8 * 8;
+    let values: u32 = 2 * blocks;
+    // All blocks share their values, which are 0, and their table.
+    let mut words = vec![1];
+    words.extend([(4 << 24) + values + 64, values].repeat(blocks as usize));
+    words.extend([0; 64]);
+    words.push(5);
+    let chunk: Vec<u8> = words.iter().flat_map(|word| word.to_le_bytes()).collect();
+    let labels = Labels::open(LabelShape::new([64; 3], [8; 3], 1, LabelBits::B32), &chunk);
+    assert_eq!(labels.label(63, 62, 61, 0), Ok(5));
+    assert_eq!(labels.unpack(&mut []).unwrap_err().number, 13);
+    let raw = labels.unpacked().expect("all labels are there");
+    assert!(raw == 5u32.to_le_bytes().repeat(64 * 64 * 64));
+    let refused = |chunk| {
+        Labels::open(labels.shape(), chunk)
+            .unpack(&mut [])
+            .unwrap_err()
+    };
+    assert_eq!(refused(&chunk[..chunk.len() - 1]).number, 28);
+}
+
 /// Runs this in a thread with as much stack.
 fn within(stack: usize, calls: impl FnOnce() + Send + 'static) {
     let thread = thread::Builder::new().stack_size(stack).spawn(calls);
@@ -255,6 +280,7 @@ fn a_small_stack_is_enough() {
     within(STACK, intake_calls);
     within(STACK, || judging_calls(1_000));
     within(STACK, mesh_calls);
+    within(STACK, label_calls);
 }
 
 /// By the filter, and by the passes.

@@ -36,6 +36,34 @@ macro_rules! volume {
     };
 }
 
+/// The options that say how the labels of a chunk are laid out.
+macro_rules! layout {
+    () => {
+        "  --block X,Y,Z       a block's extents in voxels, in an info file
+                      compressed_segmentation_block_size
+  --channels N        how many channels there are, in an info file num_channels
+  --bits N            32 or 64, the bits of a label, in an info file data_type
+"
+    };
+}
+
+/// The option of the channel.
+macro_rules! channel {
+    () => {
+        "  --channel N         the channel asked for, from 0; 0 where it is not given
+"
+    };
+}
+
+/// The option for JSON, of labels.
+macro_rules! label_json {
+    () => {
+        "  --json              one JSON object a line; labels are exact numbers, which
+                      some readers round above 2^53
+"
+    };
+}
+
 /// The option of the shard number.
 macro_rules! shard {
     () => {
@@ -70,7 +98,8 @@ shards
   pack       write shards from loose chunk files
   same       do two shards or two deposits hold the same chunks?
   holdings   the yearly sheet: shards sound and refused, chunks and bytes
-  get        the bytes of one chunk, or of one fragment of a mesh
+  get        the bytes of one chunk, or of one fragment of a mesh; or the label
+             of a voxel
   list       all chunks of a shard with their places
   range      bytes of a shard's two files of the earlier edition, as one file
 cells
@@ -81,6 +110,9 @@ cells
 cards and manifests
   card       make, show and check deposit cards
   manifest   show and check mesh manifests, look at one node
+labels inside a chunk
+  label      the labels of single voxels
+  labels     all labels, in the raw form
 help
   explain    what a refusal number means and what to do
   sample     make a small deposit to try all this on
@@ -364,10 +396,12 @@ example:
 /// `get`.
 pub const GET: &str = concat!(
     "\
-Writes the bytes of one chunk, or of one fragment of a mesh.
+Writes the bytes of one chunk, or of one fragment of a mesh. Or tells the label
+of one voxel.
 
 usage: coronagamba get PATH ID [OPTIONS]
        coronagamba get PATH --cell X,Y,Z [OPTIONS]
+       coronagamba get PATH --voxel X,Y,Z [--label] [OPTIONS]
        coronagamba get PATH ID --fragment LEVEL,NODE [OPTIONS]
 
 PATH is a shard file, or the folder of a deposit: then the id's shard file is
@@ -379,13 +413,30 @@ judged. An id that is not listed is refused with 12: the chunk is absent. The
 id of a mesh's chunk is the number of a net, and the chunk is its manifest; a
 level or node that the manifest does not have is refused with 18.
 
+--voxel asks for the chunk that has this voxel, the volume's offset included;
+a voxel outside the volume has none, which is said. With --label the chunk is
+read in the compressed segmentation encoding, and the voxel's label is printed:
+the number of its net. An info file says how labels are laid out; beside a card
+and beside an info file that does not say it, options do. A chunk of which
+something that is to be read is missing is refused with 28, one with another
+width in the block's header with 29.
+
 ",
     sharding!(),
     kind!(),
     volume!(),
+    "and with --label, where no info file says it:
+",
+    layout!(),
     "
 options:
   --cell X,Y,Z        ask for a cell of a volume, counted in chunks from 0
+  --voxel X,Y,Z       ask for the cell of this voxel
+  --label             print the voxel's label in place of the chunk
+",
+    channel!(),
+    "  --json              with --label, one JSON object; labels are exact numbers,
+                      which some readers round above 2^53
   --fragment LEVEL,NODE
                       write the fragment of this node in place of the manifest;
                       both are counted from 0
@@ -395,14 +446,16 @@ options:
 ",
     shard!(),
     "
-exit status: 0 the bytes are written; 1 refused or absent, or the deposit lacks
-the id's shard file, half its pair, or has both editions; 2 wrong use, or the
-output exists; 3 a file cannot be read or written.
+exit status: 0 the bytes are written or the label is printed; 1 refused or
+absent, the voxel is outside, or the deposit lacks the id's shard file, half its
+pair, or has both editions; 2 wrong use, or the output exists; 3 a file cannot
+be read or written.
 
 example:
   coronagamba get demo/copy-a --cell 1,2,1 --card demo/deposit.card
   coronagamba get demo/copy-a/5.shard 21 --out chunk --card demo/deposit.card
   coronagamba get demo/mesh-a 17 --fragment 0,1 --card demo/mesh.card
+  coronagamba get demo/labels --voxel 7,12,3 --label --info demo/labels.info --scale 0
 ",
 );
 
@@ -808,6 +861,78 @@ example:
 ",
 );
 
+/// `label`.
+pub const LABEL: &str = concat!(
+    "\
+Tells the labels of single voxels of a chunk in the compressed segmentation
+encoding.
+
+usage: coronagamba label CHUNK X,Y,Z... [OPTIONS]
+
+CHUNK is the file of one chunk, as 'get --out' writes it. Voxels count from 0 in
+the chunk. A line for each voxel, its label; that of a refused one is 'refused
+N', that of a word that is no voxel is 'wrong', and standard error says why. A
+voxel outside the chunk is refused with 2; 28 where a channel offset, block
+header, packed word or table entry that is to be read is not whole in the chunk,
+29 where the block's header has another width than 0, 1, 2, 4, 8, 16 or 32. From
+a deposit, 'get --voxel X,Y,Z --label' goes the whole way.
+
+settings, which are never assumed:
+  --size X,Y,Z        the chunk's extents in voxels; at the upper faces of the
+                      volume what is left of it, as 'cell' tells
+",
+    layout!(),
+    "
+options:
+",
+    channel!(),
+    label_json!(),
+    "
+exit status: 0 all are told; 1 one is refused; 2 wrong use, or one is no voxel;
+3 the chunk cannot be read.
+
+example:
+  coronagamba label demo/labels.chunk 0,0,0 15,12,3 --size 16,16,16 \\
+    --block 8,8,8 --channels 1 --bits 64
+",
+);
+
+/// `labels`.
+pub const LABELS: &str = concat!(
+    "\
+Unpacks a chunk in the compressed segmentation encoding to the raw form: all
+labels, little-endian, by rising x, then y, z and channel.
+
+usage: coronagamba labels CHUNK --out RAW [OPTIONS]
+
+CHUNK is the file of one chunk, as 'get --out' writes it. It is refused with 29
+where 'label' would give that for any voxel, else with 28 where it would give
+that for any. RAW is written beside its place and gets its name only when it is
+whole; one that is there with the same bytes is left. CHUNK is never written
+over. Memory is needed for the chunk and for the raw form; where there is not so
+much, that is said.
+
+settings, which are never assumed:
+  --size X,Y,Z        the chunk's extents in voxels; at the upper faces of the
+                      volume what is left of it, as 'cell' tells
+",
+    layout!(),
+    "
+options:
+  --out RAW           the output file
+  --force             overwrite an existing file that holds other bytes
+  --json              one JSON object
+
+exit status: 0 unpacked or already there; 1 refused; 2 wrong use, or the output
+exists with other bytes; 3 a file cannot be read or written, or there is not
+enough memory.
+
+example:
+  coronagamba labels demo/labels.chunk --out raw --size 16,16,16 \\
+    --block 8,8,8 --channels 1 --bits 64
+",
+);
+
 /// `explain`.
 pub const EXPLAIN: &str = concat!(
     "\
@@ -853,6 +978,9 @@ DIR must be missing or empty. It then has:
   mesh.card       the sharding of some nets' meshes
   mesh-a          their shards, in settled form
   mesh-b          the same nets in another layout, listed in order of arrival
+  labels.info     an info file of a volume of labels
+  labels          its shards: the numbers of the nets that voxels belong to
+  labels.chunk    one of its chunks
 
 exit status: 0 made; 2 wrong use, or DIR is not empty; 3 it cannot be written.
 

@@ -16,6 +16,7 @@ mod fragments;
 mod gather;
 mod help;
 mod json;
+mod labels;
 mod memory;
 mod naming;
 mod output;

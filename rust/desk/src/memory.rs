@@ -211,10 +211,14 @@ impl<'a> Room<'a> {
 
 /// Asks for memory for so many more bytes. An error says how many they are.
 pub fn reserve(buffer: &mut Vec<u8>, bytes: usize) -> io::Result<()> {
-    buffer.try_reserve_exact(bytes).map_err(|_| {
-        let text = format!("out of memory, {bytes} bytes are needed");
-        io::Error::new(io::ErrorKind::OutOfMemory, text)
-    })
+    let reserved = buffer.try_reserve_exact(bytes);
+    reserved.map_err(|_| lacking(bytes as u64))
+}
+
+/// What is said where so many bytes are not to be had.
+fn lacking(bytes: u64) -> io::Error {
+    let text = format!("out of memory, {bytes} bytes are needed");
+    io::Error::new(io::ErrorKind::OutOfMemory, text)
 }
 
 /// The front of a buffer, at least that long afterwards. Only what is added
@@ -225,6 +229,19 @@ pub fn front(buffer: &mut Vec<u8>, length: usize) -> io::Result<&mut [u8]> {
         buffer.resize(length, 0);
     }
     Ok(&mut buffer[..length])
+}
+
+/// Cleared memory for so many bytes, of which the system makes a page only when
+/// it is written. More than it has to give is not asked for: it might promise it
+/// all the same, and end the program later.
+pub fn cleared(bytes: u64) -> io::Result<Vec<u8>> {
+    let most = available().unwrap_or(u64::MAX);
+    let length = usize::try_from(bytes).ok().filter(|_| bytes <= most);
+    let length = length.ok_or_else(|| lacking(bytes))?;
+    // A vector of zeros ends the program where there is no memory, so it is
+    // asked for in this way first.
+    reserve(&mut Vec::new(), length)?;
+    Ok(vec![0; length])
 }
 
 /// The memory that can be had without swapping, as the system estimates it.
@@ -369,6 +386,18 @@ mod tests {
         let kind = front(&mut buffer, usize::MAX).unwrap_err().kind();
         assert_eq!(kind, io::ErrorKind::OutOfMemory);
         assert_eq!(buffer.len(), 5);
+    }
+
+    #[test]
+    fn memory_that_is_not_to_be_had() {
+        assert_eq!(cleared(9).unwrap(), [0; 9]);
+        assert!(cleared(0).unwrap().is_empty());
+        for bytes in [u64::MAX, 1 << 62, 1 << 50] {
+            let told = cleared(bytes).unwrap_err();
+            assert_eq!(told.kind(), io::ErrorKind::OutOfMemory);
+            let expected = format!("out of memory, {bytes} bytes are needed");
+            assert_eq!(told.to_string(), expected);
+        }
     }
 
     #[test]

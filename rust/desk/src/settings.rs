@@ -5,14 +5,15 @@
 //! is 0,0,0, and no kind is a volume.
 
 use std::ffi::OsStr;
-use std::path::Path;
+use std::path::{Path, PathBuf};
 
 use coronagamba::{Card, Cell, Extents, Offset, Sharding, Volume};
 
 use crate::args::{decimal, triple, value, Args, Opt, I32, U32, U8};
-use crate::diagnosis;
+use crate::diagnosis::{self, labels_of_info};
 use crate::fault::{Fault, Refused};
 use crate::files::{read_whole, MOST_BYTES};
+use crate::labels::{layout, Layout};
 use crate::report::shown;
 
 /// The options that give settings.
@@ -62,6 +63,15 @@ pub struct Settings {
 struct Given {
     sharding: Option<Sharding>,
     volume: Option<Volume>,
+    /// The info file that gives them.
+    info: Option<Info>,
+}
+
+/// An info file that was read.
+struct Info {
+    path: PathBuf,
+    scale: u64,
+    text: Vec<u8>,
 }
 
 /// A setting that `read` was told is needed. It is never assumed.
@@ -81,7 +91,22 @@ pub fn of_shards(args: &Args) -> Result<Settings, Fault> {
 /// The sharding and a volume whose cells have keys; both must be given. The
 /// shards of a mesh list nets by their numbers, so that no cell leads to one.
 pub fn of_cells(args: &Args) -> Result<(Sharding, Volume), Fault> {
+    cells_in(&read(args, &[SHARDING.as_slice(), &EXTENTS].concat())?)
+}
+
+/// The same, and how the labels in its chunks are laid out.
+pub fn of_labels(args: &Args) -> Result<(Sharding, Volume, Layout), Fault> {
     let given = read(args, &[SHARDING.as_slice(), &EXTENTS].concat())?;
+    let (sharding, volume) = cells_in(&given)?;
+    let said = given.info.map(|info| {
+        labels_of_info(&info.text, info.scale)
+            .map_err(|told| Fault::wrong_use(format!("{}: {told}", shown(&info.path))))
+    });
+    Ok((sharding, volume, layout(args, said.transpose()?)?))
+}
+
+/// The sharding and the volume of what is given.
+fn cells_in(given: &Given) -> Result<(Sharding, Volume), Fault> {
     let sharding = allowed(there(given.sharding))?;
     if is_mesh(&sharding) {
         return Err(Fault::wrong_use(
@@ -118,7 +143,7 @@ pub fn volume(args: &Args) -> Result<Volume, Fault> {
 /// judges the latter.
 pub fn for_card(args: &Args) -> Result<Card, Fault> {
     if let Some((path, scale)) = info_given(args)? {
-        return of_info(args, path, scale);
+        return of_info(args, path, scale).map(|(card, _)| card);
     }
     let hint = " (an info file gives them all: --info FILE --scale K)";
     let given = plain(args, &[SHARDING.as_slice(), &EXTENTS].concat(), hint)?;
@@ -159,9 +184,13 @@ pub fn files(args: &Args) -> impl Iterator<Item = &Path> {
 
 /// Reads the card, the info file, or the options that stand in their place.
 fn read(args: &Args, needed: &[&'static str]) -> Result<Given, Fault> {
-    let card = match (card_given(args)?, info_given(args)?) {
-        (Some(path), _) => of_card(args, path)?,
-        (None, Some((path, scale))) => of_info(args, path, scale)?,
+    let (card, info) = match (card_given(args)?, info_given(args)?) {
+        (Some(path), _) => (of_card(args, path)?, None),
+        (None, Some((path, scale))) => {
+            let (card, text) = of_info(args, path, scale)?;
+            let path = path.to_path_buf();
+            (card, Some(Info { path, scale, text }))
+        }
         (None, None) => {
             let hint =
                 " (a deposit card gives them all: --card FILE; so does an info file: --info FILE --scale K)";
@@ -171,6 +200,7 @@ fn read(args: &Args, needed: &[&'static str]) -> Result<Given, Fault> {
     Ok(Given {
         sharding: Some(card.sharding),
         volume: Some(card.volume),
+        info,
     })
 }
 
@@ -190,6 +220,7 @@ fn plain(args: &Args, needed: &[&'static str], hint: &str) -> Result<Given, Faul
     Ok(Given {
         sharding: with_sharding.then(|| sharding(args)).transpose()?,
         volume: with_volume.then(|| extents(args)).transpose()?,
+        info: None,
     })
 }
 
@@ -256,12 +287,12 @@ fn of_card(args: &Args, path: &Path) -> Result<Card, Fault> {
 }
 
 /// What an info file says of a scale, of the kind that is given; it has none
-/// itself, and without one it is a volume.
-fn of_info(args: &Args, path: &Path, scale: u64) -> Result<Card, Fault> {
+/// itself, and without one it is a volume. And the file's text.
+fn of_info(args: &Args, path: &Path, scale: u64) -> Result<(Card, Vec<u8>), Fault> {
     let kind = kind(args)?;
-    let mut card = read_info(path, scale)?;
+    let (mut card, text) = read_info(path, scale)?;
     card.sharding.kind = kind.unwrap_or(card.sharding.kind);
-    Ok(card)
+    Ok((card, text))
 }
 
 /// Reads the card of a deposit.
@@ -272,9 +303,9 @@ fn read_card(path: &Path) -> Result<Card, Fault> {
 }
 
 /// Reads the settings of a scale from an info file.
-fn read_info(path: &Path, scale: u64) -> Result<Card, Fault> {
+fn read_info(path: &Path, scale: u64) -> Result<(Card, Vec<u8>), Fault> {
     read_whole(path)
-        .and_then(|text| info_in(path, &text, scale))
+        .and_then(|text| Ok((info_in(path, &text, scale)?, text)))
         .map_err(|fault| fault.of_settings("info"))
 }
 

@@ -12,6 +12,7 @@ pub mod grid;
 pub mod info;
 pub mod intake;
 pub mod json;
+pub mod labels;
 pub mod locate;
 pub mod manifest;
 pub mod murmur;

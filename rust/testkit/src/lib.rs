@@ -8,6 +8,7 @@
 
 pub mod cards;
 pub mod infos;
+pub mod labels;
 pub mod lent;
 pub mod manifests;
 pub mod meshes;

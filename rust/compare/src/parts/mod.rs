@@ -4,6 +4,7 @@ pub mod card;
 pub mod grid;
 pub mod info;
 pub mod intake;
+pub mod labels;
 pub mod manifest;
 pub mod mesh;
 pub mod names;

@@ -767,4 +767,60 @@ extern "C" {
         near_corner: *mut [u32; 3],
         far_corner: *mut [u32; 3],
     ) -> u64;
+
+    /// The label of a voxel in a chunk of the compressed segmentation encoding. `size` and `block`
+    /// are the chunk's and its blocks' extents in voxels. Where `wide` is 1 labels have 64 bits;
+    /// any other number says 32. Voxel and channel count from 0 in the chunk. Writes the label to
+    /// `label`.
+    ///
+    /// Refusals: 2 also where a block size or the channel count is 0 or a voxel or channel is
+    /// outside, 29, 28
+    pub fn coronagamba_label(
+        chunk: *const u8,
+        count: usize,
+        size: Extents,
+        block: Extents,
+        channels: u32,
+        wide: u8,
+        x: u32,
+        y: u32,
+        z: u32,
+        channel: u32,
+        label: *mut u64,
+    ) -> u64;
+
+    /// How many bytes a chunk of labels has in the raw form, whatever it holds. `size` and `block`
+    /// are the chunk's and its blocks' extents in voxels. Where `wide` is 1 labels have 64 bits;
+    /// any other number says 32. Writes the number to `length`.
+    ///
+    /// Refusals: 2 also where a block size or the channel count is 0, 13 where the number does not
+    /// fit 64 bits
+    pub fn coronagamba_unpacked_length(
+        size: Extents,
+        block: Extents,
+        channels: u32,
+        wide: u8,
+        length: *mut u64,
+    ) -> u64;
+
+    /// A whole chunk of the compressed segmentation encoding in the raw form: labels little-endian,
+    /// x fastest, then y, z, channel. `size` and `block` are the chunk's and its blocks' extents in
+    /// voxels. Where `wide` is 1 labels have 64 bits; any other number says 32. Writes the raw form
+    /// to the front of `out`, which needs the room that coronagamba_unpacked_length tells, and its
+    /// number of bytes to `length`.
+    ///
+    /// Refusals: 2 also where a block size or the channel count is 0, 29 where it would refuse the
+    /// label of any voxel, 28 where it would refuse the label of any voxel, 13 where `out` is
+    /// shorter than the raw form
+    pub fn coronagamba_unpack(
+        chunk: *const u8,
+        count: usize,
+        size: Extents,
+        block: Extents,
+        channels: u32,
+        wide: u8,
+        out: *mut u8,
+        out_count: usize,
+        length: *mut u64,
+    ) -> u64;
 }

@@ -5,7 +5,7 @@
 //! state and the second buffer, which it reads, are as they were too.
 
 use super::*;
-use crate::{Cell, Point, Sharding, Volume};
+use crate::{Cell, Extents, Point, Sharding, Volume};
 use std::collections::BTreeSet;
 use std::iter::once;
 
@@ -735,6 +735,47 @@ fn on_sound_manifest(bytes: &[u8]) -> Vec<Case<'_>> {
     })
 }
 
+/// A chunk of one block of 2 by 2 by 2 labels of 32 bits, with the block's width
+/// and the table's offset.
+fn labelled(width: u32, table: u32) -> Vec<u8> {
+    let words = [1, width << 24 | table, 2, 0xa5, 7, 9];
+    words.into_iter().flat_map(u32::to_le_bytes).collect()
+}
+
+fn faulty_labels() -> Vec<(u64, Vec<u8>)> {
+    vec![
+        (29, labelled(3, 3)),
+        // The table's second entry ends past the chunk.
+        (28, labelled(1, 4)),
+    ]
+}
+
+fn on_faulty_labels((number, chunk): &(u64, Vec<u8>)) -> Vec<Case<'_>> {
+    let (number, from, count) = (*number, chunk.as_ptr(), chunk.len());
+    let two = Extents::from([2; 3]);
+    Vec::from(cases! { lent:
+        number => coronagamba_label(from, count, two, two, 1, 0, 0, 0, 0, 0, lent.one());
+        number => coronagamba_unpack(from, count, two, two, 1, 0, lent.many(32), 32, lent.one());
+        number => coronagamba_unpack(from, count, two, two, 1, 0, lent.many(31), 31, lent.one());
+    })
+}
+
+/// Questions to a sound chunk of labels.
+fn on_sound_labels(chunk: &[u8]) -> Vec<Case<'_>> {
+    let (from, count) = (chunk.as_ptr(), chunk.len());
+    let [none, two, most] = [0, 2, u32::MAX].map(|extent| Extents::from([extent; 3]));
+    Vec::from(cases! { lent:
+        2 => coronagamba_label(from, count, two, none, 1, 0, 0, 0, 0, 0, lent.one());
+        2 => coronagamba_label(from, count, two, two, 1, 0, 0, 0, 2, 0, lent.one());
+        2 => coronagamba_label(from, count, two, two, 1, 0, 0, 0, 0, 1, lent.one());
+        2 => coronagamba_unpacked_length(none, two, 1, 0, lent.one());
+        2 => coronagamba_unpacked_length(two, two, 0, 0, lent.one());
+        13 => coronagamba_unpacked_length(most, two, 1, 0, lent.one());
+        2 => coronagamba_unpack(from, count, none, two, 1, 0, lent.many(32), 32, lent.one());
+        13 => coronagamba_unpack(from, count, two, two, 1, 0, lent.many(31), 31, lent.one());
+    })
+}
+
 /// Makes each case's call on memory of all contents, and sees that it stays.
 fn stays(cases: &[Case]) {
     for content in contents() {
@@ -789,7 +830,7 @@ fn named() -> BTreeSet<(String, u64)> {
 #[test]
 fn a_refusal_leaves_every_lent_byte() {
     let (shards, cards, manifests) = (faulty_shards(), faulty_cards(), faulty_manifests());
-    let infos = faulty_infos();
+    let (infos, labels, labelled) = (faulty_infos(), faulty_labels(), labelled(1, 3));
     let (sound, long, mesh) = (shard([5, 53], ROWS), overlapping(), sound_mesh());
     let far = manifest(1.0, [0, 1 << 24]);
     let more = [&sound[..], b"-"].concat();
@@ -808,6 +849,8 @@ fn a_refusal_leaves_every_lent_byte() {
         .chain(infos.iter().map(on_faulty_info))
         .chain(manifests.iter().map(on_faulty_manifest))
         .chain([on_sound_manifest(&far)])
+        .chain(labels.iter().map(on_faulty_labels))
+        .chain([on_sound_labels(&labelled)])
         .flatten()
         .collect();
     let tried: BTreeSet<_> = cases

@@ -1,8 +1,9 @@
-//! `get`: the bytes of one chunk, or of one fragment of a mesh.
+//! `get`: the bytes of one chunk, or of one fragment of a mesh, or the label of
+//! one voxel.
 
 use std::path::Path;
 
-use coronagamba::Sharding;
+use coronagamba::{Point, Refusal, Sharding, Volume};
 
 use super::{cell_of, Command};
 use crate::args::{flag, number, pair, value, Args};
@@ -12,10 +13,13 @@ use crate::fault::{Fault, Refused, Status};
 use crate::files::Inputs;
 use crate::folder::{find, is_unnumbered, single};
 use crate::help;
+use crate::labels::{self, Layout};
 use crate::naming::unnumbered;
 use crate::output::{remove_stale_parts_of, write_new};
 use crate::report::{complaint, shown, Report};
 use crate::settings;
+
+mod voxel;
 
 /// The command.
 pub const COMMAND: Command = Command {
@@ -24,30 +28,48 @@ pub const COMMAND: Command = Command {
     options: &[
         settings::OPTIONS,
         &[
-            value("--cell"),
+            value(CELL),
+            value(voxel::VOXEL),
             value(FRAGMENT),
             value("--shard"),
             value("--out"),
             flag("--force"),
         ],
+        labels::OPTIONS,
+        voxel::OPTIONS,
     ],
     run,
 };
 
+const CELL: &str = "--cell";
 const FRAGMENT: &str = "--fragment";
+
+/// What is asked for.
+struct Asked<'a> {
+    path: &'a Path,
+    sharding: Sharding,
+    id: u64,
+    /// The voxel whose chunk this is, and how to read its label where that is
+    /// asked for.
+    voxel: Option<voxel::Found>,
+    label: Option<(Layout, u32)>,
+}
 
 fn run(args: &Args, report: &mut Report) -> Result<(), Fault> {
     let fragment = fragment(args)?;
-    let (asked, sharding, id) = asked(args)?;
-    let (source, number) = match asked.is_dir() {
-        false if is_unnumbered(args, &sharding, asked) => return Err(unnumbered(&sharding, asked)),
-        false => single(args, &sharding, asked).known(&sharding)?,
-        true => match in_folder(args, &sharding, asked, id)? {
+    voxel::sort_out(args)?;
+    let Some(asked) = asked(args, report)? else {
+        return Ok(());
+    };
+    let Asked { sharding, id, .. } = asked;
+    let (source, number) = match asked.path.is_dir() {
+        false if is_unnumbered(args, &sharding, asked.path) => {
+            return Err(unnumbered(&sharding, asked.path))
+        }
+        false => single(args, &sharding, asked.path).known(&sharding)?,
+        true => match in_folder(args, &sharding, asked.path, id)? {
             Ok(found) => found,
-            Err(name) => {
-                tell_missing(report, asked, &name, id);
-                return Ok(());
-            }
+            Err(name) => return tell_missing(report, &asked, &name),
         },
     };
     let out = args.value("--out").map(Path::new);
@@ -72,9 +94,12 @@ fn run(args: &Args, report: &mut Report) -> Result<(), Fault> {
         };
         Refused::file(&source.path, refusal, diagnosis)
     })?;
-    match out {
-        Some(out) => write_new(out, args.flag("--force"), bytes),
-        None => report.bytes(bytes),
+    match (asked.voxel, asked.label, out) {
+        (Some(voxel), Some((layout, channel)), _) => {
+            voxel.tell_label(report, layout, channel, &source.path, bytes)
+        }
+        (_, _, Some(out)) => write_new(out, args.flag("--force"), bytes),
+        (_, _, None) => report.bytes(bytes),
     }
 }
 
@@ -83,34 +108,86 @@ fn fragment(args: &Args) -> Result<Option<[u64; 2]>, Fault> {
     let Some(word) = args.value(FRAGMENT) else {
         return Ok(None);
     };
-    if args.flag("--cell") {
-        return Err(Fault::wrong_use(
-            "--cell and --fragment exclude each other: a volume has no fragments, and a mesh no cells",
-        ));
+    if let Some(name) = [CELL, voxel::VOXEL].iter().find(|name| args.flag(name)) {
+        return Err(Fault::wrong_use(format!(
+            "{name} and --fragment exclude each other: a volume has no fragments, and a mesh no cells"
+        )));
     }
     pair(word, FRAGMENT, "two numbers with a comma, LEVEL,NODE").map(Some)
 }
 
-/// The path, the sharding and the id asked for: the id itself, or the key of a
-/// cell.
-fn asked(args: &Args) -> Result<(&Path, Sharding, u64), Fault> {
-    let Some(word) = args.value("--cell") else {
-        let [path, id] = args.exactly(["PATH", "ID (or --cell X,Y,Z)"])?;
+/// The path, the sharding and the id asked for: the id itself, the key of a
+/// cell, or that of the cell of a voxel. A voxel outside is told, and `None`.
+fn asked<'a>(args: &'a Args, report: &mut Report) -> Result<Option<Asked<'a>>, Fault> {
+    let (cell, voxel) = (args.value(CELL), voxel::asked(args)?);
+    if let (None, None) = (cell, voxel) {
+        let [path, id] = args.exactly(["PATH", "ID (or --cell X,Y,Z or --voxel X,Y,Z)"])?;
         let id = number(id, "ID")?;
-        return Ok((Path::new(path), settings::of_shards(args)?.sharding, id));
+        return Ok(Some(Asked {
+            path: Path::new(path),
+            sharding: settings::of_shards(args)?.sharding,
+            id,
+            voxel: None,
+            label: None,
+        }));
+    }
+    let [path] = args.exactly(["PATH"])?.map(Path::new);
+    match (cell, voxel) {
+        (Some(_), Some(_)) => Err(Fault::wrong_use("--cell and --voxel exclude each other")),
+        (_, Some(voxel)) => of_voxel(args, report, path, voxel),
+        (word, None) => {
+            let word = word.unwrap_or_default();
+            let cell = cell_of(word, CELL)?;
+            let (sharding, volume) = settings::of_cells(args)?;
+            let id = volume.key(cell).map_err(|refusal| {
+                let diagnosis = diagnosis::of_cell(&volume, cell, refusal);
+                Refused::asked(
+                    format!("cell {}", shown(Path::new(word))),
+                    refusal,
+                    diagnosis,
+                )
+            })?;
+            Ok(Some(Asked {
+                path,
+                sharding,
+                id,
+                voxel: None,
+                label: None,
+            }))
+        }
+    }
+}
+
+/// The chunk of a voxel, and how to read its label where that is asked for.
+fn of_voxel<'a>(
+    args: &'a Args,
+    report: &mut Report,
+    path: &'a Path,
+    voxel: Point,
+) -> Result<Option<Asked<'a>>, Fault> {
+    let (sharding, volume, label) = if args.flag(voxel::LABEL) {
+        let (sharding, volume, layout) = settings::of_labels(args)?;
+        (sharding, volume, Some((layout, labels::channel(args)?)))
+    } else {
+        let (sharding, volume) = settings::of_cells(args)?;
+        (sharding, volume, None)
     };
-    let [path] = args.exactly(["PATH"])?;
-    let cell = cell_of(word, "--cell")?;
-    let (sharding, volume) = settings::of_cells(args)?;
-    let key = volume.key(cell).map_err(|refusal| {
-        let diagnosis = diagnosis::of_cell(&volume, cell, refusal);
-        Refused::asked(
-            format!("cell {}", shown(Path::new(word))),
-            refusal,
-            diagnosis,
-        )
-    })?;
-    Ok((Path::new(path), sharding, key))
+    let found = voxel::find(&volume, voxel).map_err(|refusal| refused_volume(&volume, refusal))?;
+    let Some(found) = found else {
+        return voxel::tell_outside(report, &volume, voxel).map(|()| None);
+    };
+    Ok(Some(Asked {
+        path,
+        sharding,
+        id: found.key,
+        voxel: Some(found),
+        label,
+    }))
+}
+
+/// A volume that the library refuses.
+fn refused_volume(volume: &Volume, refusal: Refusal) -> Refused {
+    Refused::asked("settings", refusal, diagnosis::of_volume(volume, refusal))
 }
 
 /// The files and the number of an id's own shard in a folder, or the name of the
@@ -139,10 +216,17 @@ fn in_folder(
 
 /// Tells that a deposit lacks an id's shard: to whoever asks for a chunk this
 /// is a plain no, and no error of the system.
-fn tell_missing(report: &mut Report, folder: &Path, name: &str, id: u64) {
+fn tell_missing(report: &mut Report, asked: &Asked, name: &str) -> Result<(), Fault> {
     report.note(Status::No);
+    if let (true, Some(voxel)) = (report.json(), &asked.voxel) {
+        let object = voxel.object().text("result", "no shard");
+        let object = object.number("key", asked.id);
+        return report.object(object.path(&asked.path.join(name)));
+    }
     complaint(format_args!(
-        "{}: the deposit has no {name}, in which id {id} would stand",
-        shown(folder)
+        "{}: the deposit has no {name}, in which id {} would stand",
+        shown(asked.path),
+        asked.id
     ));
+    Ok(())
 }

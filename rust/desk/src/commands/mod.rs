@@ -18,6 +18,8 @@ mod cover;
 mod explain;
 mod get;
 mod holdings;
+mod label;
+mod labels;
 mod list;
 mod locate;
 mod manifest;
@@ -43,7 +45,7 @@ pub struct Command {
 }
 
 /// All commands, in the order of the help.
-pub static COMMANDS: [Command; 20] = [
+pub static COMMANDS: [Command; 22] = [
     check::COMMAND,
     settle::COMMAND,
     pack::COMMAND,
@@ -62,6 +64,8 @@ pub static COMMANDS: [Command; 20] = [
     manifest::SHOW,
     manifest::CHECK,
     manifest::NODE,
+    label::COMMAND,
+    labels::COMMAND,
     explain::COMMAND,
     sample::COMMAND,
 ];

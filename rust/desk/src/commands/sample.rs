@@ -97,7 +97,8 @@ fn next(folder: &str) -> String {
   coronagamba get {folder}/copy-b --cell 1,2,1 --card {folder}/deposit.card
   coronagamba check {folder}/murmur --info {folder}/info --scale 1
   coronagamba manifest show {folder}/mesh.manifest
-  coronagamba list {folder}/mesh-a/0.shard --card {folder}/mesh.card"
+  coronagamba list {folder}/mesh-a/0.shard --card {folder}/mesh.card
+  coronagamba get {folder}/labels --voxel 7,12,3 --label --info {folder}/labels.info --scale 0"
     )
 }
 

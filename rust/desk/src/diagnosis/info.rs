@@ -6,7 +6,7 @@ use std::ffi::OsStr;
 use std::os::unix::ffi::OsStrExt;
 use std::path::Path;
 
-use coronagamba::{Refusal, Sharding, Volume};
+use coronagamba::{LabelBits, Refusal, Sharding, Volume};
 
 use super::places::{bad_fields, told_bits, told_fields, told_zeros, zero_extents};
 use super::{Diagnosis, Place};
@@ -32,6 +32,29 @@ pub fn of_info(text: &[u8], scale: u64, refusal: Refusal) -> Diagnosis {
         _ => None,
     };
     told.unwrap_or_else(Diagnosis::not_found_again)
+}
+
+/// What an info file says of the labels in a scale's chunks, where it says it.
+/// The library reads the settings of the shards alone.
+#[derive(Clone, Copy, Debug, Default, PartialEq, Eq)]
+pub struct InfoLabels {
+    /// The extents of a block.
+    pub block: Option<[u32; 3]>,
+    /// How many channels there are.
+    pub channels: Option<u32>,
+    /// How many bits a label has.
+    pub bits: Option<LabelBits>,
+}
+
+/// What an info file says of the labels of a scale that the library has read; an
+/// error in words where these are no labels of the compressed segmentation
+/// encoding.
+pub fn labels_of_info(text: &[u8], scale: u64) -> Result<InfoLabels, String> {
+    let text = Text::new(text);
+    text.labels(scale).map_err(|wrong| {
+        let Place { words, .. } = text.place(wrong.at);
+        format!("{} at {words}; expected {}", wrong.found, wrong.expected)
+    })
 }
 
 /// What is wrong, and where.
@@ -528,6 +551,32 @@ impl Text<'_> {
         Ok(known.map(|number| number as u8))
     }
 
+    /// What is said of the labels of a scale.
+    fn labels(&self, scale: u64) -> Found<InfoLabels> {
+        const U32: &str = "0 to 4294967295";
+        let (whole, scale) = (self.space(0), self.scale(scale)?);
+        if let Some(encoding) = self.member(scale, "encoding")? {
+            self.text(encoding, "compressed_segmentation")?;
+        }
+        let block = self.member(scale, "compressed_segmentation_block_size")?;
+        let channels = self.member(whole, "num_channels")?;
+        let data_type = self.member(whole, "data_type")?;
+        Ok(InfoLabels {
+            block: block.map(|at| self.three(at, U32)).transpose()?,
+            channels: channels.map(|at| self.whole(at, U32)).transpose()?,
+            bits: data_type.map(|at| self.bits(at)).transpose()?,
+        })
+    }
+
+    /// The width of a label, by the name of its type.
+    fn bits(&self, at: usize) -> Found<LabelBits> {
+        match self.byte(at) {
+            Some(b'"') if self.is(at, "uint32") => Ok(LabelBits::B32),
+            Some(b'"') if self.is(at, "uint64") => Ok(LabelBits::B64),
+            _ => self.wrong(at, "\"uint32\" or \"uint64\", the types of labels"),
+        }
+    }
+
     /// Refusal 1, 2 or 3 of what the text says.
     fn of_meaning(&self, settings: &Settings, number: u8) -> Option<Diagnosis> {
         let [preshift, hash, minishard_bits, shard_bits] = settings.sharding;
@@ -595,6 +644,63 @@ mod tests {
         let text = [parts[0].as_bytes(), new.as_ref(), parts[1].as_bytes()].concat();
         let told = told_of(&text, 0, number);
         [told.found, told.expected, told.look_at]
+    }
+
+    #[test]
+    fn what_is_said_of_labels() {
+        let none = InfoLabels::default();
+        assert_eq!(labels_of_info(INFO.as_bytes(), 0), Ok(none));
+        let of = |head: &str, scale: &str| {
+            let text = INFO.replace("{\"type\"", &format!("{{{head}\"type\""));
+            let text = text.replace("{\"key\"", &format!("{{{scale}\"key\""));
+            labels_of_info(text.as_bytes(), 0)
+        };
+        let head = r#""data_type": "uint64", "num_channels": 2, "#;
+        let scale = r#""encoding": "compressed_segmentation",
+            "compressed_segmentation_block_size": [8, 4, 2], "#;
+        let all = InfoLabels {
+            block: Some([8, 4, 2]),
+            channels: Some(2),
+            bits: Some(LabelBits::B64),
+        };
+        assert_eq!(of(head, scale), Ok(all));
+        let bits = Some(LabelBits::B32);
+        assert_eq!(
+            of(&head.replace("64", "32"), ""),
+            Ok(InfoLabels {
+                block: None,
+                bits,
+                ..all
+            })
+        );
+        for (head, scale, told) in [
+            (
+                r#""data_type": "uint8", "#,
+                "",
+                "the string \"uint8\" at line 1, column 15 (byte 14); expected \"uint32\" or \
+                 \"uint64\", the types of labels",
+            ),
+            (
+                r#""num_channels": 1.0, "#,
+                "",
+                "the number 1.0 at line 1, column 18 (byte 17); expected a whole number from 0 to \
+                 4294967295, without fraction or exponent",
+            ),
+            (
+                "",
+                r#""encoding": "raw", "#,
+                "the string \"raw\" at line 3, column 16 (byte 46); expected \
+                 \"compressed_segmentation\"",
+            ),
+            (
+                "",
+                r#""compressed_segmentation_block_size": [8, 8], "#,
+                "an array of 2 at line 3, column 42 (byte 72); expected an array of three whole \
+                 numbers",
+            ),
+        ] {
+            assert_eq!(of(head, scale), Err(told.to_string()));
+        }
     }
 
     #[test]

@@ -10,13 +10,15 @@ mod agreement;
 mod card;
 mod gaps;
 mod info;
+mod labels;
 mod manifest;
 mod places;
 mod shard;
 
 pub use card::of_card;
 pub use gaps::Gaps;
-pub use info::of_info;
+pub use info::{labels_of_info, of_info, InfoLabels};
+pub use labels::{of_label, of_label_shape, of_labels};
 pub use manifest::{of_manifest, of_node};
 pub use places::{of_cell, of_key, of_shard_number, of_sharding, of_volume};
 pub use shard::{of_fragment, of_listing, of_lookup, of_range, of_shard};

@@ -18,7 +18,9 @@ pub const TABLE: &[Explained] = &[
     },
     Explained {
         number: 2,
-        given: "a volume or chunk extent is 0, or a cell coordinate is not below its grid size",
+        given: "a volume or chunk extent is 0, or a cell coordinate is not below its grid size; \
+         in a chunk of labels also where a block size or the channel count is 0, or a \
+         voxel or channel is outside",
         cause: "A cell given in voxels instead of chunks, axes in another order, or the card of \
          another volume.",
         remedy: "Look at the grid with 'card show'. A cell counts chunks from 0 on each axis: \
@@ -113,7 +115,8 @@ pub const TABLE: &[Explained] = &[
         given: "the output is too short for the whole answer, or a settled form would exceed \
          1,073,741,824 bytes; at an intake, on opening or announcing, the settled form of \
          all announced so far, this chunk included, would pass the output or 1,073,741,824 \
-         bytes, or the second buffer has no 16 bytes left for it",
+         bytes, or the second buffer has no 16 bytes left for it; asked for an unpacked \
+         length, also where it does not fit 64 bits, so that no output can have the room",
         cause: "A shard whose chunks share bytes, or in a mesh their fragments: written out one \
          by one they pass 1 GiB.",
         remedy: "Keep the shard as it is. It is sound, but it has no settled form that a shard \
@@ -258,6 +261,26 @@ pub const TABLE: &[Explained] = &[
          sheet, or sheets that were joined again and again.",
         remedy: "Begin with an empty sheet, 0 in each row, and add the shards again. Sums of \
          honest holdings stay far below the limit.",
+    },
+    Explained {
+        number: 28,
+        given: "in a chunk of labels, a channel offset, header, packed 32-bit word or table \
+         entry to be read is not whole in the chunk; at width 0 no packed word is read",
+        cause: "A chunk that was cut short, another size, block size, channel count or label \
+         width than the one it was written with, or bytes that are not in the compressed \
+         segmentation encoding.",
+        remedy: "Compare size, block size, channels and bits with the deposit's info file: there \
+         they are the chunk size, cut off at the volume's upper faces, \
+         compressed_segmentation_block_size, num_channels and data_type.",
+    },
+    Explained {
+        number: 29,
+        given: "in a chunk of labels, a whole header has a packed width other than 0, 1, 2, 4, \
+         8, 16 or 32",
+        cause: "Bytes that are not in the compressed segmentation encoding, or a size, block \
+         size or channel count that makes other words count as headers.",
+        remedy: "Compare size, block size and channels with the deposit's info file, and its \
+         encoding: it must be compressed_segmentation. Otherwise copy the chunk again.",
     },
     Explained {
         number: 30,

@@ -56,7 +56,7 @@ fn rows(nodes: &[Node]) -> impl Iterator<Item = u32> + '_ {
 }
 
 /// The numbers of the nets.
-const NETS: [u64; 10] = [3, 8, 17, 21, 40, 55, 62, 70, 96, 101];
+pub const NETS: [u64; 10] = [3, 8, 17, 21, 40, 55, 62, 70, 96, 101];
 /// A net without a shape: its manifest has no levels.
 const NO_SHAPE: u64 = 40;
 /// A net whose second node has no faces of its own.

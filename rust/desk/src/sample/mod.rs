@@ -1,14 +1,15 @@
 //! The sample deposit: a small volume, sharded two ways, in three copies of
-//! different layout and one of the earlier edition, a damaged copy, a mesh manifest, and a few nets in two
-//! copies. Its bytes are the same every time.
+//! different layout and one of the earlier edition, a damaged copy, a mesh manifest,
+//! a few nets in two copies, and labels. Its bytes are the same every time.
 
 mod damage;
 mod info;
+mod labels;
 mod layout;
 mod mesh;
 mod volume;
 
-use coronagamba::{Card, Refusal, Shard, Sharding, Unlisted};
+use coronagamba::{Card, Cell, Refusal, Shard, Sharding, Unlisted};
 use layout::Order;
 use std::collections::BTreeMap;
 
@@ -80,6 +81,8 @@ pub fn parts() -> Result<Vec<Part>, Refusal> {
     let mesh_b = layout::scattered(&MESH, &mesh::nets(), Order::Arrival)?;
     let mesh_a = settled(&MESH, &mesh_b)?;
     let pairs = copy_c.clone();
+    let labelled = layout::scattered(&labels::SHARDING, &labels::chunks()?, Order::Rising)?;
+    let labelled = settled(&labels::SHARDING, &labelled)?;
     let same_chunks = "the same chunks in another layout";
     let arrival = "the same chunks, listed in order of arrival";
     Ok(vec![
@@ -108,6 +111,22 @@ pub fn parts() -> Result<Vec<Part>, Refusal> {
         card("mesh.card", &MESH, "sharding of the nets' meshes")?,
         folder("mesh-a", &MESH, mesh_a, "settled forms of the nets' meshes")?,
         folder("mesh-b", &MESH, mesh_b, "the same nets in another layout")?,
+        Part {
+            name: "labels.info",
+            about: "an info file of labels; scale 0 is labels".to_string(),
+            files: Files::One(labels::info().into_bytes()),
+        },
+        folder(
+            "labels",
+            &labels::SHARDING,
+            labelled,
+            "net numbers of voxels",
+        )?,
+        Part {
+            name: "labels.chunk",
+            about: "the chunk of its cell 0,0,0, of 16,16,16 voxels".to_string(),
+            files: Files::One(labels::chunk(Cell::default())?),
+        },
     ])
 }
 

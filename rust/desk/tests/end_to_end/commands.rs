@@ -6,7 +6,7 @@ use std::os::unix::fs::symlink;
 use std::process::Command;
 
 /// All commands, with those that have members.
-const COMMANDS: [&str; 22] = [
+const COMMANDS: [&str; 24] = [
     "check",
     "settle",
     "pack",
@@ -27,6 +27,8 @@ const COMMANDS: [&str; 22] = [
     "manifest show",
     "manifest check",
     "manifest node",
+    "label",
+    "labels",
     "explain",
     "sample",
 ];
@@ -286,6 +288,30 @@ fn statuses() -> Vec<(String, i32)> {
         ("manifest node demo/mesh.manifest zero 0", 2),
         ("manifest node nothing 0 0", 3),
         ("manifest", 2),
+        (
+            "label demo/labels.chunk 0,0,0 --size 16,16,16 --block 8,8,8 --channels 1 --bits 64",
+            0,
+        ),
+        (
+            "labels demo/labels.chunk --out raw --size 16,16,16 --block 8,8,8 --channels 1 --bits 64",
+            0,
+        ),
+        (
+            "labels demo/deposit.card --out no --size 16,16,16 --block 8,8,8 --channels 1 --bits 64",
+            1,
+        ),
+        (
+            "get demo/labels --voxel 7,12,3 --label --info demo/labels.info --scale 0",
+            0,
+        ),
+        (
+            "get demo/labels --voxel 7,12,3 --info demo/labels.info --scale 0",
+            0,
+        ),
+        (
+            "get demo/labels --voxel 32,0,0 --info demo/labels.info --scale 0",
+            1,
+        ),
         ("explain", 0),
         ("explain 9", 0),
         ("explain 21", 0),
@@ -350,6 +376,7 @@ fn exit_statuses() {
             "net",
             "nets",
             "one",
+            "raw",
             "some"
         ]
     );
@@ -613,6 +640,18 @@ fn json_lines_are_json_objects() {
         ("manifest check demo/mesh.manifest demo/deposit.card", 1),
         ("manifest node demo/mesh.manifest 1 1", 0),
         ("manifest node demo/mesh.manifest 1 2", 1),
+        (
+            "label demo/labels.chunk 0,0,0 16,0,0 --size 16,16,16 --block 8,8,8 --channels 1 --bits 64",
+            1,
+        ),
+        (
+            "labels demo/labels.chunk --out raw --size 16,16,16 --block 8,8,8 --channels 1 --bits 64",
+            0,
+        ),
+        (
+            "get demo/labels --voxel 7,12,3 --label --info demo/labels.info --scale 0",
+            0,
+        ),
         ("explain", 0),
         ("explain 12", 0),
     ];

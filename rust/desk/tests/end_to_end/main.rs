@@ -8,6 +8,7 @@ mod copies;
 mod folders;
 mod holdings;
 mod json;
+mod labels;
 mod memory;
 mod meshes;
 mod minishards;

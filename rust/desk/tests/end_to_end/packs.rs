@@ -394,7 +394,7 @@ fn names_of_other_volumes() {
     let run = folder.run_line(&format!("pack demo --out packed {CARD}"));
     run.expect_status(1);
     let told = "demo: no chunks, no file has the name of one, as -64-0_0-64_0-64 is, \
-                5 other files passed over";
+                7 other files passed over";
     assert_eq!(run.lines(), [told]);
     assert_eq!(folder.names("."), ["chunks", "demo"]);
 }

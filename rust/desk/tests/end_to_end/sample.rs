@@ -1,12 +1,13 @@
 //! The sample deposit.
 
 use crate::support::Folder;
-use reference::grid::{key_of, Volume};
+use reference::grid::{bounds_of, cell_of, key_of, Bounds, Volume};
+use reference::labels::{label, Layout};
 use reference::settle::{content_of, form_of, settle, settled_form, Triple};
 use reference::shard::{check, list, list_minishard};
 use reference::sharding::{Sharding, MESH, VOLUME};
 use reference::{card, info, manifest, Refusal};
-use std::collections::BTreeMap;
+use std::collections::{BTreeMap, BTreeSet};
 
 const DEPOSIT: Sharding = Sharding {
     preshift: 1,
@@ -55,7 +56,7 @@ fn content(sharding: &Sharding, shards: &BTreeMap<u64, Vec<u8>>) -> BTreeMap<u64
 fn it_has_the_same_bytes_every_time() {
     let (one, other) = (Folder::with_sample(), Folder::with_sample());
     for part in [
-        "copy-a", "copy-b", "copy-c", "damaged", "murmur", "mesh-a", "mesh-b",
+        "copy-a", "copy-b", "copy-c", "damaged", "murmur", "mesh-a", "mesh-b", "labels",
     ] {
         assert_eq!(shards(&one, part), shards(&other, part));
     }
@@ -65,6 +66,8 @@ fn it_has_the_same_bytes_every_time() {
         "demo/info",
         "demo/mesh.manifest",
         "demo/mesh.card",
+        "demo/labels.info",
+        "demo/labels.chunk",
     ] {
         assert_eq!(one.read(file), other.read(file));
     }
@@ -196,6 +199,44 @@ fn the_meshes_hold_the_same_nets() {
     }
     assert_eq!((nets, bare), (10, 1));
     assert!(unsorted > 0);
+}
+
+/// The labels are the numbers of the nets, and the chunk by itself is one of
+/// theirs.
+#[test]
+fn the_labels_are_numbers_of_nets() {
+    let folder = Folder::with_sample();
+    let card = info::read(&folder.read("demo/labels.info"), 0).expect("a scale");
+    let chunks = content(&card.sharding, &shards(&folder, "labels"));
+    assert_eq!(chunks.len(), 11);
+    assert_eq!(chunks[&0], folder.read("demo/labels.chunk"));
+    let nets = shards(&folder, "mesh-a");
+    let nets = nets.iter().flat_map(|(number, file)| {
+        let content = content_of(&NETS, *number, file).expect("a sound shard");
+        content.into_iter().map(|triple| triple.id)
+    });
+    let mut known: BTreeSet<u64> = nets.collect();
+    known.insert(0);
+    let mut met = BTreeSet::new();
+    for (key, chunk) in &chunks {
+        let cell = cell_of(&card.volume, *key).expect("a cell of the grid");
+        let Bounds { begin, end } = bounds_of(&card.volume, cell).expect("a cell of the grid");
+        let size = [0, 1, 2].map(|axis| (end[axis] - begin[axis]) as u32);
+        let layout = Layout {
+            size,
+            block: [8; 3],
+            channels: 1,
+            wide: true,
+        };
+        for z in 0..size[2] {
+            for y in 0..size[1] {
+                for x in 0..size[0] {
+                    met.insert(label(chunk, &layout, [x, y, z], 0).expect("a label"));
+                }
+            }
+        }
+    }
+    assert!(met.is_subset(&known) && met.len() > 5, "{met:?}");
 }
 
 #[test]

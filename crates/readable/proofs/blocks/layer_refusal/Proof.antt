@@ -10,10 +10,10 @@ use Rattle.readable.proofs.blocks.layer_refusal.Statement.{statement}
 use Rattle.readable.proofs.blocks.layer_refusal.Tie as tie
 
 abbrev Inv-loop : tie.InvT-loop
-Inv-loop chunk wide o first second block inside w count v₀ v = (v ≤ count) × (0 ≡ greatest (rowRefusal chunk (labelWords wide) o first second block inside w) v)
+Inv-loop chunk wide o first second block inside limit w count v₀ v = (v ≤ count) × (0 ≡ greatest (rowRefusal chunk (labelWords wide) o first second block inside w) v)
 
 abbrev μ-loop : tie.MeasureT-loop
-μ-loop chunk wide o first second block inside w count v₀ v = count - v
+μ-loop chunk wide o first second block inside limit w count v₀ v = count - v
 
 pub layer-refusal-spec : {M : Type 1} → statement M
 layer-refusal-spec =

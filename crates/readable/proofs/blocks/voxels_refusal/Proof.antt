@@ -10,10 +10,10 @@ use Rattle.readable.proofs.blocks.voxels_refusal.Statement.{statement}
 use Rattle.readable.proofs.blocks.voxels_refusal.Tie as tie
 
 abbrev Inv-loop : tie.InvT-loop
-Inv-loop chunk wide o first second block inside count w₀ w = (w ≤ count) × (0 ≡ greatest (layerRefusal chunk (labelWords wide) o first second block inside) w)
+Inv-loop chunk wide o first second block inside limit count w₀ w = (w ≤ count) × (0 ≡ greatest (layerRefusal chunk (labelWords wide) o first second block inside) w)
 
 abbrev μ-loop : tie.MeasureT-loop
-μ-loop chunk wide o first second block inside count w₀ w = count - w
+μ-loop chunk wide o first second block inside limit count w₀ w = count - w
 
 pub voxels-refusal-spec : {M : Type 1} → statement M
 voxels-refusal-spec =

@@ -7,4 +7,4 @@ pub headers-refusal-spec : {M : Type 1} → statement M
 headers-refusal-spec =
     tie.close
     (tie.spec (λ c κs. search needs) (λ c. search needs) (λ c κs. search needs) (λ c. search needs) (λ c κs. search needs) (λ c κs. search needs)
-    (λ c. search headers-cut) (λ c. search needs) (λ c κs. search needs) (λ c. search headers-whole))
+    (λ c. search needs) (λ c. search headers-cut) (λ c. search needs) (λ c κs. search needs) (λ c. search needs) (λ c. search headers-whole))

@@ -4,7 +4,8 @@ use Rattle.segmentation.specs.Labels.{labelWords}
 use Rattle.unpack.specs.Writing.{runVoxel}
 use Rattle.segmentation.proofs.Packed.{per-some, width-most}
 use Rattle.unpack.proofs.Filled.{Filled, filled-start, filled-next, filled-same, filled-place, filled-end}
-use Rattle.unpack.proofs.Runs.{run-each, run-product-fits, run-from-fits, run-word-fits, run-word, run-entry, run-on, start-fits, start-sum-fits, start-bits-fit}
+use Rattle.readable.proofs.Runs.{start-fits, start-sum-fits, start-bits-fit}
+use Rattle.unpack.proofs.Runs.{run-each, run-product-fits, run-from-fits, run-word-fits, run-word, run-entry, run-on}
 use borrow.Author.Needs.{needs}
 use Rattle.unpack.proofs.raw.put_packed_run.Statement.{statement}
 use Rattle.unpack.proofs.raw.put_packed_run.Tie as tie
