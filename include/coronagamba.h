@@ -69,8 +69,9 @@
  * the caller's, CORONAGAMBA_INTAKE_NUMBERS numbers: the opening writes them, the
  * other calls read them and, unless they refuse, write the new ones. Each call
  * takes the state and both buffers as the last call left them; the state says
- * nothing that a caller need look at. A state that no calls could have left is
- * refused with 25, and whatever is lent, nothing past it is touched.
+ * nothing that a caller need look at. A state whose numbers contradict each
+ * other or the buffers is refused with 25, and whatever is lent, nothing past
+ * it is touched.
  *
  * Sheets. A holdings sheet is CORONAGAMBA_SHEET_ROWS numbers of the caller: the
  * calls that add to it read them and, unless they refuse, write the new ones.
@@ -118,8 +119,8 @@
  * structs and answers may differ. */
 #define CORONAGAMBA_VERSION_MAJOR 0
 #define CORONAGAMBA_VERSION_MINOR 5
-#define CORONAGAMBA_VERSION_PATCH 0
-#define CORONAGAMBA_VERSION_STRING "0.5.0"
+#define CORONAGAMBA_VERSION_PATCH 1
+#define CORONAGAMBA_VERSION_STRING "0.5.1"
 #define CORONAGAMBA_VERSION                      \
   ((uint64_t)CORONAGAMBA_VERSION_PATCH +         \
    ((uint64_t)CORONAGAMBA_VERSION_MINOR << 16) + \
@@ -147,7 +148,8 @@
 
 /* a volume or chunk extent is 0, or a cell coordinate is not below its grid
  * size; in a chunk of labels also where a block size or the channel count is
- * 0, or a voxel or channel is outside */
+ * 0, or a voxel or channel is outside; beyond the table, and before all
+ * else, where the label width is neither 32 nor 64 bits */
 #define CORONAGAMBA_REFUSED_NO_SUCH_CELL 2
 
 /* a key is made or decoded, or a card read or written, or an info file read,
@@ -661,10 +663,10 @@ uint64_t coronagamba_intake_open(coronagamba_sharding sharding, uint64_t shard,
  * minishard, writes the minishard index of the one before to `out`. Writes
  * its id and size to `waiting`, and the new state to `state`. Refusals: 30
  * where a buffer has another length than on opening, 10 where the id belongs
- * to another shard, 25 out of order or after the close or where no calls
- * could have left the state, 26 while bytes are owed, 13 where the settled
- * form of all announced so far and this chunk would pass `out` or 1 GiB or
- * `waiting` has no 16 bytes left for it */
+ * to another shard, 25 out of order or after the close or where the state
+ * contradicts itself or `waiting`, 26 while bytes are owed, 13 where the
+ * settled form of all announced so far and this chunk would pass `out` or 1
+ * GiB or `waiting` has no 16 bytes left for it */
 uint64_t coronagamba_intake_announce(uint64_t state[15], uint64_t id,
                                      uint64_t size, uint8_t *out, size_t count,
                                      uint8_t *waiting, size_t waiting_count);
@@ -672,8 +674,8 @@ uint64_t coronagamba_intake_announce(uint64_t state[15], uint64_t id,
 /* Hands over the next bytes of the announced chunk, as many as are given,
  * none or all that are owed. Writes them to their final place in `out`, and
  * the new state to `state`. Refusals: 30 where a buffer has another length
- * than on opening, 25 after the close or where no calls could have left the
- * state, 26 where these are more bytes than are owed */
+ * than on opening, 25 after the close or where the state contradicts itself
+ * or `waiting`, 26 where these are more bytes than are owed */
 uint64_t coronagamba_intake_part(uint64_t state[15], const uint8_t *bytes,
                                  size_t count, uint8_t *out, size_t out_count,
                                  const uint8_t *waiting, size_t waiting_count);
@@ -681,8 +683,8 @@ uint64_t coronagamba_intake_part(uint64_t state[15], const uint8_t *bytes,
 /* Closes the shard: `out` then begins with the settled form of what was
  * delivered. Writes its number of bytes to `length`, and to `state` a state
  * with which each further call is refused. Refusals: 30 where a buffer has
- * another length than on opening, 25 after the close or where no calls could
- * have left the state, 26 while bytes are owed */
+ * another length than on opening, 25 after the close or where the state
+ * contradicts itself or `waiting`, 26 while bytes are owed */
 uint64_t coronagamba_intake_close(uint64_t state[15], uint8_t *out,
                                   size_t count, const uint8_t *waiting,
                                   size_t waiting_count, uint64_t *length);
@@ -815,39 +817,39 @@ uint64_t coronagamba_manifest_corners(const uint8_t *bytes, size_t count,
 /* ---- Labels inside a chunk: the label of a voxel, a whole chunk unpacked - */
 
 /* The label of a voxel in a chunk of the compressed segmentation encoding.
- * `size` and `block` are the chunk's and its blocks' extents in voxels.
- * Where `wide` is 1 labels have 64 bits; any other number says 32. Voxel and
- * channel count from 0 in the chunk. Writes the label to `label`. Refusals:
- * 2 also where a block size or the channel count is 0 or a voxel or channel
- * is outside, 29, 28 */
+ * `size` and `block` are the chunk's and its blocks' extents in voxels;
+ * `bits` is the label width, 32 or 64. Voxel and channel count from 0 in the
+ * chunk. Writes the label to `label`. Refusals: 2 also where `bits` is
+ * another number or a block size or the channel count is 0 or a voxel or
+ * channel is outside, 29, 28 */
 uint64_t coronagamba_label(const uint8_t *chunk, size_t count,
                            coronagamba_extents size, coronagamba_extents block,
-                           uint32_t channels, uint8_t wide, uint32_t x,
+                           uint32_t channels, uint8_t bits, uint32_t x,
                            uint32_t y, uint32_t z, uint32_t channel,
                            uint64_t *label);
 
 /* How many bytes a chunk of labels has in the raw form, whatever it holds.
- * `size` and `block` are the chunk's and its blocks' extents in voxels.
- * Where `wide` is 1 labels have 64 bits; any other number says 32. Writes
- * the number to `length`. Refusals: 2 also where a block size or the channel
- * count is 0, 13 where the number does not fit 64 bits */
+ * `size` and `block` are the chunk's and its blocks' extents in voxels;
+ * `bits` is the label width, 32 or 64. Writes the number to `length`.
+ * Refusals: 2 also where `bits` is another number or a block size or the
+ * channel count is 0, 13 where the number does not fit 64 bits */
 uint64_t coronagamba_unpacked_length(coronagamba_extents size,
                                      coronagamba_extents block,
-                                     uint32_t channels, uint8_t wide,
+                                     uint32_t channels, uint8_t bits,
                                      uint64_t *length);
 
 /* A whole chunk of the compressed segmentation encoding in the raw form:
  * labels little-endian, x fastest, then y, z, channel. `size` and `block`
- * are the chunk's and its blocks' extents in voxels. Where `wide` is 1
- * labels have 64 bits; any other number says 32. Writes the raw form to the
- * front of `out`, which needs the room that coronagamba_unpacked_length
- * tells, and its number of bytes to `length`. Refusals: 2 also where a block
- * size or the channel count is 0, 29 where it would refuse the label of any
- * voxel, 28 where it would refuse the label of any voxel, 13 where `out` is
- * shorter than the raw form */
+ * are the chunk's and its blocks' extents in voxels; `bits` is the label
+ * width, 32 or 64. Writes the raw form to the front of `out`, which needs
+ * the room that coronagamba_unpacked_length tells, and its number of bytes
+ * to `length`. Refusals: 2 also where `bits` is another number or a block
+ * size or the channel count is 0, 29 where coronagamba_label would give it
+ * for any voxel, 28 where else that would for any, 13 where `out` is shorter
+ * than the raw form */
 uint64_t coronagamba_unpack(const uint8_t *chunk, size_t count,
                             coronagamba_extents size, coronagamba_extents block,
-                            uint32_t channels, uint8_t wide, uint8_t *out,
+                            uint32_t channels, uint8_t bits, uint8_t *out,
                             size_t out_count, uint64_t *length);
 
 #ifdef __cplusplus

@@ -9,8 +9,8 @@ import ctypes
 from ctypes import POINTER
 from typing import Any, Dict, Tuple
 
-VERSION = (0, 5, 0)
-__version__ = "0.5.0"
+VERSION = (0, 5, 1)
+__version__ = "0.5.1"
 
 # a sharding's hash that leaves an id as it is
 HASH_IDENTITY = 0
@@ -658,9 +658,9 @@ FUNCTIONS: Dict[str, Tuple[Any, Tuple[Any, ...]]] = {
     # Writes its id and size to `waiting`, and the new state to `state`.
     # Refusals: 30 where a buffer has another length than on opening, 10 where
     # the id belongs to another shard, 25 out of order or after the close or
-    # where no calls could have left the state, 26 while bytes are owed, 13
-    # where the settled form of all announced so far and this chunk would pass
-    # `out` or 1 GiB or `waiting` has no 16 bytes left for it
+    # where the state contradicts itself or `waiting`, 26 while bytes are owed,
+    # 13 where the settled form of all announced so far and this chunk would
+    # pass `out` or 1 GiB or `waiting` has no 16 bytes left for it
     "coronagamba_intake_announce": (
         ctypes.c_uint64,
         (
@@ -677,8 +677,8 @@ FUNCTIONS: Dict[str, Tuple[Any, Tuple[Any, ...]]] = {
     # none or all that are owed. Writes them to their final place in `out`, and
     # the new state to `state`.
     # Refusals: 30 where a buffer has another length than on opening, 25 after
-    # the close or where no calls could have left the state, 26 where these are
-    # more bytes than are owed
+    # the close or where the state contradicts itself or `waiting`, 26 where
+    # these are more bytes than are owed
     "coronagamba_intake_part": (
         ctypes.c_uint64,
         (
@@ -695,8 +695,8 @@ FUNCTIONS: Dict[str, Tuple[Any, Tuple[Any, ...]]] = {
     # delivered. Writes its number of bytes to `length`, and to `state` a state
     # with which each further call is refused.
     # Refusals: 30 where a buffer has another length than on opening, 25 after
-    # the close or where no calls could have left the state, 26 while bytes are
-    # owed
+    # the close or where the state contradicts itself or `waiting`, 26 while
+    # bytes are owed
     "coronagamba_intake_close": (
         ctypes.c_uint64,
         (
@@ -915,11 +915,11 @@ FUNCTIONS: Dict[str, Tuple[Any, Tuple[Any, ...]]] = {
         ),
     ),
     # The label of a voxel in a chunk of the compressed segmentation encoding.
-    # `size` and `block` are the chunk's and its blocks' extents in voxels.
-    # Where `wide` is 1 labels have 64 bits; any other number says 32. Voxel
-    # and channel count from 0 in the chunk. Writes the label to `label`.
-    # Refusals: 2 also where a block size or the channel count is 0 or a voxel
-    # or channel is outside, 29, 28
+    # `size` and `block` are the chunk's and its blocks' extents in voxels;
+    # `bits` is the label width, 32 or 64. Voxel and channel count from 0 in
+    # the chunk. Writes the label to `label`.
+    # Refusals: 2 also where `bits` is another number or a block size or the
+    # channel count is 0 or a voxel or channel is outside, 29, 28
     "coronagamba_label": (
         ctypes.c_uint64,
         (
@@ -937,11 +937,10 @@ FUNCTIONS: Dict[str, Tuple[Any, Tuple[Any, ...]]] = {
         ),
     ),
     # How many bytes a chunk of labels has in the raw form, whatever it holds.
-    # `size` and `block` are the chunk's and its blocks' extents in voxels.
-    # Where `wide` is 1 labels have 64 bits; any other number says 32. Writes
-    # the number to `length`.
-    # Refusals: 2 also where a block size or the channel count is 0, 13 where
-    # the number does not fit 64 bits
+    # `size` and `block` are the chunk's and its blocks' extents in voxels;
+    # `bits` is the label width, 32 or 64. Writes the number to `length`.
+    # Refusals: 2 also where `bits` is another number or a block size or the
+    # channel count is 0, 13 where the number does not fit 64 bits
     "coronagamba_unpacked_length": (
         ctypes.c_uint64,
         (
@@ -954,13 +953,14 @@ FUNCTIONS: Dict[str, Tuple[Any, Tuple[Any, ...]]] = {
     ),
     # A whole chunk of the compressed segmentation encoding in the raw form:
     # labels little-endian, x fastest, then y, z, channel. `size` and `block`
-    # are the chunk's and its blocks' extents in voxels. Where `wide` is 1
-    # labels have 64 bits; any other number says 32. Writes the raw form to the
-    # front of `out`, which needs the room that coronagamba_unpacked_length
-    # tells, and its number of bytes to `length`.
-    # Refusals: 2 also where a block size or the channel count is 0, 29 where
-    # it would refuse the label of any voxel, 28 where it would refuse the
-    # label of any voxel, 13 where `out` is shorter than the raw form
+    # are the chunk's and its blocks' extents in voxels; `bits` is the label
+    # width, 32 or 64. Writes the raw form to the front of `out`, which needs
+    # the room that coronagamba_unpacked_length tells, and its number of bytes
+    # to `length`.
+    # Refusals: 2 also where `bits` is another number or a block size or the
+    # channel count is 0, 29 where coronagamba_label would give it for any
+    # voxel, 28 where else that would for any, 13 where `out` is shorter than
+    # the raw form
     "coronagamba_unpack": (
         ctypes.c_uint64,
         (

@@ -18,7 +18,8 @@ class Numbers:
 
     # a volume or chunk extent is 0, or a cell coordinate is not below its grid
     # size; in a chunk of labels also where a block size or the channel count
-    # is 0, or a voxel or channel is outside
+    # is 0, or a voxel or channel is outside; beyond the table, and before all
+    # else, where the label width is neither 32 nor 64 bits
     NO_SUCH_CELL = 2
 
     # a key is made or decoded, or a card read or written, or an info file

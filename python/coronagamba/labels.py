@@ -86,7 +86,7 @@ class Labels(Held):
             _declared.Extents(*self._size),
             _declared.Extents(*self._block),
             self._channels,
-            int(self._bits == 64),
+            self._bits,
         )
 
     def label(self, voxel: Iterable[int], channel: int = 0) -> int:

@@ -40,9 +40,10 @@ NO_SCALES = (c_uint8 * 2).from_buffer_copy(b"{}")
 MANIFEST = (c_uint8 * 28).from_buffer_copy(manifest((1, 1, 1), (0, 0, 0), []))
 # One label of 32 bits, and one of another width.
 ONE = _declared.Extents(1, 1, 1)
-SHAPE = (ONE, ONE, 1, 0)
-NO_SHAPE = (_declared.Extents(), ONE, 1, 0)
-WIDE = (_declared.Extents(2**31, 2**31, 2), ONE, 1, 0)
+SHAPE = (ONE, ONE, 1, 32)
+NO_SHAPE = (_declared.Extents(), ONE, 1, 32)
+NO_WIDTH = (ONE, ONE, 1, 1)
+WIDE = (_declared.Extents(2**31, 2**31, 2), ONE, 1, 32)
 LABELLED = (c_uint8 * 16).from_buffer_copy(struct.pack("<4I", 1, 2, 0, 5))
 WIDTH = (c_uint8 * 12).from_buffer_copy(struct.pack("<3I", 1, 3 << 24, 0))
 CELLS = (c_uint32 * 6)()
@@ -171,11 +172,14 @@ CALLS = [
     (18, "manifest_nodes", (MANIFEST, 28, 0), [(c_uint64 * 5, 5), U64]),
     (18, "manifest_corners", (MANIFEST, 28, 0, 0), [THREE_U32, THREE_U32]),
     (2, "label", (LABELLED, 16, *SHAPE, 0, 0, 0, 1), [U64]),
+    (2, "label", (LABELLED, 16, *NO_WIDTH, 0, 0, 0, 0), [U64]),
     (28, "label", (LABELLED, 15, *SHAPE, 0, 0, 0, 0), [U64]),
     (29, "label", (WIDTH, 12, *SHAPE, 0, 0, 0, 0), [U64]),
     (2, "unpacked_length", NO_SHAPE, [U64]),
+    (2, "unpacked_length", NO_WIDTH, [U64]),
     (13, "unpacked_length", WIDE, [U64]),
     (2, "unpack", (LABELLED, 16, *NO_SHAPE), [(c_uint8 * 9, 9), U64]),
+    (2, "unpack", (LABELLED, 16, *NO_WIDTH), [(c_uint8 * 9, 9), U64]),
     (28, "unpack", (LABELLED, 15, *SHAPE), [(c_uint8 * 9, 9), U64]),
     (29, "unpack", (WIDTH, 12, *SHAPE), [(c_uint8 * 3, 3), U64]),
     (13, "unpack", (LABELLED, 16, *SHAPE), [(c_uint8 * 3, 3), U64]),

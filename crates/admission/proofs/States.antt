@@ -6,7 +6,7 @@ use mathlib.Core.List.{List}
 use native.Mathlib.Omega.{arith}
 use lib.Dec.{ltb, leb, eqb}
 use borrow.Author.Needs.{needs}
-use borrow.Author.Tests.{leb-true, leb-false, le-leb, lt-leb, eq-eqb, ne-eqb}
+use borrow.Author.Tests.{leb-true, leb-false, le-leb, lt-leb, eqb-true, eqb-false, eq-eqb, ne-eqb}
 use Rattle.refusal.proofs.Tests.{told-no, told-yes}
 use Rattle.sharding.specs.declared.Sharding.{Sharding}
 use Rattle.sharding.specs.declared.Place.{Place}
@@ -15,7 +15,7 @@ use Rattle.sharding.specs.Place.{placeOf}
 use Rattle.shard.specs.File.{indexLength}
 use Rattle.waiting.specs.Held.{idHeld, sizeHeld}
 use Rattle.admission.specs.declared.Intake.{Intake}
-use Rattle.admission.specs.State.{most, announcedLength, notVolume, fresh, placed, begun, waits, going, sane}
+use Rattle.admission.specs.State.{most, announcedLength, notVolume, fresh, placed, begun, spans, waits, going, sane}
 use Rattle.admission.proofs.Passing.{volume-allowed, begun-ordered}
 
 -- ---- a specification
@@ -67,17 +67,29 @@ pub begun-is : (s : Intake) → leb (s .begin) (s .next) && (eqb (s .begin) 0 ||
 unfolding begun
 begun-is s = refl
 
-pub waits-is : (s : Intake) (w : List ℕ) {id size : ℕ} → s .begin ≤ s .next → id ≡ idHeld w (s .count - 1) → size ≡ sizeHeld w (s .count - 1)
-    → eqb id (s .last) && (leb (s .owed) size && leb size (s .next + s .owed - s .begin)) ≡ waits s w
-unfolding waits
-waits-is s w {id} {size} l e f = rw (← e, ← f, same-test (s .next + s .owed) (omega arith))
+pub spans-is : (s : Intake) (size : ℕ) → s .begin ≤ s .next
+    → leb size (s .next + s .owed - s .begin) && (ltb 1 (s .count) || eqb size (s .next + s .owed - s .begin)) ≡ spans s size
+unfolding spans
+spans-is s size l = rw (same-most (s .next + s .owed) (omega arith), same-size (s .next + s .owed) (omega arith))
   where
-    same-test : (n : ℕ) → s .begin ≤ n → leb size (n - s .begin) ≡ leb (s .begin + size) n
-    same-test n k = go (leb (s .begin + size) n) refl
+    same-most : (n : ℕ) → s .begin ≤ n → leb size (n - s .begin) ≡ leb (s .begin + size) n
+    same-most n k = go (leb (s .begin + size) n) refl
       where
         go : (b : Bool) → leb (s .begin + size) n ≡ b → leb size (n - s .begin) ≡ leb (s .begin + size) n
         go true t = le-leb size (n - s .begin) (omega (arith, leb-true (s .begin + size) n t)) ∙ sym t
         go false t = lt-leb size (n - s .begin) (omega (arith, leb-false (s .begin + size) n t)) ∙ sym t
+
+    same-size : (n : ℕ) → s .begin ≤ n → eqb size (n - s .begin) ≡ eqb (s .begin + size) n
+    same-size n k = go (eqb (s .begin + size) n) refl
+      where
+        go : (b : Bool) → eqb (s .begin + size) n ≡ b → eqb size (n - s .begin) ≡ eqb (s .begin + size) n
+        go true t = eq-eqb size (n - s .begin) (omega (arith, eqb-true (s .begin + size) n t)) ∙ sym t
+        go false t = let d = eqb-false (s .begin + size) n t in ne-eqb size (n - s .begin) (λ e. d (omega arith)) ∙ sym t
+
+pub waits-is : (s : Intake) (w : List ℕ) {id size : ℕ} {b : Bool} → b ≡ spans s size → id ≡ idHeld w (s .count - 1) → size ≡ sizeHeld w (s .count - 1)
+    → eqb id (s .last) && (leb (s .owed) size && b) ≡ waits s w
+unfolding waits
+waits-is s w {id} {size} {b} p e f = rw (p, e, f)
 
 module _ (s : Intake) (w : List ℕ) {a : Bool} (p : a ≡ placed s) where
   pub going-elsewhere : not a ≡ true → false ≡ going s w
@@ -146,6 +158,7 @@ pub ruleset testing = (
   fresh-is,
   placed-is,
   begun-is,
+  spans-is,
   waits-is,
   going-elsewhere,
   going-not-begun,

@@ -23,7 +23,7 @@ otherLengths s output waiting = not (eqb (s .output) output) || not (eqb (s .wai
 unfoldable pub foreign : Intake → ℕ → Bool
 foreign s id = allowed (s .spec) && not (eqb (shardOf (s .spec) id) (s .shard))
 
--- 25 of any call: "after the close", or a state that no calls left
+-- 25 of any call: "after the close", or a state that does not pass, so that no calls left it
 unfoldable pub unusable : Intake → List ℕ → Bool
 unusable s w = not (sane s w) || not (eqb (s .phase) 0)
 

@@ -1,4 +1,5 @@
--- The state of an intake in plain numbers, and which states no calls could have left (02, order 11). Places count from the end of the shard index.
+-- The state of an intake in plain numbers, and tests that every state passes that calls left (02, order 11). Places count from the end of the shard
+-- index.
 use Prim.Native.Nat.{ℕ, _+_, _*_, _-_, _≤_, _<_, min}
 use mathlib.Core.Path.{_≡_}
 use mathlib.Core.Bool.{Bool, true, not, _&&_, _||_}
@@ -44,16 +45,22 @@ placed s =
 unfoldable pub begun : Intake → Bool
 begun s = leb (s .begin) (s .next) && (eqb (s .begin) 0 || (ltb 0 (s .minishard) && leb 24 (s .begin)))
 
--- and the last pair that waits is the last chunk's: its id, and its size, of which no more is owed, and which came or is owed
+-- a last chunk of this size is among what came of the open minishard or is owed; an only one is all of that,
+unfoldable pub spans : Intake → ℕ → Bool
+spans s size = leb (s .begin + size) (s .next + s .owed) && (ltb 1 (s .count) || eqb (s .begin + size) (s .next + s .owed))
+
+-- and the last pair that waits is the last chunk's: its id, and its size, of which no more is owed
 unfoldable pub waits : Intake → List ℕ → Bool
 waits s w =
     eqb (idHeld w (s .count - 1)) (s .last)
-    && (leb (s .owed) (sizeHeld w (s .count - 1)) && leb (s .begin + sizeHeld w (s .count - 1)) (s .next + s .owed))
+    && (leb (s .owed) (sizeHeld w (s .count - 1)) && spans s (sizeHeld w (s .count - 1)))
 
 unfoldable pub going : Intake → List ℕ → Bool
 going s w = placed s && (begun s && waits s w)
 
--- the numbers of the state contradict neither each other nor the second buffer
+-- the numbers of the state contradict neither each other, nor the lengths, nor the last pair that waits: every state that calls left passes. Not
+-- compared are the pairs before the last one, what stands in the output, and whether the open minishard has as many ids as chunks, or one before it
+-- any id
 unfoldable pub sane : Intake → List ℕ → Bool
 sane s w =
     not (notVolume (s .spec))
@@ -63,7 +70,7 @@ sane s w =
 
 -- ---- what a call may rely on
 
--- a state that calls could have left, and the lengths of the buffers that it goes with
+-- of a state that passed, and of the lengths of the buffers that it goes with: what keeps a call within them
 pub record Usable (s : Intake) (output waiting : ℕ) : Type 0 where
   pub outputs : s .output ≡ output
   pub waits : s .waiting ≡ waiting

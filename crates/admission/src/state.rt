@@ -1,11 +1,11 @@
-// Whether calls could have left a state. Each takes constant time, as each part of a chunk asks.
+// Tests that every state passes that calls left. Each takes constant time, as each part of a chunk asks.
 ghost use mathlib.Core.Path.{_≡_};
 ghost use mathlib.Core.Bool.{true};
 ghost use Prim.Native.Nat.{_+_, _*_, _<_, _≤_};
 ghost use lib.Dec.{leb};
 ghost use lib.ListN.{length};
 ghost use Rattle.sharding.specs.Specification.{allowed};
-ghost use Rattle.admission.specs.State.{most, announcedLength, notVolume, fresh, placed, begun, waits, going, sane};
+ghost use Rattle.admission.specs.State.{most, announcedLength, notVolume, fresh, placed, begun, spans, waits, going, sane};
 use crate::Intake;
 use endian::inner::read_u64;
 use shard::inner::MOST_SHARD_BYTES;
@@ -84,7 +84,16 @@ fn has_begun(state: Intake) -> bool
         & ((state.begin == 0) | ((0 < state.minishard) & (24 <= state.begin)))
 }
 
-// What came of the open minishard or is owed holds the last chunk.
+// What came of the open minishard or is owed holds a last chunk of this size, and no more than an only one.
+fn holds_size(state: Intake, size: usize) -> bool
+    requires { ⌜ (state .begin ≤ state .next) × (state .next + state .owed < 18446744073709551616) ⌝ }
+    ensures { λ r. ⌜ r ≡ spans state size ⌝ }
+{
+    let came = state.next + state.owed - state.begin;
+    (size <= came) & ((1 < state.count) | (size == came))
+}
+
+// The last pair is the last chunk's.
 fn holds_last(state: Intake, waiting: &[u8]) -> bool
     requires { ⌜ (0 < state .count) × (16 * state .count ≤ length (now waiting)) ⌝ }
     requires { ⌜ (state .begin ≤ state .next) × (state .next + state .owed < 18446744073709551616) ⌝ }
@@ -93,8 +102,8 @@ fn holds_last(state: Intake, waiting: &[u8]) -> bool
     let at = 16 * (state.count - 1);
     let id = read_u64(waiting, at);
     let size = read_u64(waiting, at + 8) as usize;
-    let came = state.next + state.owed - state.begin;
-    (id == state.last) & ((state.owed <= size) & (size <= came))
+    let fits = holds_size(state, size);
+    (id == state.last) & ((state.owed <= size) & fits)
 }
 
 fn is_going(state: Intake, waiting: &[u8]) -> bool

@@ -1,74 +1,103 @@
 -- What the match on an answer of the labels' calls tells, of the shape t that the caller's numbers make: the word, and what lent memory then holds.
 use Prim.Native.Nat.{ℕ}
-use mathlib.Core.Path.{_≡_, ap, _∙_}
+use mathlib.Core.Path.{_≡_, refl, sym, ap, _∙_}
+use mathlib.Core.Bool.{Bool, true, false}
 use mathlib.Core.List.{List}
 use borrow.Author.Needs.{needs}
+use Rattle.refusal.specs.Checks.{answered}
 use Rattle.refusal.specs.declared.Written.{Written}
 use Rattle.refusal.specs.declared.Written.the-variants.{Length, Refused}
+use Rattle.refusal.proofs.Picks.{by-picks}
 use Rattle.segmentation.specs.declared.Shape.{Shape}
 use Rattle.segmentation.specs.declared.LabelAnswer.{LabelAnswer}
 use Rattle.segmentation.specs.declared.LabelAnswer.the-variants.{Label, Refused as Unlabelled}
 use Rattle.segmentation.specs.Labels.{labelAnswer}
 use Rattle.unpack.specs.Raw.{lengthAnswer, unpackAnswer, unpackLeft}
 use Rattle.coronagamba.specs.Word.{writtenWord, lengthAfter}
-use Rattle.coronagamba.specs.Labels.{labelWord, labelAfter}
+use Rattle.coronagamba.specs.Labels.{noWidth, widthChecks, labelBy, writtenBy, leftBy, labelWord, labelAfter}
 use Rattle.coronagamba.proofs.Told.{told, after}
 
-module _ {sh t : Shape} (q : sh ≡ t) where
-  module _ (s : List ℕ) (x y z c : ℕ) {b : LabelAnswer} (e : b ≡ labelAnswer s sh x y z c) where
-    asked : b ≡ labelAnswer s t x y z c
-    asked = e ∙ ap (λ (r : Shape). labelAnswer s r x y z c) q
+-- ---- by the label width, w telling whether it is none
 
-    pub label-given : {v : ℕ} → b ≡ Label v → 0 ≡ labelWord (labelAnswer s t x y z c)
-    label-given h = told labelWord asked h
+module _ (bits : ℕ) {w : Bool} (p : w ≡ noWidth bits) where
+  module _ {A : Type 0} (r : ℕ → A) (a : A) where
+    by-none : w ≡ true → r 2 ≡ answered r (widthChecks bits) a
+    by-none h = sym (by-picks r (widthChecks bits) a refl ∙ rw (sym p ∙ h))
 
-    pub label-refused : {k : ℕ} → b ≡ Unlabelled k → k ≡ labelWord (labelAnswer s t x y z c)
-    label-refused h = told labelWord asked h
+    by-width : w ≡ false → a ≡ answered r (widthChecks bits) a
+    by-width h = sym (by-picks r (widthChecks bits) a refl ∙ rw (sym p ∙ h))
 
-    pub label-held : (n : ℕ) {v : ℕ} → b ≡ Label v → v ≡ labelAfter (labelAnswer s t x y z c) n
-    label-held n h = after labelAfter n asked h
+  module _ (h : w ≡ true) where
+    pub label-none : (a : LabelAnswer) → 2 ≡ labelWord (labelBy bits a)
+    label-none a = ap labelWord (by-none Unlabelled a h)
 
-    pub label-kept : (n : ℕ) {k : ℕ} → b ≡ Unlabelled k → n ≡ labelAfter (labelAnswer s t x y z c) n
-    label-kept n h = after labelAfter n asked h
+    pub label-none-kept : (a : LabelAnswer) (n : ℕ) → n ≡ labelAfter (labelBy bits a) n
+    label-none-kept a n = ap (λ (b : LabelAnswer). labelAfter b n) (by-none Unlabelled a h)
 
-  module _ {b : Written} (e : b ≡ lengthAnswer sh) where
-    counted : b ≡ lengthAnswer t
-    counted = e ∙ ap lengthAnswer q
+    pub written-none : (a : Written) → 2 ≡ writtenWord (writtenBy bits a)
+    written-none a = ap writtenWord (by-none Refused a h)
 
-    pub bytes-given : {n : ℕ} → b ≡ Length n → 0 ≡ writtenWord (lengthAnswer t)
-    bytes-given h = told writtenWord counted h
+    pub written-none-kept : (a : Written) (m : ℕ) → m ≡ lengthAfter (writtenBy bits a) m
+    written-none-kept a m = ap (λ (b : Written). lengthAfter b m) (by-none Refused a h)
 
-    pub bytes-refused : {k : ℕ} → b ≡ Refused k → k ≡ writtenWord (lengthAnswer t)
-    bytes-refused h = told writtenWord counted h
+    pub none-left : (out d : List ℕ) → d ≡ leftBy bits out d
+    none-left out d = by-none (λ k. d) out h
 
-    pub bytes-held : (m : ℕ) {n : ℕ} → b ≡ Length n → n ≡ lengthAfter (lengthAnswer t) m
-    bytes-held m h = after lengthAfter m counted h
+  module _ (h : w ≡ false) {sh t : Shape} (q : sh ≡ t) where
+    module _ (s : List ℕ) (x y z c : ℕ) {b : LabelAnswer} (e : b ≡ labelAnswer s sh x y z c) where
+      asked : b ≡ labelBy bits (labelAnswer s t x y z c)
+      asked = e ∙ ap (λ (r : Shape). labelAnswer s r x y z c) q ∙ by-width Unlabelled (labelAnswer s t x y z c) h
 
-    pub bytes-kept : (m : ℕ) {k : ℕ} → b ≡ Refused k → m ≡ lengthAfter (lengthAnswer t) m
-    bytes-kept m h = after lengthAfter m counted h
+      pub label-given : {v : ℕ} → b ≡ Label v → 0 ≡ labelWord (labelBy bits (labelAnswer s t x y z c))
+      label-given i = told labelWord asked i
 
-  module _ (s d : List ℕ) where
-    pub unpack-left : {g : List ℕ} → g ≡ unpackLeft s sh d → g ≡ unpackLeft s t d
-    unpack-left e = e ∙ ap (λ (r : Shape). unpackLeft s r d) q
+      pub label-refused : {k : ℕ} → b ≡ Unlabelled k → k ≡ labelWord (labelBy bits (labelAnswer s t x y z c))
+      label-refused i = told labelWord asked i
 
-    module _ {b : Written} (e : b ≡ unpackAnswer s sh d) where
-      unpacked : b ≡ unpackAnswer s t d
-      unpacked = e ∙ ap (λ (r : Shape). unpackAnswer s r d) q
+      pub label-held : (n : ℕ) {v : ℕ} → b ≡ Label v → v ≡ labelAfter (labelBy bits (labelAnswer s t x y z c)) n
+      label-held n i = after labelAfter n asked i
 
-      pub unpack-given : {n : ℕ} → b ≡ Length n → 0 ≡ writtenWord (unpackAnswer s t d)
-      unpack-given h = told writtenWord unpacked h
+      pub label-kept : (n : ℕ) {k : ℕ} → b ≡ Unlabelled k → n ≡ labelAfter (labelBy bits (labelAnswer s t x y z c)) n
+      label-kept n i = after labelAfter n asked i
 
-      pub unpack-refused : {k : ℕ} → b ≡ Refused k → k ≡ writtenWord (unpackAnswer s t d)
-      unpack-refused h = told writtenWord unpacked h
+    module _ {b : Written} (e : b ≡ lengthAnswer sh) where
+      counted : b ≡ writtenBy bits (lengthAnswer t)
+      counted = e ∙ ap lengthAnswer q ∙ by-width Refused (lengthAnswer t) h
 
-      pub unpack-held : (m : ℕ) {n : ℕ} → b ≡ Length n → n ≡ lengthAfter (unpackAnswer s t d) m
-      unpack-held m h = after lengthAfter m unpacked h
+      pub bytes-given : {n : ℕ} → b ≡ Length n → 0 ≡ writtenWord (writtenBy bits (lengthAnswer t))
+      bytes-given i = told writtenWord counted i
 
-      pub unpack-kept : (m : ℕ) {k : ℕ} → b ≡ Refused k → m ≡ lengthAfter (unpackAnswer s t d) m
-      unpack-kept m h = after lengthAfter m unpacked h
+      pub bytes-refused : {k : ℕ} → b ≡ Refused k → k ≡ writtenWord (writtenBy bits (lengthAnswer t))
+      bytes-refused i = told writtenWord counted i
 
-pub ruleset labelling = (label-given, label-refused, label-held, label-kept, needs)
+      pub bytes-held : (m : ℕ) {n : ℕ} → b ≡ Length n → n ≡ lengthAfter (writtenBy bits (lengthAnswer t)) m
+      bytes-held m i = after lengthAfter m counted i
 
-pub ruleset measuring = (bytes-given, bytes-refused, bytes-held, bytes-kept, needs)
+      pub bytes-kept : (m : ℕ) {k : ℕ} → b ≡ Refused k → m ≡ lengthAfter (writtenBy bits (lengthAnswer t)) m
+      bytes-kept m i = after lengthAfter m counted i
 
-pub ruleset unpacking = (unpack-left, unpack-given, unpack-refused, unpack-held, unpack-kept, needs)
+    module _ (s d : List ℕ) where
+      pub unpack-left : {g : List ℕ} → g ≡ unpackLeft s sh d → g ≡ leftBy bits (unpackLeft s t d) d
+      unpack-left e = e ∙ ap (λ (r : Shape). unpackLeft s r d) q ∙ by-width (λ k. d) (unpackLeft s t d) h
+
+      module _ {b : Written} (e : b ≡ unpackAnswer s sh d) where
+        unpacked : b ≡ writtenBy bits (unpackAnswer s t d)
+        unpacked = e ∙ ap (λ (r : Shape). unpackAnswer s r d) q ∙ by-width Refused (unpackAnswer s t d) h
+
+        pub unpack-given : {n : ℕ} → b ≡ Length n → 0 ≡ writtenWord (writtenBy bits (unpackAnswer s t d))
+        unpack-given i = told writtenWord unpacked i
+
+        pub unpack-refused : {k : ℕ} → b ≡ Refused k → k ≡ writtenWord (writtenBy bits (unpackAnswer s t d))
+        unpack-refused i = told writtenWord unpacked i
+
+        pub unpack-held : (m : ℕ) {n : ℕ} → b ≡ Length n → n ≡ lengthAfter (writtenBy bits (unpackAnswer s t d)) m
+        unpack-held m i = after lengthAfter m unpacked i
+
+        pub unpack-kept : (m : ℕ) {k : ℕ} → b ≡ Refused k → m ≡ lengthAfter (writtenBy bits (unpackAnswer s t d)) m
+        unpack-kept m i = after lengthAfter m unpacked i
+
+pub ruleset labelling = (label-none, label-none-kept, label-given, label-refused, label-held, label-kept, needs)
+
+pub ruleset measuring = (written-none, written-none-kept, bytes-given, bytes-refused, bytes-held, bytes-kept, needs)
+
+pub ruleset unpacking = (written-none, written-none-kept, none-left, unpack-left, unpack-given, unpack-refused, unpack-held, unpack-kept, needs)

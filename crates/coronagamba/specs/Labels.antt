@@ -1,18 +1,36 @@
 -- Labels across the C border: how a chunk's labels are laid out, the answer word, and what the lent label holds afterwards.
 use Prim.Native.Nat.{ℕ}
-use mathlib.Core.Bool.{Bool}
+use mathlib.Core.Bool.{Bool, not, _&&_}
+use mathlib.Core.List.{List, [], _∷_}
 use lib.Dec.{eqb}
+use Rattle.refusal.specs.Checks.{Check, check, answered, left}
+use Rattle.refusal.specs.declared.Written.{Written}
+use Rattle.refusal.specs.declared.Written.the-variants as W
 use Rattle.grid.specs.declared.Extents.{Extents}
 use Rattle.segmentation.specs.declared.Shape.{Shape}
 use Rattle.segmentation.specs.declared.LabelAnswer.{LabelAnswer}
 use Rattle.segmentation.specs.declared.LabelAnswer.the-variants.{Label, Refused}
 
--- the label width: 1 says 64 bits, and any other number 32 (02, order 14)
-abbrev pub saysWide : ℕ → Bool
-saysWide wide = eqb wide 1
+-- "32- or 64-bit labels" (02, order 14): no other number is a label width
+abbrev pub noWidth : ℕ → Bool
+noWidth bits = not (eqb bits 32) && not (eqb bits 64)
+
+-- asked with such a number, each call refuses with 2 before all else, which is beyond 02's table; otherwise it answers as the library does
+abbrev pub widthChecks : ℕ → List Check
+widthChecks bits = check 2 (noWidth bits) ∷ []
+
+abbrev pub labelBy : ℕ → LabelAnswer → LabelAnswer
+labelBy bits answer = answered Refused (widthChecks bits) answer
+
+abbrev pub writtenBy : ℕ → Written → Written
+writtenBy bits answer = answered W.Refused (widthChecks bits) answer
+
+-- and what an output then holds
+abbrev pub leftBy : ℕ → List ℕ → List ℕ → List ℕ
+leftBy bits after before = left (widthChecks bits) after before
 
 abbrev pub shapeOf : Extents → Extents → ℕ → ℕ → Shape
-shapeOf size block channels wide = record { extents = size; block = block; channels = channels; wide = saysWide wide }
+shapeOf size block channels bits = record { extents = size; block = block; channels = channels; wide = eqb bits 64 }
 
 abbrev pub labelWord : LabelAnswer → ℕ
 labelWord (Label v) = 0

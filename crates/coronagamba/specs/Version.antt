@@ -8,7 +8,7 @@ abbrev pub minor : ℕ
 minor = 5
 
 abbrev pub patch : ℕ
-patch = 0
+patch = 1
 
 -- one number: patch + 2^16 × minor + 2^32 × major
 abbrev pub version : ℕ

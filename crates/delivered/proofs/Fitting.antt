@@ -32,7 +32,7 @@ use Rattle.delivered.proofs.Reached.{opened-sane, taken-sane, turns, an
 
 -- ---- each step leaves buffers of the same lengths
 
-length-ended : (s : Intake) (o w : List ℕ) → Usable s (length o) (length w) → length (endedLeft s o w) ≡ length o
+pub length-ended : (s : Intake) (o w : List ℕ) → Usable s (length o) (length w) → length (endedLeft s o w) ≡ length o
 unfolding endedLeft
 length-ended s o w u = go (eqb (s .count) 0) refl
   where

@@ -37,19 +37,19 @@ use Rattle.delivered.proofs.Contents.{arrived, putAt, arrived-snoc, arr
 use Rattle.delivered.proofs.Standing.{Begins, begins-on, begins-same, pairsOf, pairs-append, length-pairs, Plain, plain-snoc, Stands, next-place, whole-length, ended-begins}
 use Rattle.delivered.proofs.Handing.{handed}
 
--- an intake that owes nothing and has the content c
-pub record Keeps (spec : Sharding) (c : List (List Item)) (s : Intake) (o w : List ℕ) : Type 0 where
+-- an intake that owes nothing and has the content c, opened with the output out
+pub record Keeps (spec : Sharding) (out : List ℕ) (c : List (List Item)) (s : Intake) (o w : List ℕ) : Type 0 where
   pub ended : List (List Item)
   pub current : List Item
   pub after : ℕ
   pub same : s .spec ≡ spec
   pub split : c ≡ ended ++ (current ∷ empties after)
-  pub stands : Stands ended current after s o w
+  pub stands : Stands out ended current after s o w
 
 -- ---- open
 
 pub opened-keeps : (spec : Sharding) (shard : ℕ) (o w : List ℕ)
-    → Keeps spec (arrived spec []) (opened spec shard (length o) (length w)) (paste 0 (replicate (indexLength spec) 0) o) w
+    → Keeps spec o (arrived spec []) (opened spec shard (length o) (length w)) (paste 0 (replicate (indexLength spec) 0) o) w
 unfolding chunksOf chunksLength partsLength pairsOf row Plain
 opened-keeps spec shard o w =
     let n = minishardCount spec in
@@ -69,19 +69,20 @@ opened-keeps spec shard o w =
         began = refl;
         reached = refl;
         plain = tt;
-        written = begins-same (begins-on {t = []} 0 (replicate (16 * n) 0) (record { rest = o; is = refl }) refl) (sym (append-nil _ ∙ ap settled f ∙ empties-settled n));
-        waits = record { rest = w; is = refl };
+        written = begins-same (begins-on {t = []} 0 (replicate (16 * n) 0) (record { is = refl }) refl) (sym (append-nil _ ∙ ap settled f ∙ empties-settled n));
+        older = w;
+        waits = record { is = refl };
       };
     }
 
 -- ---- a minishard that begins
 
-module _ {spec : Sharding} {c : List (List Item)} {s : Intake} {o w : List ℕ} (h : Keeps spec c s o w) (m : ℕ) (b : m < minishardCount spec) where
-  turned-on : m ≡ s .minishard → Keeps spec c (turned s m) (turnedLeft s m o w) w
+module _ {spec : Sharding} {out : List ℕ} {c : List (List Item)} {s : Intake} {o w : List ℕ} (h : Keeps spec out c s o w) (m : ℕ) (b : m < minishardCount spec) where
+  turned-on : m ≡ s .minishard → Keeps spec out c (turned s m) (turnedLeft s m o w) w
   unfolding turned turnedLeft
   turned-on e = rw (eq-eqb _ _ e) h
 
-  turned-later : s .minishard < m → Keeps spec c (turned s m) (turnedLeft s m o w) w
+  turned-later : s .minishard < m → Keeps spec out c (turned s m) (turnedLeft s m o w) w
   unfolding turned turnedLeft chunksOf chunksLength partLength pairsOf row Plain
   turned-later l =
       let a = h .ended in
@@ -115,11 +116,12 @@ module _ {spec : Sharding} {c : List (List Item)} {s : Intake} {o w : List ℕ} 
           reached = omega arith;
           plain = tt;
           written = begins-same (ended-begins t) g;
-          waits = record { rest = w; is = refl };
+          older = w;
+          waits = record { is = refl };
         };
       })
 
-  pub turned-keeps : s .minishard ≤ m → Keeps spec c (turned s m) (turnedLeft s m o w) w
+  pub turned-keeps : s .minishard ≤ m → Keeps spec out c (turned s m) (turnedLeft s m o w) w
   turned-keeps l = ⊎-elim (λ e. turned-on (sym e)) (λ q. turned-later q) (eq-or-lt-of-le l)
 
 pub turned-there : (s : Intake) (m : ℕ) → turned s m .minishard ≡ m
@@ -144,11 +146,11 @@ one-pair : (x : Item) → pairsOf (x ∷ []) ≡ x .id ∷ length (x .body) ∷ 
 unfolding pairsOf
 one-pair x = refl
 
-pub noted-keeps : {spec : Sharding} {c : List (List Item)} {s : Intake} {o w : List ℕ} (x : Item) → Keeps spec c s o w
+pub noted-keeps : {spec : Sharding} {out : List ℕ} {c : List (List Item)} {s : Intake} {o w : List ℕ} (x : Item) → Keeps spec out c s o w
     → x .lead ≡ [] → x .id < 2 ^ 64 → length (x .body) < 2 ^ 64
-    → Keeps spec (putAt (s .minishard) x c) (taken (noted s (x .id) (length (x .body))) (length (x .body)))
+    → Keeps spec out (putAt (s .minishard) x c) (taken (noted s (x .id) (length (x .body))) (length (x .body)))
     (paste (indexLength (s .spec) + s .next) (x .body) o) (paste (16 * s .count) (pair (x .id) (length (x .body))) w)
-noted-keeps {spec} {c} {s} {o} {w} x h e f g =
+noted-keeps {s = s} x h e f g =
     let a = h .ended in
     let xs = h .current in
     let k = h .after in
@@ -170,6 +172,7 @@ noted-keeps {spec} {c} {s} {o} {w} x h e f g =
             begins-same (begins-on (indexLength (s .spec) + s .next) (x .body) (t .written) (next-place t))
             (append-assoc (settled (a ++ ([] ∷ empties k))) (chunksOf xs) (x .body)
             ∙ ap (_++_ (settled (a ++ ([] ∷ empties k)))) (sym (chunks-append xs (x ∷ []) ∙ ap (_++_ (chunksOf xs)) (one-chunk x e))));
+        older = t .older;
         waits =
             begins-same (begins-on (16 * s .count) (pair (x .id) (length (x .body))) (t .waits) (omega (arith, t .counted, length-pairs xs)))
             (sym (ap row (pairs-append xs (x ∷ []) ∙ ap (_++_ (pairsOf xs)) (one-pair x)) ∙ row-append (pairsOf xs) (x .id ∷ length (x .body) ∷ [])));
@@ -178,11 +181,11 @@ noted-keeps {spec} {c} {s} {o} {w} x h e f g =
 
 -- ---- a chunk announced and handed over
 
-module _ (spec : Sharding) (items : List Item) {d e : Desk} (x : Delivery) {s : Intake} (h : d .state .owed ≡ 0 → Keeps spec (arrived spec items) (d .state) (d .output) (d .waiting)) where
+module _ (spec : Sharding) {out : List ℕ} (items : List Item) {d e : Desk} (x : Delivery) {s : Intake} (h : d .state .owed ≡ 0 → Keeps spec out (arrived spec items) (d .state) (d .output) (d .waiting)) where
   pub chunk-keeps : x .id < 2 ^ 64
       → announceAnswer (d .state) (x .id) (x .size) (d .output) (d .waiting) ≡ Next s
       → HandsOver (afterAnnounce d (x .id) (x .size) s) (x .parts) e
-      → e .state .owed ≡ 0 → Keeps spec (arrived spec (items ++ (asItem x ∷ []))) (e .state) (e .output) (e .waiting)
+      → e .state .owed ≡ 0 → Keeps spec out (arrived spec (items ++ (asItem x ∷ []))) (e .state) (e .output) (e .waiting)
   chunk-keeps l q r z =
       let t = d .state in
       let o = d .output in
@@ -212,9 +215,9 @@ module _ (spec : Sharding) (items : List Item) {d e : Desk} (x : Delivery) {s : 
 
 -- ---- all of them
 
-delivers-keeps : (spec : Sharding) (items : List Item) {d f : Desk} {xs : List Delivery} → Delivers d xs f
-    → (d .state .owed ≡ 0 → Keeps spec (arrived spec items) (d .state) (d .output) (d .waiting))
-    → f .state .owed ≡ 0 → Keeps spec (arrived spec (items ++ asItems xs)) (f .state) (f .output) (f .waiting)
+delivers-keeps : (spec : Sharding) {out : List ℕ} (items : List Item) {d f : Desk} {xs : List Delivery} → Delivers d xs f
+    → (d .state .owed ≡ 0 → Keeps spec out (arrived spec items) (d .state) (d .output) (d .waiting))
+    → f .state .owed ≡ 0 → Keeps spec out (arrived spec (items ++ asItems xs)) (f .state) (f .output) (f .waiting)
 unfolding asItems
 delivers-keeps spec items no-chunk h z = rw (append-nil items) (h z)
 delivers-keeps spec items (chunk {x = x} {xs = xs} l q r rest) h z =
@@ -248,24 +251,24 @@ takes-idle {spec} {shard} {out} {waiting} t =
 
 -- what the intake kept, where nothing is owed
 pub takes-keeps : {spec : Sharding} {shard : ℕ} {out waiting : List ℕ} {xs : List Delivery} {d : Desk} → Takes spec shard out waiting xs d
-    → d .state .owed ≡ 0 → Keeps spec (arrived spec (asItems xs)) (d .state) (d .output) (d .waiting)
+    → d .state .owed ≡ 0 → Keeps spec out (arrived spec (asItems xs)) (d .state) (d .output) (d .waiting)
 takes-keeps {spec} {shard} {out} {waiting} t z =
     let i = takes-idle t in
     delivers-keeps spec [] (t .delivers) (λ _. rw (i .state, i .output, i .waiting) (opened-keeps spec shard out waiting)) z
 
 -- ---- the close
 
-module _ {spec : Sharding} {c : List (List Item)} {s : Intake} {o w : List ℕ} (h : Keeps spec c s o w) where
+module _ {spec : Sharding} {out : List ℕ} {c : List (List Item)} {s : Intake} {o w : List ℕ} (h : Keeps spec out c s o w) where
   pub keeps-length : s .owed ≡ 0 → announcedLength s ≡ length (settled c)
   keeps-length z = omega (arith, whole-length (h .stands), ap (λ (y : List (List Item)). length (settled y)) (h .split))
 
-  pub keeps-ended : Begins (endedLeft s o w) (settled c)
+  pub keeps-ended : Begins out (endedLeft s o w) (settled c)
   keeps-ended = begins-same (ended-begins (h .stands)) (ap settled (sym (h .split)))
 
--- it reports the length of the settled form of what arrived, and the output begins with that
+-- it reports the length of the settled form of what arrived, and leaves the output with that at its front, and behind it as it was opened
 pub closes-arrived : {spec : Sharding} {shard : ℕ} {out waiting : List ℕ} {xs : List Delivery} {d : Desk} {s : Intake} {n : ℕ}
     → Takes spec shard out waiting xs d → closeAnswer (d .state) (d .output) (d .waiting) ≡ Closed s n
-    → (n ≡ length (settled (arrived spec (asItems xs)))) × Begins (closeLeft (d .state) (d .output) (d .waiting)) (settled (arrived spec (asItems xs)))
+    → (n ≡ length (settled (arrived spec (asItems xs)))) × Begins out (closeLeft (d .state) (d .output) (d .waiting)) (settled (arrived spec (asItems xs)))
 closes-arrived {d = d} t q =
     let u = close-told (d .state) (d .output) (d .waiting) q in
     let p = closes (d .state) (length (d .output)) (d .waiting) (u .0) in

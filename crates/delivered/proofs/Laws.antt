@@ -1,13 +1,15 @@
--- What order 11 promises of a run of calls: the close reports the length of the settled form of what was delivered, and the output begins with it.
+-- What order 11 promises of a run of calls: the close reports the length of the settled form of what was delivered, and the output is that and behind
+-- it what was lent to the opening.
 use Prim.Native.Nat.{ℕ, _<_}
 use mathlib.Core.Path.{_≡_, refl, sym, ap, _∙_}
 use mathlib.Core.Bool.{Bool, true, false}
 use mathlib.Core.Logic.{⊎-elim}
 use mathlib.Core.List.{List, [], _∷_, List·Memᴰ·not-nil, List·Memᴰ·cases-cons}
 use native.Mathlib.Omega.{arith}
-use lib.ListN.{length, getD, take}
+use lib.ListN.{length, getD, take, drop}
 use lib.Seq.{take-at}
 use borrow.Author.Tests.{leb-false, le-ltb}
+use Rattle.refusal.specs.Buffer.{over}
 use Rattle.refusal.specs.Checks.{firstNumber}
 use Rattle.sharding.specs.declared.Sharding.{Sharding}
 use Rattle.sharding.specs.Specification.{minishardCount, shardCount}
@@ -33,7 +35,6 @@ use Rattle.delivered.specs.Delivered.{Delivery, asItems, inMinishard, ga
 use Rattle.delivered.specs.Runs.{Desk, Takes, ClosedShard}
 use Rattle.delivered.specs.Says.{owing, closeSays}
 use Rattle.delivered.proofs.Contents.{arrived, arrived-length, gathered-arrived}
-use Rattle.delivered.proofs.Standing.{Begins}
 use Rattle.delivered.proofs.Keeping.{closes-arrived}
 use Rattle.delivered.proofs.Risen.{takes-risen, in-member, in-rising}
 use Rattle.delivered.proofs.Room.{arrived-at}
@@ -50,16 +51,22 @@ takes-gathered : {spec : Sharding} {shard : ℕ} {out waiting : List ℕ} {xs : 
     → gathered spec (asItems xs) ≡ arrived spec (asItems xs)
 takes-gathered {spec} {xs = xs} t = gathered-arrived spec (asItems xs) (λ m. in-rising spec m (asItems xs) (takes-in-order t))
 
-begins-take : {l f : List ℕ} → Begins l f → (k : ℕ) → k ≡ length f → take k l ≡ f
-begins-take {l} {f} h k z = ap (take k) (h .is) ∙ take-at f (h .rest) k (sym z)
-
 -- ---- the close
 
--- "the close reports the length of the settled form of what was delivered, and the output begins with it, however the parts were cut"
+-- "the close reports the length of the settled form of what was delivered, and the output begins with it, however the parts were cut"; past it nothing
+-- was touched since the opening
 pub closes-settled : {spec : Sharding} {shard : ℕ} {out waiting : List ℕ} {xs : List Delivery} {d : Desk} {s : Intake} {n : ℕ}
     → Takes spec shard out waiting xs d → closeAnswer (d .state) (d .output) (d .waiting) ≡ Closed s n
-    → (n ≡ length (deliveredForm spec xs)) × (take n (closeLeft (d .state) (d .output) (d .waiting)) ≡ deliveredForm spec xs)
-closes-settled t q = let c = closes-arrived t q in rw (takes-gathered t) (c .0, begins-take (c .1) _ (c .0))
+    → (n ≡ length (deliveredForm spec xs)) × (closeLeft (d .state) (d .output) (d .waiting) ≡ over (deliveredForm spec xs) out)
+closes-settled t q = let c = closes-arrived t q in rw (takes-gathered t) (c .0, c .1 .is)
+
+closes-front : {spec : Sharding} {shard : ℕ} {out waiting : List ℕ} {xs : List Delivery} {d : Desk} {s : Intake} {n : ℕ}
+    → Takes spec shard out waiting xs d → closeAnswer (d .state) (d .output) (d .waiting) ≡ Closed s n
+    → take n (closeLeft (d .state) (d .output) (d .waiting)) ≡ deliveredForm spec xs
+closes-front {spec} {out = out} {xs = xs} {n = n} t q =
+    let c = closes-settled t q in
+    let f = deliveredForm spec xs in
+    ap (take n) (c .1) ∙ take-at f (drop (length f) out) n (sym (c .0))
 
 nothing-owed : (xs : List Delivery) → owing xs ≡ 0 → firstNumber (closeSays xs) ≡ 0
 unfolding firstNumber closeSays
@@ -83,7 +90,7 @@ cut-differently {spec} a p b q r =
     let u = closes-settled a p in
     let v = closes-settled b q in
     let f = ap (λ (l : List Item). settled (gathered spec l)) r in
-    (u .0 ∙ ap length f ∙ sym (v .0), u .1 ∙ f ∙ sym (v .1))
+    (u .0 ∙ ap length f ∙ sym (v .0), closes-front a p ∙ f ∙ sym (closes-front b q))
 
 -- ---- what is closed is a sound shard that lists what was delivered, and its own settled form
 
@@ -143,7 +150,7 @@ module _ {spec : Sharding} {shard : ℕ} {out waiting : List ℕ} {xs : List Del
         short = omega (arith, z .0, u .1 .1, p .usual .room, length-settled c);
       } in
       let back = content-back good in
-      rw (z .1)
+      rw (closes-front t q)
       (record {
         sound =
             settled-sound (volume-allowed spec (opened-volume .volume)) (leb-false (shardCount spec) shard (opened-volume .numbered)) good

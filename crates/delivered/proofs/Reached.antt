@@ -18,7 +18,7 @@ use Rattle.shard.specs.File.{indexLength}
 use Rattle.waiting.specs.Held.{pair, idHeld, sizeHeld}
 use Rattle.waiting.proofs.Pairs.{pair-id, pair-size}
 use Rattle.admission.specs.declared.Intake.{Intake}
-use Rattle.admission.specs.State.{most, announcedLength, notVolume, fresh, placed, begun, waits, going, sane}
+use Rattle.admission.specs.State.{most, announcedLength, notVolume, fresh, placed, begun, spans, waits, going, sane}
 use Rattle.admission.specs.Refusals.{outOfOrder, countIn}
 use Rattle.admission.proofs.Passing.{volume-allowed, Fresh, fresh-parts, going-parts, Sane, sane-parts, unusable-parts, Opens, Announces, not-below, foreign-ours}
 use Rattle.intake.specs.Calls.{opened, turned, announced, taken}
@@ -60,15 +60,31 @@ record Waits (s : Intake) (w : List ℕ) : Type 0 where
   id : idHeld w (s .count - 1) ≡ s .last
   owed : s .owed ≤ sizeHeld w (s .count - 1)
   came : s .begin + sizeHeld w (s .count - 1) ≤ s .next + s .owed
+  only : (1 < s .count) ⊎ (s .begin + sizeHeld w (s .count - 1) ≡ s .next + s .owed)
 
 waits-parts : (s : Intake) (w : List ℕ) → waits s w ≡ true → Waits s w
-unfolding waits
-waits-parts s w e = let a = both _ _ e in let b = both _ _ (a .1) in record { id = eqb-true _ _ (a .0); owed = leb-true _ _ (b .0); came = leb-true _ _ (b .1) }
+unfolding waits spans
+waits-parts s w e =
+    let a = both _ _ e in
+    let b = both _ _ (a .1) in
+    let c = both _ _ (b .1) in
+    record { id = eqb-true _ _ (a .0); owed = leb-true _ _ (b .0); came = leb-true _ _ (c .0); only = go (ltb 1 (s .count)) refl (c .1) }
+  where
+    go : (b : Bool) → ltb 1 (s .count) ≡ b → (b || eqb (s .begin + sizeHeld w (s .count - 1)) (s .next + s .owed)) ≡ true
+        → (1 < s .count) ⊎ (s .begin + sizeHeld w (s .count - 1) ≡ s .next + s .owed)
+    go true f g = inl (ltb-true _ _ f)
+    go false f g = inr (eqb-true _ _ g)
 
 waits-made : (s : Intake) (w : List ℕ) → Waits s w → waits s w ≡ true
-unfolding waits
+unfolding waits spans
 waits-made s w h =
     rw (eq-eqb _ _ (h .id), le-leb (s .owed) (sizeHeld w (s .count - 1)) (h .owed), le-leb (s .begin + sizeHeld w (s .count - 1)) (s .next + s .owed) (h .came))
+    (go (h .only))
+  where
+    go : (1 < s .count) ⊎ (s .begin + sizeHeld w (s .count - 1) ≡ s .next + s .owed)
+        → (ltb 1 (s .count) || eqb (s .begin + sizeHeld w (s .count - 1)) (s .next + s .owed)) ≡ true
+    go (inl l) = rw (lt-ltb 1 (s .count) l)
+    go (inr e) = rw (eq-eqb (s .begin + sizeHeld w (s .count - 1)) (s .next + s .owed) e) (or-true (ltb 1 (s .count)))
 
 going-made : (s : Intake) (w : List ℕ) → shardOf (s .spec) (s .last) ≡ s .shard → minishardOf (s .spec) (s .last) ≡ s .minishard → s .count - 1 ≤ s .last
     → Begun s → Waits s w → going s w ≡ true
@@ -83,6 +99,11 @@ sane-made s w h =
 either-begun : (s : Intake) (w : List ℕ) (b : Bool) → pick b (fresh s) (going s w) ≡ true → Begun s
 either-begun s w true e = let z = fresh-parts s e in record { ordered = omega arith; behind = inl (z .begin) }
 either-begun s w false e = begun-parts s (going-parts s w e .begun)
+
+-- with no chunk in it, it begins where the next byte goes
+either-starts : (s : Intake) (w : List ℕ) (b : Bool) → pick b (fresh s) (going s w) ≡ true → eqb (s .count) 0 ≡ b → s .count ≡ 0 → s .begin ≡ s .next
+either-starts s w true e f n = let z = fresh-parts s e in omega (arith, z .begin, z .next)
+either-starts s w false e f n = absurd (eqb-false (s .count) 0 f n)
 
 -- as many ids as chunks are not above the last one
 either-ids : (s : Intake) (w : List ℕ) (b : Bool) → pick b (fresh s) (going s w) ≡ true → eqb (s .count) 0 ≡ b → s .count - 1 ≤ s .last
@@ -114,6 +135,10 @@ taken-sane s n w e l =
       either = go (eqb (s .count) 0) (h .either);
     })
   where
+    same : {k : ℕ} → (1 < s .count) ⊎ (k ≡ s .next + s .owed) → (1 < s .count) ⊎ (k ≡ s .next + n + (s .owed - n))
+    same (inl k) = inl k
+    same (inr f) = inr (omega arith)
+
     go : (b : Bool) → pick b (fresh s) (going s w) ≡ true → pick b (fresh (taken s n)) (going (taken s n) w) ≡ true
     go true f =
         let z = fresh-parts s f in
@@ -123,7 +148,7 @@ taken-sane s n w e l =
         let b = begun-parts s (z .begun) in
         let v = waits-parts s w (z .waits) in
         going-made (taken s n) w (z .ours) (z .here) (z .ids) (record { ordered = omega arith; behind = b .behind })
-        (record { id = v .id; owed = omega arith; came = omega arith })
+        (record { id = v .id; owed = omega arith; came = omega arith; only = same (v .only) })
 
 -- what a new minishard changes of the numbers
 pub record Turns (s : Intake) (w : List ℕ) (m : ℕ) (t : Intake) : Type 0 where
@@ -133,6 +158,7 @@ pub record Turns (s : Intake) (w : List ℕ) (m : ℕ) (t : Intake) : Type 0 whe
   pub waiting : t .waiting ≡ s .waiting
   pub phase : t .phase ≡ s .phase
   pub begun : s .minishard ≤ m → sane s w ≡ true → Begun t
+  pub starts : sane s w ≡ true → t .count ≡ 0 → t .begin ≡ t .next
   pub place : t .next + 24 * t .count ≡ s .next + 24 * s .count
 
 pub turns : (s : Intake) (w : List ℕ) (m : ℕ) → Turns s w m (turned s m)
@@ -157,6 +183,7 @@ turns s w m = go (eqb m (s .minishard)) refl
           waiting = refl;
           phase = refl;
           begun = λ l h. either-begun s w (eqb (s .count) 0) (sane-parts s w h .either);
+          starts = λ h z. either-starts s w (eqb (s .count) 0) (sane-parts s w h .either) refl z;
           place = refl;
         })
     go false e =
@@ -168,6 +195,7 @@ turns s w m = go (eqb m (s .minishard)) refl
           waiting = refl;
           phase = refl;
           begun = λ l h. record { ordered = omega arith; behind = new (eqb (s .count) 0) refl (sane-parts s w h .either) (other e l) };
+          starts = λ h z. refl;
           place = omega arith;
         })
 
@@ -187,6 +215,15 @@ count-below s w id h o =
             let n = positive (s .count) (eqb-false (s .count) 0 g) in
             let k = either-ids s w (eqb (s .count) 0) (sane-parts s w h .either) refl in
             omega (arith, leb-false id (s .last) (rw (lt-ltb 0 (s .count) n) at f))
+
+-- the first chunk of a minishard is all that is owed of it
+first-spans : (t : Intake) → (t .count ≡ 0 → t .begin ≡ t .next) → {held size : ℕ} → held ≡ size
+    → (1 < t .count + 1) ⊎ (t .begin + held ≡ t .next + size)
+first-spans t h {held} {size} e = go (eqb (t .count) 0) refl
+  where
+    go : (b : Bool) → eqb (t .count) 0 ≡ b → (1 < t .count + 1) ⊎ (t .begin + held ≡ t .next + size)
+    go true f = inr (omega (arith, h (eqb-true (t .count) 0 f)))
+    go false f = inl (omega (arith, positive (t .count) (eqb-false (t .count) 0 f)))
 
 pub announced-sane : (s : Intake) (id size output : ℕ) (w : List ℕ) → Announces s id size output w → id < 2 ^ 64
     → sane (announced s id size) (paste (16 * countIn s (minishardOf (s .spec) id)) (pair id size) w) ≡ true
@@ -223,5 +260,5 @@ announced-sane s id size output w h l =
           (ap (λ (x : Sharding). minishardOf x id) (q .spec) ∙ sym (turned-there s m))
           (omega (arith, count-below s w id sn (h .order)))
           (record { ordered = b .ordered; behind = b .behind })
-          (record { id = i; owed = omega arith; came = omega (arith, b .ordered) }));
+          (record { id = i; owed = omega arith; came = omega (arith, b .ordered); only = first-spans t (q .starts sn) z }));
     })

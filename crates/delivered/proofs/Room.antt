@@ -65,7 +65,7 @@ length-none spec =
     gathered-length spec [] ∙ ap (λ (c : List (List Item)). length (settled c)) (arrived-nil spec) ∙ ap length (empties-settled (minishardCount spec)) ∙ length-replicate _ _
 
 -- how many of its minishard wait in the second buffer
-count-is : {spec : Sharding} (xs : List Item) {s : Intake} {o w : List ℕ} → Keeps spec (arrived spec xs) s o w → (m : ℕ) → m < minishardCount spec → s .minishard ≤ m
+count-is : {spec : Sharding} {out : List ℕ} (xs : List Item) {s : Intake} {o w : List ℕ} → Keeps spec out (arrived spec xs) s o w → (m : ℕ) → m < minishardCount spec → s .minishard ≤ m
     → countIn s m ≡ length (inMinishard spec m xs)
 count-is {spec} xs {s} h m b l =
     let k = turned-keeps h m b l in

@@ -1,30 +1,32 @@
 -- The refusal of each call, said of what was delivered alone.
-use Prim.Native.Nat.{ℕ, _+_, _-_, _<_}
-use mathlib.Core.Path.{_≡_, refl, ap, _∙_}
+use Prim.Native.Nat.{ℕ, zero, suc, _+_, _-_, _<_}
+use mathlib.Core.Path.{_≡_, refl, sym, ap, _∙_}
 use mathlib.Core.Bool.{Bool, true, false, not, _&&_, or-true}
 use mathlib.Core.List.{List, [], _∷_}
 use native.Mathlib.Omega.{arith}
 use lib.Dec.{ltb, eqb}
 use lib.ListN.{length}
-use borrow.Author.Tests.{ltb-false, lt-ltb, le-ltb}
+use borrow.Author.Tests.{ltb-false, lt-ltb, le-ltb, eq-eqb}
 use Rattle.refusal.specs.Choice.{pick}
-use Rattle.refusal.specs.Checks.{firstNumber}
+use Rattle.refusal.specs.Checks.{firstNumber, unless}
 use Rattle.sharding.specs.declared.Sharding.{Sharding}
 use Rattle.sharding.specs.Place.{shardOf, minishardOf}
 use Rattle.shard.specs.Items.{Item}
 use Rattle.admission.specs.declared.Intake.{Intake}
 use Rattle.admission.specs.State.{sane}
-use Rattle.admission.specs.Refusals.{foreign, unusable, outOfOrder, announceChecks, partChecks, closeChecks}
-use Rattle.admission.proofs.Passing.{volume-allowed, sane-parts}
-use Rattle.intake.specs.declared.IntakeAnswer.the-variants.{Next}
-use Rattle.intake.specs.Calls.{turned, announced, announceAnswer, taken, closed}
-use Rattle.intake.proofs.Refused.{announce-told}
+use Rattle.admission.specs.Refusals.{otherLengths, foreign, unusable, outOfOrder, announceChecks, partChecks, closeChecks}
+use Rattle.admission.proofs.Passing.{volume-allowed, sane-parts, Closes, closes}
+use Rattle.intake.specs.declared.IntakeAnswer.the-variants.{Next, Refused}
+use Rattle.intake.specs.declared.CloseAnswer.the-variants.{Closed, Refused as NotClosed}
+use Rattle.intake.specs.Calls.{turned, announced, announceAnswer, taken, partAnswer, closed, closeAnswer, closeLeft}
+use Rattle.intake.proofs.Answered.{close-left}
+use Rattle.intake.proofs.Refused.{announce-told, close-told}
 use Rattle.delivered.specs.Delivered.{Delivery, joined}
-use Rattle.delivered.specs.Runs.{Desk, afterAnnounce, HandsOver, Delivers, no-chunk, chunk, Takes}
+use Rattle.delivered.specs.Runs.{Desk, afterAnnounce, afterClose, HandsOver, Delivers, no-chunk, chunk, Takes, Over}
 use Rattle.delivered.specs.Says.{notAfter, owing, announceSays, partSays, closeSays}
 use Rattle.delivered.proofs.Handing.{handed}
 use Rattle.delivered.proofs.Keeping.{turned-there, takes-idle}
-use Rattle.delivered.proofs.Fitting.{Fit, fit-lengths, fit-usable, chunk-fit, first-fit, takes-fit}
+use Rattle.delivered.proofs.Fitting.{length-ended, Fit, fit-lengths, fit-usable, chunk-fit, first-fit, takes-fit}
 use Rattle.delivered.proofs.Room.{room-is}
 
 and-none : (b : Bool) → b && false ≡ false
@@ -127,7 +129,45 @@ module _ {spec : Sharding} {shard : ℕ} {out waiting : List ℕ} {xs : List Del
   unfolding firstNumber closeChecks closeSays
   close-says = let f = takes-fit t in rw (fit-lengths f, fit-usable f, takes-owed)
 
--- after the close every call is refused with 25, where 30 and 10 do not come before it
-pub closed-unusable : (s : Intake) (w : List ℕ) → unusable (closed s) w ≡ true
+-- ---- after the close
+
+closed-unusable : (s : Intake) (w : List ℕ) → unusable (closed s) w ≡ true
 unfolding unusable
 closed-unusable s w = or-true (not (sane (closed s) w))
+
+refused-with : {A : Type 0} (r : ℕ → A) (k : ℕ) (a : A) → 0 < k → unless r k a ≡ r k
+unfolding unless
+refused-with r zero a l = absurd (omega arith)
+refused-with r (suc k) a l = refl
+
+refused-by : {A : Type 0} (r : ℕ → A) (b : Bool) (a : A) → unless r (pick (not b) 10 25) a ≡ r (pick b 25 10)
+refused-by r true a = refused-with r 25 a (omega arith)
+refused-by r false a = refused-with r 10 a (omega arith)
+
+module _ (d : Desk) {s : Intake} {n : ℕ} (q : closeAnswer (d .state) (d .output) (d .waiting) ≡ Closed s n) where
+  not-refused : Closes (d .state) (length (d .output)) (d .waiting)
+  not-refused = closes (d .state) (length (d .output)) (d .waiting) (close-told (d .state) (d .output) (d .waiting) q .0)
+
+  closed-lengths : otherLengths (closed (d .state)) (length (closeLeft (d .state) (d .output) (d .waiting))) (length (d .waiting)) ≡ false
+  unfolding otherLengths
+  closed-lengths =
+      let t = d .state in
+      let p = not-refused .usual in
+      let l : length (closeLeft t (d .output) (d .waiting)) ≡ length (d .output) =
+      ap length (sym (close-left t (d .output) (d .waiting) refl (close-told t (d .output) (d .waiting) q .0) refl)) ∙ length-ended t (d .output) (d .waiting) p in
+      rw (eq-eqb (t .output) (length (closeLeft t (d .output) (d .waiting))) (p .outputs ∙ sym l), eq-eqb (t .waiting) (length (d .waiting)) (p .waits))
+
+  closed-ours : (id : ℕ) → foreign (closed (d .state)) id ≡ not (eqb (shardOf (d .state .spec) id) (d .state .shard))
+  unfolding foreign
+  closed-ours id = rw (not-refused .usual .permitted)
+
+  -- every call is refused with 25, but for an announcement that 10 refuses before
+  pub over-closed : Over (afterClose d)
+  unfolding announceAnswer announceChecks partAnswer partChecks closeAnswer closeChecks firstNumber
+  over-closed =
+      let u = closed-unusable (d .state) (d .waiting) in
+      record {
+        announces = λ id size. rw (closed-lengths, closed-ours id, u) (refused-by Refused (eqb (shardOf (d .state .spec) id) (d .state .shard)) _);
+        parts = λ bytes. rw (closed-lengths, u) (refused-with Refused 25 _ (omega arith));
+        closes = rw (closed-lengths, u) (refused-with NotClosed 25 _ (omega arith));
+      }

@@ -5,8 +5,9 @@ use mathlib.Core.List.{List, [], _∷_, _++_, append-assoc, append-nil}
 use native.Mathlib.Omega.{arith}
 use native.Mathlib.Nat.{add-zero}
 use lib.ListN.{length, replicate, drop, length-append, length-replicate}
-use lib.Seq.{drop-at}
+use lib.Seq.{drop-at, drop-drop}
 use borrow.Author.Tests.{eq-eqb, ne-eqb}
+use Rattle.refusal.specs.Buffer.{over}
 use Rattle.endian.specs.Little.{le, row}
 use Rattle.endian.specs.Place.{Holds, paste}
 use Rattle.endian.proofs.Little.{length-le}
@@ -23,36 +24,41 @@ use Rattle.admission.specs.declared.Intake.{Intake}
 use Rattle.intake.specs.Calls.{endedLeft}
 use Rattle.delivered.proofs.Appends.{entryOf, empties, among-length, among-settled}
 
--- ---- what a list begins with
+-- ---- what a list begins with, and what stands behind that: what stood there in another list, its base
 
-pub record Begins (list s : List ℕ) : Type 0 where
-  pub rest : List ℕ
-  pub is : list ≡ s ++ rest
+pub record Begins (base list s : List ℕ) : Type 0 where
+  pub is : list ≡ over s base
 
-pub begins-on : {o t : List ℕ} (at : ℕ) (i : List ℕ) → Begins o t → at ≡ length t → Begins (paste at i o) (t ++ i)
-begins-on {o} {t} at i b e = record {
-  rest = drop (length i) (b .rest);
-  is =
-      ap (paste at i) (b .is) ∙ paste-skip t (b .rest) i 0 at (omega arith) ∙ ap (_++_ t) (paste-front i (b .rest) (length i) refl)
-      ∙ sym (append-assoc t i (drop (length i) (b .rest)));
-}
-
-pub begins-over : {o : List ℕ} (a z r : List ℕ) (at : ℕ) (y : List ℕ) → Begins o (a ++ (z ++ r)) → at ≡ length a → length z ≡ length y → Begins (paste at y o) (a ++ (y ++ r))
-begins-over {o} a z r at y b e l =
-    let s : o ≡ a ++ (z ++ (r ++ b .rest)) = b .is ∙ simp append-assoc in
-    let t : drop (length y) (z ++ (r ++ b .rest)) ≡ r ++ b .rest = drop-at z (r ++ b .rest) (length y) l in
+pub begins-on : {base o t : List ℕ} (at : ℕ) (i : List ℕ) → Begins base o t → at ≡ length t → Begins base (paste at i o) (t ++ i)
+begins-on {base} {o} {t} at i b e =
+    let r = drop (length t) base in
+    let d : drop (length i) r ≡ drop (length (t ++ i)) base =
+    drop-drop (length i) (length t) base ∙ ap (λ (n : ℕ). drop n base) (sym (length-append t i)) in
     record {
-      rest = b .rest;
       is =
-          ap (paste at y) s ∙ paste-skip a (z ++ (r ++ b .rest)) y 0 at (omega arith)
-          ∙ ap (_++_ a) (paste-front y (z ++ (r ++ b .rest)) (length y) refl ∙ ap (_++_ y) t) ∙ simp append-assoc;
+          ap (paste at i) (b .is) ∙ paste-skip t r i 0 at (omega arith) ∙ ap (_++_ t) (paste-front i r (length i) refl ∙ ap (_++_ i) d)
+          ∙ sym (append-assoc t i (drop (length (t ++ i)) base));
     }
 
-pub begins-same : {o t u : List ℕ} → Begins o t → t ≡ u → Begins o u
+pub begins-over : {base o : List ℕ} (a z r : List ℕ) (at : ℕ) (y : List ℕ) → Begins base o (a ++ (z ++ r)) → at ≡ length a → length z ≡ length y
+    → Begins base (paste at y o) (a ++ (y ++ r))
+begins-over {base} {o} a z r at y b e l =
+    let g = drop (length (a ++ (z ++ r))) base in
+    let n : length (a ++ (z ++ r)) ≡ length (a ++ (y ++ r)) = simp (length-append, l) in
+    let s : o ≡ a ++ (z ++ (r ++ g)) = b .is ∙ simp append-assoc in
+    let t : drop (length y) (z ++ (r ++ g)) ≡ r ++ g = drop-at z (r ++ g) (length y) l in
+    let u : a ++ (y ++ (r ++ g)) ≡ (a ++ (y ++ r)) ++ g = simp append-assoc in
+    record {
+      is =
+          ap (paste at y) s ∙ paste-skip a (z ++ (r ++ g)) y 0 at (omega arith)
+          ∙ ap (_++_ a) (paste-front y (z ++ (r ++ g)) (length y) refl ∙ ap (_++_ y) t) ∙ u ∙ ap (λ (k : ℕ). (a ++ (y ++ r)) ++ drop k base) n;
+    }
+
+pub begins-same : {base o t u : List ℕ} → Begins base o t → t ≡ u → Begins base o u
 begins-same b e = rw e at b
 
-pub begins-holds : {o t : List ℕ} → Begins o t → Holds o 0 t
-begins-holds {o} {t} b = rw (b .is) (holds-all [] t (b .rest))
+pub begins-holds : {base o t : List ℕ} → Begins base o t → Holds o 0 t
+begins-holds {base} {o} {t} b = rw (b .is) (holds-all [] t (drop (length t) base))
 
 -- ---- the pairs of the second buffer
 
@@ -112,24 +118,27 @@ starts-are p x xs q =
     let e : length (x ∷ xs) - 1 ≡ length xs = omega arith in
     rw (q .0, starts-zero xs (q .1 .1 .1), add-zero p) (ap (λ (n : ℕ). p ∷ replicate n 0) e)
 
-index-is : (w : List ℕ) (p : ℕ) (x : Item) (xs : List Item) → Plain (x ∷ xs) → Begins w (row (pairsOf (x ∷ xs)))
+index-is : {base : List ℕ} (w : List ℕ) (p : ℕ) (x : Item) (xs : List Item) → Plain (x ∷ xs) → Begins base w (row (pairsOf (x ∷ xs)))
     → indexHeld p w (length (x ∷ xs)) ≡ indexOf p (x ∷ xs)
 unfolding indexHeld indexOf
 index-is w p x xs q b = rw (steps-are 0 0 (x ∷ xs) q (begins-holds b), sizes-are 0 (x ∷ xs) q (begins-holds b), starts-are p x xs q)
 
--- ---- an intake that owes nothing: `ended` are the minishards before the open one, xs the items of the open one, and k minishards come after it
+-- ---- an intake that owes nothing: out is the output as lent to the opening, `ended` are the minishards before the open one, xs the items of the open
+-- one, and k minishards come after it
 
-pub record Stands (ended : List (List Item)) (xs : List Item) (k : ℕ) (s : Intake) (o w : List ℕ) : Type 0 where
+pub record Stands (out : List ℕ) (ended : List (List Item)) (xs : List Item) (k : ℕ) (s : Intake) (o w : List ℕ) : Type 0 where
   pub all : minishardCount (s .spec) ≡ length ended + suc k
   pub here : s .minishard ≡ length ended
   pub counted : s .count ≡ length xs
   pub began : s .begin ≡ partsLength ended
   pub reached : s .next ≡ partsLength ended + chunksLength xs
   pub plain : Plain xs
-  pub written : Begins o (settled (ended ++ ([] ∷ empties k)) ++ chunksOf xs)
-  pub waits : Begins w (row (pairsOf xs))
+  pub written : Begins out o (settled (ended ++ ([] ∷ empties k)) ++ chunksOf xs)
+  -- behind its pairs the second buffer is as this list
+  pub older : List ℕ
+  pub waits : Begins older w (row (pairsOf xs))
 
-module _ {a : List (List Item)} {xs : List Item} {k : ℕ} {s : Intake} {o w : List ℕ} (h : Stands a xs k s o w) where
+module _ {out : List ℕ} {a : List (List Item)} {xs : List Item} {k : ℕ} {s : Intake} {o w : List ℕ} (h : Stands out a xs k s o w) where
   -- where the next byte goes
   pub next-place : indexLength (s .spec) + s .next ≡ length (settled (a ++ ([] ∷ empties k)) ++ chunksOf xs)
   unfolding settledLength partLength chunksLength
@@ -151,9 +160,9 @@ module _ {a : List (List Item)} {xs : List Item} {k : ℕ} {s : Intake} {o w : L
 
 -- ---- the end of the open minishard
 
-ended-none : {a : List (List Item)} {k : ℕ} {s : Intake} {o w : List ℕ} → Stands a [] k s o w → Begins (endedLeft s o w) (settled (a ++ ([] ∷ empties k)))
+ended-none : {out : List ℕ} {a : List (List Item)} {k : ℕ} {s : Intake} {o w : List ℕ} → Stands out a [] k s o w → Begins out (endedLeft s o w) (settled (a ++ ([] ∷ empties k)))
 unfolding endedLeft chunksOf
-ended-none {a} {k} {s} h = rw (eq-eqb _ _ (h .counted)) (begins-same (h .written) (append-nil _))
+ended-none h = rw (eq-eqb _ _ (h .counted)) (begins-same (h .written) (append-nil _))
 
 named : (p : ℕ) (x : Item) (xs : List Item)
     → pair (p + chunksLength (x ∷ xs)) (p + chunksLength (x ∷ xs) + 24 * length (x ∷ xs)) ≡ entryOf p (x ∷ xs)
@@ -173,10 +182,10 @@ part-is p xs = refl
 entry-none : (p : ℕ) → length (entryOf p []) ≡ 16
 entry-none p = length-pair (entryBegin p []) (entryFinish p [])
 
-ended-some : {a : List (List Item)} {x : Item} {xs : List Item} {k : ℕ} {s : Intake} {o w : List ℕ} → Stands a (x ∷ xs) k s o w
-    → Begins (endedLeft s o w) (settled (a ++ ((x ∷ xs) ∷ empties k)))
+ended-some : {out : List ℕ} {a : List (List Item)} {x : Item} {xs : List Item} {k : ℕ} {s : Intake} {o w : List ℕ} → Stands out a (x ∷ xs) k s o w
+    → Begins out (endedLeft s o w) (settled (a ++ ((x ∷ xs) ∷ empties k)))
 unfolding endedLeft
-ended-some {a} {x} {xs} {k} {s} {o} {w} h =
+ended-some {a = a} {x} {xs} {k} {s} {o} {w} h =
     let A = row (entriesFrom 0 a) in
     let P = partsFrom 0 a in
     let p = partsLength a in
@@ -203,7 +212,7 @@ ended-some {a} {x} {xs} {k} {s} {o} {w} h =
     all-there : (p : ℕ) (A Y E P : List ℕ) → (A ++ (Y ++ E)) ++ (P ++ partOf p (x ∷ xs)) ≡ A ++ (Y ++ (E ++ (P ++ (chunksOf (x ∷ xs) ++ indexOf p (x ∷ xs)))))
     all-there p A Y E P = rw (part-is p (x ∷ xs)) (simp append-assoc)
 
-pub ended-begins : {a : List (List Item)} {xs : List Item} {k : ℕ} {s : Intake} {o w : List ℕ} → Stands a xs k s o w
-    → Begins (endedLeft s o w) (settled (a ++ (xs ∷ empties k)))
+pub ended-begins : {out : List ℕ} {a : List (List Item)} {xs : List Item} {k : ℕ} {s : Intake} {o w : List ℕ} → Stands out a xs k s o w
+    → Begins out (endedLeft s o w) (settled (a ++ (xs ∷ empties k)))
 ended-begins {xs = []} h = ended-none h
 ended-begins {xs = x ∷ xs} h = ended-some h

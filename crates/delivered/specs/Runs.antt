@@ -3,12 +3,16 @@
 use Prim.Native.Nat.{ℕ, _^_, _<_}
 use mathlib.Core.Path.{_≡_}
 use mathlib.Core.List.{List, [], _∷_}
+use lib.Dec.{eqb}
+use Rattle.refusal.specs.Choice.{pick}
 use Rattle.sharding.specs.declared.Sharding.{Sharding}
+use Rattle.sharding.specs.Place.{shardOf}
 use Rattle.shard.specs.Sound.{SoundShard}
 use Rattle.form.specs.Content.{fileContent, fileForm}
 use Rattle.admission.specs.declared.Intake.{Intake}
-use Rattle.intake.specs.declared.IntakeAnswer.the-variants.{Next}
-use Rattle.intake.specs.Calls.{openAnswer, openLeft, announceAnswer, announceLeft, announceWaiting, partAnswer, partLeft}
+use Rattle.intake.specs.declared.IntakeAnswer.the-variants.{Next, Refused}
+use Rattle.intake.specs.declared.CloseAnswer.the-variants.{Refused as NotClosed}
+use Rattle.intake.specs.Calls.{openAnswer, openLeft, announceAnswer, announceLeft, announceWaiting, partAnswer, partLeft, closed, closeAnswer, closeLeft}
 use Rattle.delivered.specs.Delivered.{Delivery, asItems, gathered}
 
 -- the state and the two buffers between calls
@@ -17,7 +21,7 @@ pub record Desk : Type 0 where
   pub output : List ℕ
   pub waiting : List ℕ
 
--- what an opening, an announcement and a part leave, with the state s that they answer
+-- what an opening, an announcement and a part leave, with the state s that they answer, and a close
 abbrev pub afterOpen : Sharding → ℕ → List ℕ → List ℕ → Intake → Desk
 afterOpen spec shard out waiting s = record { state = s; output = openLeft spec shard out; waiting = waiting }
 
@@ -30,6 +34,9 @@ afterAnnounce d id size s = record {
 
 abbrev pub afterPart : Desk → List ℕ → Intake → Desk
 afterPart d bytes s = record { state = s; output = partLeft (d .state) bytes (d .output) (d .waiting); waiting = d .waiting }
+
+abbrev pub afterClose : Desk → Desk
+afterClose d = record { state = closed (d .state); output = closeLeft (d .state) (d .output) (d .waiting); waiting = d .waiting }
 
 -- parts handed over in turn
 pub data HandsOver : Desk → List (List ℕ) → Desk → Type 0 where
@@ -49,7 +56,8 @@ pub data Delivers : Desk → List Delivery → Desk → Type 0 where
       → Delivers e xs f
       → Delivers d (x ∷ xs) f
 
--- a shard that was opened, parts before the first chunk, which may be empty ones, and then the chunks xs: all runs up to a close are such
+-- a shard that was opened, parts before the first chunk, of which only empty ones are not refused, and then the chunks xs, each announced and its parts
+-- handed over
 pub record Takes (spec : Sharding) (shard : ℕ) (out waiting : List ℕ) (xs : List Delivery) (d : Desk) : Type 0 where
   pub state : Intake
   pub opens : openAnswer spec shard out waiting ≡ Next state
@@ -66,3 +74,9 @@ pub record ClosedShard (spec : Sharding) (shard : ℕ) (xs : List Delivery) (fil
   pub content : fileContent spec file ≡ gathered spec (asItems xs)
   -- and is the settled form of itself
   pub form : fileForm spec file ≡ file
+
+-- 25 "after the close", at a desk as it left it: of every call but an announcement of an id that belongs to another shard
+pub record Over (d : Desk) : Type 0 where
+  pub announces : (id size : ℕ) → announceAnswer (d .state) id size (d .output) (d .waiting) ≡ Refused (pick (eqb (shardOf (d .state .spec) id) (d .state .shard)) 25 10)
+  pub parts : (bytes : List ℕ) → partAnswer (d .state) bytes (d .output) (d .waiting) ≡ Refused 25
+  pub closes : closeAnswer (d .state) (d .output) (d .waiting) ≡ NotClosed 25

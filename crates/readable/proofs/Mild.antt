@@ -1,11 +1,13 @@
 -- Numbers that are each 0 or 28: those of voxels of blocks whose headers are good.
-use Prim.Native.Nat.{ℕ, zero, suc, _+_, _*_, _/_, _<_, _≤_}
+use Prim.Native.Nat.{ℕ, zero, suc, _+_, _-_, _*_, _/_, _<_, _≤_}
 use mathlib.Core.Path.{_≡_, refl, sym, ap, _∙_}
-use mathlib.Core.Bool.{Bool, true, false}
+use mathlib.Core.Bool.{Bool, true, false, _&&_}
 use mathlib.Core.List.{List}
 use mathlib.Core.Logic.{_⊎_, ⊎-elim, inl, inr}
 use native.Mathlib.Omega.{arith}
 use lib.Dec.{eqb}
+use borrow.Author.Tests.{eqb-true}
+use Rattle.refusal.proofs.Tests.{both}
 use Rattle.grid.specs.declared.Extents.{Extents}
 use Rattle.segmentation.specs.declared.Shape.{Shape}
 use Rattle.segmentation.specs.declared.LabelAnswer.{LabelAnswer}
@@ -14,7 +16,7 @@ use Rattle.segmentation.specs.Layout.{noVoxels, widthIn, tableIn}
 use Rattle.segmentation.specs.Labels.{labelWords, valueIn}
 use Rattle.segmentation.specs.Steps.{entryAnswer, valueAnswer}
 use Rattle.readable.specs.Voxels.{refusalIn}
-use Rattle.readable.specs.Checks.{greatest, blockCount, placeRefusal, rowRefusal, layerRefusal, voxelsRefusal, blockRefusal, channelRefusal, blocksRefusal}
+use Rattle.readable.specs.Checks.{greatest, blockCount, insideOf, placeRefusal, rowRefusal, layerRefusal, voxelsRefusal, blockRefusal, channelRefusal, blocksRefusal}
 use Rattle.readable.specs.Seen.{Seen, Sees, Blank}
 use Rattle.segmentation.proofs.Asked.{no-bits}
 use Rattle.readable.proofs.Inside.{inside-x, inside-y, inside-z}
@@ -152,6 +154,27 @@ blocks-hit s sh o count n h q l = mild-hit _ (block-mild s sh o) count n h q l
 pub channel-mild : (s : List ℕ) (sh : Shape) (c : ℕ) → Mild (channelRefusal s sh c)
 unfolding channelRefusal
 channel-mild s sh c = greatest-mild _ (block-mild s sh (word s c)) _
+
+-- ---- a block like the one before it
+
+pub same-extents : (a b : Extents) → eqb (a .x) (b .x) && (eqb (a .y) (b .y) && eqb (a .z) (b .z)) ≡ true → a ≡ b
+same-extents a b e =
+    let p = both (eqb (a .x) (b .x)) _ e in
+    let q = both (eqb (a .y) (b .y)) _ (p .1) in
+    λ i. record { x = eqb-true (a .x) (b .x) (p .0) i; y = eqb-true (a .y) (b .y) (q .0) i; z = eqb-true (a .z) (b .z) (q .1) i }
+
+module _ (s : List ℕ) (sh : Shape) (o n : ℕ) (some : 0 < n) where
+  pub block-like : {a b : Extents} → word s (o + 2 * n - 2) ≡ word s (o + 2 * n) → word s (o + 2 * n - 1) ≡ word s (o + 2 * n + 1)
+      → a ≡ insideOf sh (n - 1) → b ≡ insideOf sh n → a ≡ b → blockRefusal s sh o (n - 1) ≡ blockRefusal s sh o n
+  unfolding blockRefusal
+  block-like p q ae be e =
+      let f : word s (o + 2 * (n - 1)) ≡ word s (o + 2 * n) = ap (word s) (omega arith) ∙ p in
+      let g : word s (o + 2 * (n - 1) + 1) ≡ word s (o + 2 * n + 1) = ap (word s) (omega arith) ∙ q in
+      let h : insideOf sh (n - 1) ≡ insideOf sh n = sym ae ∙ e ∙ be in
+      rw (f, g, h)
+
+  pub block-none : 0 ≡ greatest (blockRefusal s sh o) n → blockRefusal s sh o (n - 1) ≡ blockRefusal s sh o n → 0 ≡ blockRefusal s sh o n
+  block-none z e = omega (arith, le-greatest (blockRefusal s sh o) n (n - 1) (omega arith))
 
 -- at width 0 all voxels of a block are alike
 module _ (s : List ℕ) (sh : Shape) (o n : ℕ) (h : noVoxels sh ≡ false) (l : n < blockCount sh) where

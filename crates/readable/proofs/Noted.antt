@@ -12,7 +12,7 @@ use lib.Dec.{eqb, leb, ltb}
 use lib.ListN.{length, getD, set, length-set, replicate}
 use lib.Seq.{getD-set-same, getD-set-other}
 use lib.Pow.{shl-exact, pow-pos}
-use borrow.Author.Tests.{leb-true, ltb-true, eqb-true, eqb-false}
+use borrow.Author.Tests.{leb-true, ltb-true, le-leb, lt-ltb, eqb-true, eqb-false}
 use Rattle.refusal.proofs.Tests.{both, neither}
 use Rattle.bitmap.specs.Positions.{within}
 use Rattle.bitmap.specs.Bits.{bitAt, Marked}
@@ -39,6 +39,10 @@ zero-bit x = sym (bit-shift x 0) ∙ bit-zero x
 
 -- ---- noting
 
+or-true : (b : Bool) → b || true ≡ true
+or-true true = refl
+or-true false = refl
+
 one-run : (x : ℕ) → x < 64 → 2 ^ (x + 1) - 1 - (2 ^ x - 1) ≡ (1 * 2 ^ x) % 2 ^ 64
 one-run x h =
     let p : 2 ^ (x + 1) ≡ 2 ^ x * 2 = ap (λ (n : ℕ). 2 ^ n) (add-one x) ∙ pow-suc 2 x in
@@ -54,9 +58,32 @@ within-one : (a p : ℕ) → within a (a + 1) p ≡ true → p ≡ a
 unfolding within
 within-one a p e = let b = both (leb a p) (ltb p (a + 1)) e in omega (arith, leb-true a p (b .0), ltb-true p (a + 1) (b .1))
 
+one-within : (a : ℕ) → within a (a + 1) a ≡ true
+unfolding within
+one-within a = rw (le-leb a a (omega arith), lt-ltb a (a + 1) (omega arith))
+
 pub sees-marked : {p q : List ℕ} {o k x : ℕ} → k ≡ o / 64 → x ≡ o % 64 → Marked p q (within (64 * k + x) (64 * k + (x + 1))) → Sees p q o
-sees-marked {p} {q} {o} {k} {x} ke xe m = record { same = m .same; only = λ i s. go i s (bitAt p i) refl }
+sees-marked {p} {q} {o} {k} {x} ke xe m = record { same = m .same; stays = stays; noted = noted; only = λ i s. go i s (bitAt p i) refl }
   where
+    stays : (i : ℕ) → Seen p i → Seen q i
+    stays i s =
+        let z = m .same in
+        record {
+          inside = omega (arith, s .inside);
+          bit = m .bits i (s .inside) ∙ ap (λ (b : Bool). b || within (64 * k + x) (64 * k + (x + 1)) i) (s .bit);
+        }
+
+    noted : o < 64 * length p → Seen q o
+    noted h =
+        let z = m .same in
+        let a : 64 * k + x ≡ o = omega arith in
+        let b : 64 * k + (x + 1) ≡ o + 1 = omega arith in
+        let w : within (64 * k + x) (64 * k + (x + 1)) o ≡ true = ap (λ (n : ℕ). within n (64 * k + (x + 1)) o) a ∙ ap (λ (n : ℕ). within o n o) b ∙ one-within o in
+        record {
+          inside = omega arith;
+          bit = m .bits o h ∙ ap (λ (t : Bool). bitAt p o || t) w ∙ or-true (bitAt p o);
+        }
+
     go : (i : ℕ) → Seen q i → (b : Bool) → bitAt p i ≡ b → Seen p i ⊎ (i ≡ o)
     go i s true e = let z = m .same in inl (record { inside = omega (arith, s .inside); bit = e })
     go i s false e =
@@ -64,8 +91,9 @@ sees-marked {p} {q} {o} {k} {x} ke xe m = record { same = m .same; only = λ i s
         let w : within (64 * k + x) (64 * k + x + 1) i ≡ true = ap (λ (n : ℕ). within (64 * k + x) n i) (omega arith) ∙ ap (λ (b : Bool). b || within (64 * k + x) (64 * k + (x + 1)) i) (sym e) ∙ sym (m .bits i (omega (arith, s .inside))) ∙ s .bit in
         inr (omega (arith, within-one (64 * k + x) i w))
 
-pub sees-none : {p : List ℕ} {o : ℕ} → Sees p p o
-sees-none = record { same = refl; only = λ i s. inl s }
+-- a place past the map
+pub sees-none : {p : List ℕ} {o : ℕ} → length p ≤ o / 64 → Sees p p o
+sees-none h = record { same = refl; stays = λ i s. s; noted = λ l. absurd (omega arith); only = λ i s. inl s }
 
 pub sees-same : {p q : List ℕ} {o n : ℕ} → Sees p q o → length p ≡ n → length q ≡ n
 sees-same v e = v .same ∙ e

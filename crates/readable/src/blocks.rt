@@ -1,7 +1,7 @@
 // The refusal of the voxels of blocks whose headers are whole and have a width.
 ghost use mathlib.Core.Path.{_≡_};
 ghost use mathlib.Core.Bool.{true, false};
-ghost use Prim.Native.Nat.{_+_, _*_, _/_, _<_, _≤_, _^_};
+ghost use Prim.Native.Nat.{_+_, _-_, _*_, _/_, _<_, _≤_, _^_};
 ghost use lib.ListN.{length};
 ghost use Rattle.segmentation.specs.Words.{word};
 ghost use Rattle.segmentation.specs.Layout.{noVoxels, tableIn, widthIn, isWidth};
@@ -259,6 +259,55 @@ fn block_refusal(chunk: &[u8], shape: Shape, o: u64, n: u64) -> u8
     )
 }
 
+fn same(a: Extents, b: Extents) -> bool
+    ensures { λ r. ⌜ (r ≡ true → a ≡ b) ⌝ }
+{
+    (a.x == b.x) & ((a.y == b.y) & (a.z == b.z))
+}
+
+// The header at word `at` has packed values and is that of the two words before it.
+fn repeats_header(chunk: &[u8], at: u64) -> bool
+    requires { ⌜ (2 ≤ at) × (at + 2 ≤ length (now chunk) / 4) ⌝ }
+    ensures { λ r. ⌜ (r ≡ true → (word (now (chunk .entry)) (at - 2) ≡ word (now (chunk .entry)) at) × (word (now (chunk .entry)) (at - 1) ≡ word (now (chunk .entry)) (at + 1))) ⌝ }
+{
+    let first = word_at(chunk, at);
+    if first / 16777216 == 0 {
+        return false;
+    }
+    if word_at(chunk, at - 2) != first {
+        return false;
+    }
+    word_at(chunk, at - 1) == word_at(chunk, at + 1)
+}
+
+// Block n has the header of the block before it and as much inside: it is refused as that one is.
+fn repeats(chunk: &[u8], shape: Shape, o: u64, n: u64) -> bool
+    requires { ⌜ (noVoxels shape ≡ false) × (0 < n) × (n < blockCount shape) ⌝ }
+    requires { ⌜ (o < 2 ^ 32) × (o + 2 * n + 2 ≤ length (now chunk) / 4) ⌝ }
+    ensures { λ r. ⌜ (r ≡ true → blockRefusal (now (chunk .entry)) shape o (n - 1) ≡ blockRefusal (now (chunk .entry)) shape o n) ⌝ }
+{
+    if !repeats_header(chunk, o + 2 * n) {
+        return false;
+    }
+    same(inside_of(shape, n - 1), inside_of(shape, n))
+}
+
+// Block n, where none before it is refused.
+fn next_refusal(chunk: &[u8], shape: Shape, o: u64, n: u64) -> u8
+    requires { ⌜ (noVoxels shape ≡ false) × (n < blockCount shape) ⌝ }
+    requires { ⌜ (o < 2 ^ 32) × (o + 2 * n + 2 ≤ length (now chunk) / 4) × (isWidth (widthIn (word (now chunk) (o + 2 * n))) ≡ true) ⌝ }
+    requires { ⌜ 0 ≡ greatest (blockRefusal (now chunk) shape o) n ⌝ }
+    ensures { λ r. ⌜ r ≡ blockRefusal (now (chunk .entry)) shape o n ⌝ }
+{
+    if n == 0 {
+        return block_refusal(chunk, shape, o, n);
+    }
+    if repeats(chunk, shape, o, n) {
+        return 0;
+    }
+    block_refusal(chunk, shape, o, n)
+}
+
 fn channel_refusal(chunk: &[u8], shape: Shape, o: u64, count: u64) -> u8
     requires { ⌜ (noVoxels shape ≡ false) × (count ≡ blockCount shape) ⌝ }
     requires { ⌜ (o < 2 ^ 32) × (greatest (headerRefusal (now chunk) o) count ≡ 0) ⌝ }
@@ -266,7 +315,7 @@ fn channel_refusal(chunk: &[u8], shape: Shape, o: u64, count: u64) -> u8
 {
     let mut n = 0u64;
     while n < count {
-        let k = block_refusal(chunk, shape, o, n);
+        let k = next_refusal(chunk, shape, o, n);
         if 0 < k {
             return k;
         }

@@ -1,10 +1,10 @@
 -- Worked cases, as one table: what is asked, and the answer.
-use Prim.Native.Nat.{ℕ}
+use Prim.Native.Nat.{ℕ, _+_, _*_}
 use mathlib.Core.Path.{_≡_, refl}
 use mathlib.Core.Bool.{Bool, true, false}
-use mathlib.Core.List.{List, [], _∷_, map}
+use mathlib.Core.List.{List, [], _∷_, _++_, map}
 use Rattle.refusal.specs.Checks.{firstNumber, unless}
-use Rattle.endian.specs.Little.{leAt}
+use Rattle.endian.specs.Little.{le, leAt}
 use Rattle.grid.specs.declared.Extents.{Extents}
 use Rattle.grid.specs.Grid.{gridSize, hasZero}
 use Rattle.segmentation.specs.declared.Shape.{Shape}
@@ -41,6 +41,41 @@ whole-sample = sample 1 (0 ∷ [])
 abbrev pub cut-sample : List ℕ
 cut-sample = sample 1 []
 
+-- ---- a second chunk worked by hand, in words: two channels, block 2, 2, 1, 64-bit labels
+
+abbrev pub flat : Extents → Shape
+flat extents = record { extents = extents; block = box 2 2 1; channels = 2; wide = true }
+
+-- extents 3, 3, 1: blocks 0 and 1 in the first row of blocks, 2 and 3 in the second; all but block 0 stick out
+abbrev pub sheet : Shape
+sheet = flat (box 3 3 1)
+
+abbrev pub bytes : List ℕ → List ℕ
+bytes [] = []
+bytes (w ∷ ws) = le 4 w ++ bytes ws
+
+-- a header's first word, and a packed word of two values of 16 bits
+abbrev pub head : ℕ → ℕ → ℕ
+head width table = table + 16777216 * width
+
+abbrev pub two : ℕ → ℕ → ℕ
+two low high = low + 65536 * high
+
+abbrev pub sheet-chunk : List ℕ
+sheet-chunk =
+    bytes
+    (2 ∷ 25
+    -- the channel at word 2: headers of four blocks, packed words 8 to 12, tables at 13 and 19
+    ∷ head 16 13 ∷ 8 ∷ head 16 19 ∷ 10 ∷ head 16 13 ∷ 12 ∷ head 16 19 ∷ 9
+    ∷ two 2 0 ∷ two 1 2 ∷ two 1 65535 ∷ two 0 65535 ∷ two 0 1
+    ∷ 11 ∷ 0 ∷ 12 ∷ 1 ∷ 13 ∷ 0
+    ∷ 21 ∷ 0 ∷ 22 ∷ 3
+    -- the channel at word 25: packed words 8 to 11, table at 12; block 2 has width 0 and the table's last entry as its first
+    ∷ head 16 12 ∷ 8 ∷ head 16 12 ∷ 10 ∷ head 0 16 ∷ 0 ∷ head 16 12 ∷ 11
+    ∷ two 0 1 ∷ two 2 0 ∷ two 2 65535 ∷ two 1 65535
+    ∷ 31 ∷ 0 ∷ 32 ∷ 0 ∷ 0 ∷ 5
+    ∷ [])
+
 abbrev pub table : List Case
 table =
     -- "labels of voxels 0 to 7 (x fastest) are 9 7 9 7 7 9 7 9"
@@ -74,8 +109,31 @@ table =
     ∷ label [] (shape (box 2 2 2) 0 false) 0 0 0 0 (Refused 2)
     ∷ label [] (shape (box 2 0 2) 1 false) 0 0 0 0 (Refused 2)
     ∷ label [] cube 0 0 0 0 (Refused 28)
+    -- the second chunk, row by row: 12 + 2^32, 22 + 3 × 2^32 and 5 × 2^32 have a high word
+    ∷ label sheet-chunk sheet 0 0 0 0 (Label 13)
+    ∷ label sheet-chunk sheet 1 0 0 0 (Label 11)
+    ∷ label sheet-chunk sheet 2 0 0 0 (Label 12884901910)
+    ∷ label sheet-chunk sheet 0 1 0 0 (Label 4294967308)
+    ∷ label sheet-chunk sheet 1 1 0 0 (Label 13)
+    ∷ label sheet-chunk sheet 2 1 0 0 (Label 21)
+    ∷ label sheet-chunk sheet 0 2 0 0 (Label 11)
+    ∷ label sheet-chunk sheet 1 2 0 0 (Label 4294967308)
+    ∷ label sheet-chunk sheet 2 2 0 0 (Label 12884901910)
+    ∷ label sheet-chunk sheet 0 0 0 1 (Label 31)
+    ∷ label sheet-chunk sheet 1 0 0 1 (Label 32)
+    ∷ label sheet-chunk sheet 2 0 0 1 (Label 21474836480)
+    ∷ label sheet-chunk sheet 0 1 0 1 (Label 21474836480)
+    ∷ label sheet-chunk sheet 1 1 0 1 (Label 31)
+    ∷ label sheet-chunk sheet 2 1 0 1 (Label 32)
+    ∷ label sheet-chunk sheet 0 2 0 1 (Label 21474836480)
+    ∷ label sheet-chunk sheet 1 2 0 1 (Label 21474836480)
+    ∷ label sheet-chunk sheet 2 2 0 1 (Label 32)
+    -- one block along x and two along y, then two along z as well: the two counts are not alike
+    ∷ label sheet-chunk (flat (box 2 3 1)) 0 2 0 0 (Label 12884901910)
+    ∷ label sheet-chunk (flat (box 2 3 2)) 0 0 1 0 (Label 11)
+    ∷ label sheet-chunk (flat (box 2 3 2)) 0 2 1 0 (Label 12884901910)
     ∷ []
 
 pub cases-hold : map given table ≡ table
-unfolding firstNumber unless labelAnswer labelChecks labelAt otherWidth cutOff valueIn noVoxels hasZero outside blockNumber placeNumber gridSize isWidth word whole leAt
+unfolding firstNumber unless labelAnswer labelChecks labelAt otherWidth cutOff valueIn noVoxels hasZero outside blockNumber placeNumber gridSize isWidth word whole le leAt
 cases-hold = refl

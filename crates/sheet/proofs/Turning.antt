@@ -1,14 +1,18 @@
 -- A turn, as the code makes it.
-use Prim.Native.Nat.{ℕ, _≤_, _<_}
-use mathlib.Core.Path.{_≡_, refl, sym, _∙_}
-use mathlib.Core.Bool.{true}
-use mathlib.Core.List.{List}
+use Prim.Native.Nat.{ℕ, suc, _+_, _-_, _≤_, _<_}
+use mathlib.Core.Path.{_≡_, refl, sym, ap, _∙_}
+use mathlib.Core.Bool.{Bool, true, false, not, _||_}
+use mathlib.Core.List.{List, _++_}
 use native.Mathlib.Omega.{arith}
 use borrow.Author.Needs.{needs}
-use borrow.Author.Tests.{lt-ltb, le-ltb, eq-eqb, ne-eqb, eqb-true}
+use borrow.Author.Tests.{lt-ltb, le-ltb, eq-eqb, ne-eqb, eqb-true, eqb-false, not-true, not-false}
 use lib.Dec.{eqb}
-use lib.ListN.{length, getD, take}
-use lib.Seq.{length-take-le}
+use lib.IntN.{ℤ, pos, negsuc}
+use lib.ListN.{length, getD, take, drop}
+use lib.Seq.{length-take-le, take-append-le, drop-append-seam}
+use mir.Syntax.{w64}
+use mir.Val.{SFits, toZ, ofZ}
+use mir.Facts.{toZ-ofZ}
 use Rattle.endian.specs.Little.{leAt}
 use Rattle.sharding.specs.declared.Sharding.{Sharding}
 use Rattle.holdings.specs.declared.Sheet.{Sheet}
@@ -17,7 +21,7 @@ use Rattle.holdings.specs.declared.SheetAnswer.the-variants.{Total, Refused}
 use Rattle.holdings.specs.Sheet.{empty}
 use Rattle.holdings.specs.Answers.{addAnswer}
 use Rattle.sheet.specs.declared.turns.Turn.{Turn}
-use Rattle.sheet.specs.Turns.{specIn, bodyLength, more, ended, cut, tooLong, full, turning, turnBy, turnOf, TurnedBy, Turned, Reached, begun, went}
+use Rattle.sheet.specs.Turns.{specIn, bodyLength, more, ended, cut, tooLong, full, turning, turnBy, turnOf, stopsShort, isNone, told, unreadable, TurnedBy, Turned, Told, Next, Reached, begun, went, mostTurns, Finished}
 
 pub spec-is : (head : List ℕ) → record { preshift = getD head 0 0; hash = getD head 1 0; «minishard_bits» = getD head 2 0; «shard_bits» = getD head 3 0; kind = getD head 4 0 } ≡ specIn head
 unfolding specIn
@@ -84,36 +88,82 @@ pub ruleset turning-on = (turn-ended, turn-cut, turn-long, turn-short, turn-adde
 
 -- ---- reading
 
-module _ {s : Sheet} {head : List ℕ} {r : Turn} where
-  pub body-read : {n got : ℕ} (body : List ℕ) → got ≤ length body → length body ≡ n → r ≡ turnOf s head (take got body) → TurnedBy s head n r
-  body-read {n} {got} body h e p = record { body = take got body; asked = omega (arith, length-take-le got body h); made = p }
+pub part-long : (n : ℕ) (d : List ℕ) → n ≤ length d → n ≡ length (take n d)
+part-long n d h = sym (length-take-le n d h)
 
-pub head-read : {s : Sheet} {r : Turn} {m : ℕ} (got n : ℕ) (head : List ℕ) → length head ≡ 17 → got ≤ length head → n ≡ bodyLength (take got head)
-    → TurnedBy s (take got head) m r → m ≤ n → Turned s r
-head-read got n head l h e t k =
+pub body-read : {s : Sheet} {head : List ℕ} {r : Turn} {got : ℕ} (body : List ℕ) → got ≤ length body → r ≡ turnOf s head (take got body) → TurnedBy s head body r
+body-read {got = got} body h p = record { got = got; within = h; made = p }
+
+-- the shard's bytes were read into the front of the buffer
+pub head-read : {s : Sheet} {r : Turn} (head before part : List ℕ) (asked n : ℕ) → asked ≤ 17 → n ≡ bodyLength (take asked head) → n ≡ length part
+    → TurnedBy s (take asked head) part r → Turned s head before (part ++ drop n before) r
+head-read head before part asked n w p q t =
     record {
-      head = take got head;
-      short = omega (arith, length-take-le got head h);
-      turned = record { body = t .body; asked = omega (arith, t .asked); made = t .made };
+      asked = asked;
+      got = t .got;
+      whole = w;
+      within = omega (arith, t .within);
+      made = t .made ∙ rw (take-append-le (t .got) part (drop n before) (t .within));
+      kept = rw (← p, q, drop-append-seam part (drop (length part) before));
     }
 
 pub head-short : (got : ℕ) (head : List ℕ) → length head ≡ 17 → got ≤ length head → length (take got head) ≤ 17
 head-short got head l h = omega (arith, length-take-le got head h)
 
-pub part-long : (n : ℕ) (d : List ℕ) → n ≤ length d → n ≡ length (take n d)
-part-long n d h = sym (length-take-le n d h)
-
-pub part-most : (n : ℕ) (d : List ℕ) → n ≤ length d → length (take n d) ≤ n
-part-most n d h = omega (arith, length-take-le n d h)
-
 pub ruleset reading = (body-read, head-read, head-short, part-long, needs)
+
+-- ---- one read more
+
+pub stops-short : (t : Turn) → (eqb (t .ending) 1 || eqb (t .ending) 2) ≡ stopsShort t
+unfolding stopsShort
+stops-short t = refl
+
+module _ {t : Turn} {b : Bool} (p : b ≡ stopsShort t) where
+  pub told-stays : not b ≡ true → Told t t
+  told-stays q = record { answer = pos 0; made = rw (← p, not-true b q) }
+
+  pub told-by : {r : Turn} (z : ℤ) → not b ≡ false → r ≡ told t z → Told t r
+  told-by z q f = record { answer = z; made = rw (← p, not-false b q) f }
+
+pub next-told : {s : Sheet} {head before body : List ℕ} {t r : Turn} → Turned s head before body t → Told t r → Next s head before body r
+next-told {t = t} p q = record { turn = t; turned = p; told = q }
+
+-- the answer as a local holds it
+module _ (t : Turn) (z : ℤ) {b : Bool} (p : b ≡ isNone (toZ w64 (ofZ w64 z))) (f : SFits w64 z) where
+  pub told-end : b ≡ true → t ≡ told t z
+  unfolding told
+  told-end q = rw (← ap isNone (toZ-ofZ f), ← p, q)
+
+  pub told-unreadable : b ≡ false → turning (t .sheet) unreadable ≡ told t z
+  unfolding told
+  told-unreadable q = rw (← ap isNone (toZ-ofZ f), ← p, q)
+
+pub none-is : (z : ℤ) → SFits w64 z → eqb (ofZ w64 z) 0 ≡ isNone z
+unfolding isNone
+none-is (pos n) f = refl
+none-is (negsuc n) f = ne-eqb (18446744073709551616 - suc n) 0 (λ e. omega (arith, f .sfits))
+
+pub ruleset telling = (none-is, stops-short, told-stays, told-by, next-told, told-end, told-unreadable, needs)
 
 -- ---- turn after turn
 
-pub reach-first : {s : Sheet} → s ≡ empty → Reached (turning s more)
-reach-first e = rw e begun
+-- so many turns were made, and so many are left
+pub record Turning (left : ℕ) (r : Turn) : Type 0 where
+  pub turns : ℕ
+  pub reached : Reached turns r
+  pub counted : turns + left ≡ mostTurns
 
-pub reach-next : {t r : Turn} → Reached t → eqb (t .ending) 0 ≡ true → Turned (t .sheet) r → Reached r
-reach-next {t} h e q = went h (eqb-true (t .ending) 0 e) q
+pub reach-first : {s : Sheet} → s ≡ empty → Turning mostTurns (turning s more)
+reach-first e = record { turns = 0; reached = rw e begun; counted = refl }
 
-pub ruleset reaching = (reach-first, reach-next, needs)
+pub reach-next : {left : ℕ} {t r : Turn} {head before body : List ℕ} → Turning left t → 0 < left → eqb (t .ending) 0 ≡ true
+    → Next (t .sheet) head before body r → Turning (left - 1) r
+reach-next {t = t} h l e q = record { turns = suc (h .turns); reached = went (h .reached) (eqb-true (t .ending) 0 e) q; counted = omega (arith, h .counted) }
+
+pub reach-used : {left : ℕ} {t : Turn} → Turning left t → left ≤ 0 → Finished t
+reach-used h l = record { turns = h .turns; reached = h .reached; last = λ e. omega (arith, h .counted) }
+
+pub reach-last : {left : ℕ} {t : Turn} → Turning left t → eqb (t .ending) 0 ≡ false → Finished t
+reach-last {t = t} h e = record { turns = h .turns; reached = h .reached; last = λ p. absurd (eqb-false (t .ending) 0 e p) }
+
+pub ruleset reaching = (reach-first, reach-next, reach-used, reach-last, needs)

@@ -5,7 +5,7 @@ ghost use mathlib.Core.Path.{_≡_};
 ghost use Prim.Native.Nat.{_≤_};
 ghost use lib.ListN.{length};
 ghost use Rattle.holdings.specs.Sheet.{empty};
-ghost use Rattle.sheet.specs.Turns.{headerBytes, mostBytes, TurnedBy, Turned, Reached};
+ghost use Rattle.sheet.specs.Turns.{headerBytes, mostBytes, TurnedBy, Turned, Told, Next, Finished};
 use crate::turns::Turn;
 use holdings::Sheet;
 use libc::STDIN_FILENO;
@@ -16,7 +16,7 @@ use libc::STDOUT_FILENO;
 // As many bytes of a shard as the buffer has, behind its header.
 fn read_body(sheet: Sheet, head: &[u8], body: &mut [u8]) -> Turn
     requires { ⌜ length (now head) ≤ headerBytes ⌝ }
-    ensures { λ r. ⌜ TurnedBy sheet (now (head .entry)) (length (now (body .entry))) r ⌝ }
+    ensures { λ r. ⌜ TurnedBy sheet (now (head .entry)) (now (body .exit)) r ⌝ }
 {
     let got = io::read_full(STDIN_FILENO, body);
     turns::turned(sheet, head, &body[..got])
@@ -25,17 +25,28 @@ fn read_body(sheet: Sheet, head: &[u8], body: &mut [u8]) -> Turn
 // The next shard: its header, and as many bytes as that says.
 fn read_next(sheet: Sheet, head: &mut [u8], body: &mut [u8]) -> Turn
     requires { ⌜ (length (now head) ≡ headerBytes) × (length (now body) ≡ mostBytes) ⌝ }
-    ensures { λ r. ⌜ Turned sheet r ⌝ }
+    ensures { λ r. ⌜ Turned sheet (now (head .exit)) (now (body .entry)) (now (body .exit)) r ⌝ }
 {
     let got = io::read_full(STDIN_FILENO, head);
     let n = turns::body_length(&head[..got]);
     read_body(sheet, &head[..got], &mut body[..n])
 }
 
-fn next(sheet: Sheet, head: &mut [u8; 17], body: &mut [u8; 65536]) -> Turn
-    ensures { λ r. ⌜ Turned sheet r ⌝ }
+// A turn that found too few bytes asks for one byte more: the count alone does not tell the input's end from a read that failed.
+fn tell(turn: Turn) -> Turn
+    ensures { λ r. ⌜ Told turn r ⌝ }
 {
-    read_next(sheet, head, body)
+    if !turns::stops_short(turn) {
+        return turn;
+    }
+    let mut one = [0u8; 1];
+    turns::told(turn, libc::read(STDIN_FILENO, &mut one))
+}
+
+fn next(sheet: Sheet, head: &mut [u8; 17], body: &mut [u8; 65536]) -> Turn
+    ensures { λ r. ⌜ Next sheet (now (head .exit)) (now (body .entry)) (now (body .exit)) r ⌝ }
+{
+    tell(read_next(sheet, head, body))
 }
 
 fn empty() -> Sheet
@@ -65,7 +76,7 @@ fn empty() -> Sheet
 // Shard by shard, up to what ends the input. A proved loop has to end, and nothing says that the input does: the turns are counted down
 // from a number that no run uses up.
 fn add_all() -> Turn
-    ensures { λ r. ⌜ Reached r ⌝ }
+    ensures { λ r. ⌜ Finished r ⌝ }
 {
     let mut head = [0u8; 17];
     let mut body = [0u8; 65536];
@@ -119,6 +130,9 @@ fn print_ending(ending: u8) {
     }
     if ending == turns::FULL {
         io::write_all(STDOUT_FILENO, b"refused 27\n");
+    }
+    if ending == turns::UNREADABLE {
+        io::write_all(STDOUT_FILENO, b"unreadable\n");
     }
 }
 

@@ -2,14 +2,15 @@
 ghost use mathlib.Core.Path.{_≡_};
 ghost use Prim.Native.Nat.{_≤_};
 ghost use lib.ListN.{length};
-ghost use Rattle.sheet.specs.Turns.{headerBytes, specIn, bodyLength, turnOf, turnBy};
+ghost use Rattle.sheet.specs.Turns.{headerBytes, specIn, bodyLength, turnOf, turnBy, stopsShort, isNone, told};
 use endian::inner::read_u32;
 use endian::inner::read_u64;
 use holdings::Sheet;
 use holdings::SheetAnswer;
 use sharding::Sharding;
 
-// There may be another shard; the input ended, was cut, or has a shard that is too long; a total would pass 2^64 - 1.
+// There may be another shard; the input ended, was cut, or has a shard that is too long; a total would pass 2^64 - 1; the
+// input could not be read on.
 pub const MORE: u8 = 0;
 
 pub const END: u8 = 1;
@@ -19,6 +20,8 @@ pub const CUT: u8 = 2;
 pub const LONG: u8 = 3;
 
 pub const FULL: u8 = 4;
+
+pub const UNREADABLE: u8 = 5;
 
 // The sheet, and what comes next.
 pub struct Turn {
@@ -93,4 +96,34 @@ pub fn turned(sheet: Sheet, head: &[u8], body: &[u8]) -> Turn
     }
     let answer = holdings::add(sheet, spec_in(head), read_u64(head, 5), body);
     turn_by(sheet, answer)
+}
+
+// Whether a turn found fewer bytes than it asked for.
+pub fn stops_short(turn: Turn) -> bool
+    ensures { λ r. ⌜ r ≡ stopsShort turn ⌝ }
+{
+    let ending = turn.ending;
+    (ending == END) | (ending == CUT)
+}
+
+// Whether a read answered that no byte is left. A failed one answers -1.
+fn is_none(answer: isize) -> bool
+    ensures { λ r. ⌜ r ≡ isNone answer ⌝ }
+{
+    answer == 0
+}
+
+// What is told of a turn that found too few bytes, by what one read more answered: only that can tell the input's end from a
+// read that failed.
+pub fn told(turn: Turn, answer: isize) -> Turn
+    ensures { λ r. ⌜ r ≡ told turn answer ⌝ }
+{
+    if is_none(answer) {
+        return turn;
+    }
+    let sheet = turn.sheet;
+    Turn {
+        sheet,
+        ending: UNREADABLE,
+    }
 }

@@ -35,6 +35,7 @@ use Rattle.card.proofs.Meaning.{one-meaning-one-card}
 use Rattle.document.proofs.Meaning.{meaning}
 use Rattle.nodes.proofs.Each.{node-numbers}
 use Rattle.theorems.specs.Demands.{Demand1, Demand2, Ready, Demand3}
+use Rattle.theorems.proofs.Measures.{measure-refuses, measure-names, measure-refuses-pair, add-refuses, add-pair-refuses, join-refuses}
 use Rattle.theorems.proofs.Calls.{grid-refuses, key-refuses, keys-refuses, keys-kept, cover-refuses, cover-kept, cell-refuses, bounds-refuses, chunk-name-refuses, chunk-name-kept, place-refuses, places-refuses, places-kept, file-name-refuses, file-name-kept, card-read-refuses, card-write-refuses, card-kept, manifest-refuses, header-refuses, field-refuses, node-refuses, nodes-refuses, nodes-kept, corners-refuses}
 
 pub demand-1 : Demand1
@@ -69,6 +70,12 @@ demand-1 =
       unlistedOfPair = unlisted-refuses-pair;
       formLengthOfPair = length-refuses-pair;
       settleOfPair = settle-refuses-pair;
+      measure = measure-refuses;
+      measureNamed = measure-names;
+      measureOfPair = measure-refuses-pair;
+      sheetAdd = add-refuses;
+      sheetAddPair = add-pair-refuses;
+      sheetJoin = join-refuses;
       range = range-refuses;
       cardRead = card-read-refuses;
       cardWritten = card-write-refuses;

@@ -2,7 +2,7 @@
 use Prim.Native.Nat.{ℕ, _+_}
 use mathlib.Core.Path.{_≡_, refl, sym, ap, ap₂, subst, _∙_}
 use mathlib.Core.Bool.{Bool, true, false, _||_, false≢true}
-use mathlib.Core.Logic.{⊎-elim}
+use mathlib.Core.Logic.{_↔_, ⊎-elim}
 use mathlib.Core.List.{List, [], _∷_, _++_}
 use native.Mathlib.Nat.{zero-add}
 use native.Mathlib.Omega.{arith}
@@ -16,7 +16,7 @@ use Rattle.shard.specs.declared.CheckAnswer.the-variants.{Sound, Refused, Fault
 use Rattle.measure.specs.declared.Counts.{Counts}
 use Rattle.measure.specs.Answers.{mostTotal, passes}
 use Rattle.holdings.specs.declared.Sheet.{Sheet}
-use Rattle.holdings.specs.declared.SheetAnswer.the-variants.{Total}
+use Rattle.holdings.specs.declared.SheetAnswer.the-variants.{Total, Refused as SheetRefused}
 use Rattle.holdings.specs.Sheet.{rows, empty, anyPasses, both, tally, soundSheet, refusedSheet, shardSheet, numbers, isAmong, hasRow}
 use Rattle.holdings.specs.Answers.{joinAnswer, sheetOf, addAnswer, pairSheet, pairAddAnswer}
 use Rattle.holdings.proofs.Numbers.{Told, check-told, pair-told}
@@ -231,6 +231,23 @@ unfolding sums one
 shards-sums [] = unfold shardsOn in refl
 shards-sums (h ∷ hs) = omega (arith, shards-both (one h) (sums hs), shards-one (verdictOn h) (countsOf h) (told-of h), shards-sums hs)
 
+-- ---- 27
+
+one-sheet : (h : Holding) → sheetOver (h ∷ []) ≡ one h
+unfolding sums
+one-sheet h = over-sums (h ∷ []) ∙ both-comm (one h) empty ∙ both-empty (one h)
+
+add-pick : (s : Sheet) (h : Holding) → addOne s h ≡ pick (anyPasses (rows (both s (sheetOver (h ∷ []))))) (SheetRefused 27) (Total (both s (one h)))
+add-pick s h = add-one s h ∙ rw (one-sheet h) (join-pick s (one h))
+
+by-27 : (b : Bool) (t : Sheet) → (pick b (SheetRefused 27) (Total t) ≡ SheetRefused 27) ↔ (b ≡ true)
+by-27 true t = (λ e. refl, λ e. refl)
+by-27 false t = (λ e. let z : _≡_ {A = ℕ} 0 1 = cc in absurd (omega arith), λ e. absurd (false≢true e))
+
+only-27 : (b : Bool) (t : Sheet) (k : ℕ) → pick b (SheetRefused 27) (Total t) ≡ SheetRefused k → k ≡ 27
+only-27 true t k e = cc
+only-27 false t k e = let z : _≡_ {A = ℕ} 0 1 = cc in absurd (omega arith)
+
 -- ----
 
 pub order-13 : Order13
@@ -240,5 +257,6 @@ order-13 = record {
   all = λ hs w. none-refused empty hs (within-sums hs w);
   shards = λ hs w. ap shardsOn (add-counts hs w ∙ over-sums hs) ∙ shards-sums hs;
   parts = parts-join;
-  stays = λ sheet h e. unfold keptBy in rw e;
+  past = λ sheet h. rw (add-pick sheet h) (by-27 _ _);
+  stays = λ sheet h k e. (only-27 (anyPasses (rows (both sheet (sheetOver (h ∷ []))))) (both sheet (one h)) k (sym (add-pick sheet h) ∙ e), unfold keptBy in rw e);
 }

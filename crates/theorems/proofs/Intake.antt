@@ -1,7 +1,7 @@
 -- Order 11's promises, from the crates' laws.
 use Rattle.delivered.proofs.Laws.{takes-in-order, closes-settled, closes-paid, cut-differently, closes-sound}
 use Rattle.delivered.proofs.Room.{open-says}
-use Rattle.delivered.proofs.Says.{announce-says, part-says, close-says, closed-unusable}
+use Rattle.delivered.proofs.Says.{announce-says, part-says, close-says, over-closed}
 use Rattle.theorems.specs.Intake.{Order11}
 
 pub order-11 : Order11
@@ -15,5 +15,5 @@ order-11 = record {
   announces = λ spec shard out waiting xs d x t e. announce-says t x e;
   parts = λ spec shard out waiting xs d n t. part-says t n;
   closes = λ spec shard out waiting xs d t. close-says t;
-  over = closed-unusable;
+  after = λ d n q. over-closed d q;
 }

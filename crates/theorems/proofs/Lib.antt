@@ -1,6 +1,7 @@
 pub mod Table
 pub mod MeshTable
 pub mod Calls
+pub mod Measures
 pub mod Demands
 pub mod Orders
 pub mod Pairs

@@ -3,10 +3,10 @@ use Prim.Native.Nat.{ℕ, _*_, _≤_, _<_}
 use mathlib.Core.Path.{_≡_}
 use mathlib.Core.Bool.{Bool, true, false}
 use mathlib.Core.Logic.{_↔_, _⊎_}
-use mathlib.Core.List.{List, _++_}
+use mathlib.Core.List.{List, [], _∷_, _++_}
 use mathlib.Core.Option.{Option, none}
 use lib.ListN.{length}
-use Rattle.refusal.specs.Checks.{firstNumber, refusal, Refuses, RefusesAt}
+use Rattle.refusal.specs.Checks.{Check, check, firstNumber, refusal, Refuses, RefusesAt}
 use Rattle.refusal.specs.Buffer.{over}
 use Rattle.refusal.specs.declared.Written.the-variants.{Refused}
 use Rattle.endian.specs.Place.{Holds}
@@ -33,6 +33,7 @@ use Rattle.names.specs.Shards.{fileNameChecks, fileNameAnswer, fileNameLeft}
 use Rattle.names.specs.declared.FileKind.{FileKind}
 use Rattle.shard.specs.declared.CheckAnswer.the-variants.{Sound, Faulty, Refused as CheckRefused}
 use Rattle.index.specs.Index.{mostShardBytes}
+use Rattle.shard.specs.Faults.{shardFault}
 use Rattle.shard.specs.File.{indexLength, indexPart, dataPart, fileChecks, shardChecks, checkAnswer, checkNumber}
 use Rattle.shard.specs.Sound.{SoundMinishard, SoundShard, FirstFaultIs}
 use Rattle.shard.specs.Items.{Item}
@@ -61,6 +62,14 @@ use Rattle.admission.specs.Refusals.{openChecks, announceChecks, partChecks, cl
 use Rattle.intake.specs.declared.IntakeAnswer.the-variants as I
 use Rattle.intake.specs.declared.CloseAnswer.the-variants as X
 use Rattle.intake.specs.Calls.{openAnswer, openLeft, announceAnswer, announceLeft, announceWaiting, partAnswer, partLeft, closeAnswer, closeLeft}
+use Rattle.measure.specs.declared.MeasureAnswer.{MeasureAnswer}
+use Rattle.measure.specs.declared.MeasureAnswer.the-variants as Ms
+use Rattle.measure.specs.Measures.{chunkBytes}
+use Rattle.measure.specs.Answers.{passes, measureAnswer, pairMeasure}
+use Rattle.holdings.specs.declared.Sheet.{Sheet}
+use Rattle.holdings.specs.declared.SheetAnswer.the-variants as Sh
+use Rattle.holdings.specs.Sheet.{rows, anyPasses, both}
+use Rattle.holdings.specs.Answers.{joinAnswer, sheetOf, addAnswer, pairSheet, pairAddAnswer}
 use Rattle.card.specs.declared.Card.{Card}
 use Rattle.card.specs.declared.CardAnswer.the-variants as D
 use Rattle.card.specs.Answers.{readChecks, readAnswer, writeChecks, writeAnswer, writeLeft}
@@ -80,6 +89,18 @@ use Rattle.corners.specs.declared.CornersAnswer.the-variants as Cs
 use Rattle.corners.specs.Boxes.{cornersChecks, cornersAnswer}
 
 -- ---- Demand 1
+
+-- the checks of a measure: those of the check, then 27 where the sizes of the chunks together pass 2^64-1 (order 13)
+abbrev pub measureChecks : Sharding → ℕ → List ℕ → List Check
+measureChecks spec shard file = shardChecks spec shard file ++ (check 27 (passes (chunkBytes spec (indexPart spec file) (dataPart spec file))) ∷ [])
+
+-- its refusal with a position names, as the check's does, the first minishard that has a fault
+abbrev pub faultyAt : Sharding → ℕ → List ℕ → ℕ → ℕ → MeasureAnswer
+faultyAt spec shard file number position = Ms.Faulty number (shardFault spec shard (indexPart spec file) (dataPart spec file) .minishard) position
+
+-- the one check of two sheets that are joined: "27 a total would pass 2^64-1"
+abbrev pub joinChecks : Sheet → Sheet → List Check
+joinChecks a b = check 27 (anyPasses (rows (both a b))) ∷ []
 
 -- That every entry point takes any numbers and bytes and ends is the checker's own: no entry point's contract has a `requires`, and each function is proved to end.
 pub record Demand1 : Type 0 where
@@ -116,6 +137,13 @@ pub record Demand1 : Type 0 where
   pub unlistedOfPair : (spec : Sharding) (shard : ℕ) (index d : List ℕ) → RefusesAt (pairUnlisted spec shard index d) U.Refused U.Faulty (pairChecks spec (noSuchShard spec shard) index ++ shardChecks spec shard (index ++ d))
   pub formLengthOfPair : (spec : Sharding) (shard : ℕ) (index d : List ℕ) (dropping : Bool) → RefusesAt (pairLength spec shard index d dropping) S.Refused S.Faulty (pairChecks spec (noSuchShard spec shard) index ++ lengthChecks spec shard (index ++ d) dropping)
   pub settleOfPair : (spec : Sharding) (shard : ℕ) (index d : List ℕ) (dropping : Bool) (out : List ℕ) → RefusesAt (pairSettle spec shard index d dropping out) S.Refused S.Faulty (pairChecks spec (noSuchShard spec shard) index ++ settleChecks spec shard (index ++ d) dropping out)
+  -- (of a measure: those of the check, with minishard and position as there, then 27; of a sheet: 27 alone, where a total would pass; order 13)
+  pub measure : (spec : Sharding) (shard : ℕ) (file : List ℕ) → RefusesAt (measureAnswer spec shard file) Ms.Refused (faultyAt spec shard file) (measureChecks spec shard file)
+  pub measureNamed : (spec : Sharding) (shard : ℕ) (file : List ℕ) (k m p : ℕ) → (measureAnswer spec shard file ≡ Ms.Faulty k m p) ↔ FirstFaultIs spec shard file k m p
+  pub measureOfPair : (spec : Sharding) (shard : ℕ) (index d : List ℕ) → RefusesAt (pairMeasure spec shard index d) Ms.Refused (faultyAt spec shard (index ++ d)) (pairChecks spec (noSuchShard spec shard) index ++ measureChecks spec shard (index ++ d))
+  pub sheetAdd : (sheet : Sheet) (spec : Sharding) (shard : ℕ) (file : List ℕ) → Refuses (addAnswer sheet spec shard file) Sh.Refused (joinChecks sheet (sheetOf spec shard file))
+  pub sheetAddPair : (sheet : Sheet) (spec : Sharding) (shard : ℕ) (index d : List ℕ) → Refuses (pairAddAnswer sheet spec shard index d) Sh.Refused (joinChecks sheet (pairSheet spec shard index d))
+  pub sheetJoin : (a b : Sheet) → Refuses (joinAnswer a b) Sh.Refused (joinChecks a b)
   pub range : (spec : Sharding) (index d : List ℕ) (start end : ℕ) → Refuses (rangeAnswer spec index d start end) R.Refused (rangeChecks spec index d start end)
   pub cardRead : (s : List ℕ) → Refuses (readAnswer s) D.Refused (readChecks s)
   pub cardWritten : (c : Card) (out : List ℕ) → Refuses (writeAnswer c out) Refused (writeChecks c out)
@@ -131,7 +159,7 @@ pub record Demand1 : Type 0 where
   pub node : (s : List ℕ) (l i : ℕ) → Refuses (nodeAnswer s l i) O.Refused (nodeChecks s l i)
   pub nodes : (s : List ℕ) (l : ℕ) (out : List ℕ) → Refuses (nodesAnswer s l out) Refused (nodesChecks s l out)
   pub corners : (s : List ℕ) (l i : ℕ) → Refuses (cornersAnswer s l i) Cs.Refused (cornersChecks s l i)
-  -- And it changes no byte of a buffer that was lent.
+  -- And it changes no byte of a buffer that was lent. (A sheet stays: order 13's stays.)
   pub keysKept : (v : Volume) (cells : List Cell) (out : List ℕ) (k : ℕ) → keysAnswer v cells out ≡ Refused k → keysLeft v cells out ≡ out
   pub coverKept : (v : Volume) (lower upper : Point) (out : List ℕ) (k : ℕ) → coverAnswer v lower upper out ≡ Refused k → coverLeft v lower upper out ≡ out
   pub placesKept : (spec : Sharding) (ids shards minishards : List ℕ) (k : ℕ) → placesAnswer spec ids shards minishards ≡ Refused k

@@ -2,6 +2,7 @@
 use Prim.Native.Nat.{ℕ, _+_}
 use mathlib.Core.Path.{_≡_}
 use mathlib.Core.Bool.{Bool, true, false}
+use mathlib.Core.Logic.{_↔_}
 use mathlib.Core.List.{List, [], _∷_, _++_}
 use lib.Dec.{eqb}
 use lib.ListN.{length}
@@ -16,7 +17,7 @@ use Rattle.measure.specs.Measures.{measureOf, fileMeasure}
 use Rattle.holdings.specs.declared.Sheet.{Sheet}
 use Rattle.holdings.specs.declared.SheetAnswer.{SheetAnswer}
 use Rattle.holdings.specs.declared.SheetAnswer.the-variants.{Total, Refused as SheetRefused}
-use Rattle.holdings.specs.Sheet.{rows, empty, anyPasses}
+use Rattle.holdings.specs.Sheet.{rows, empty, anyPasses, both}
 use Rattle.holdings.specs.Answers.{joinAnswer, addAnswer, pairAddAnswer}
 
 -- ---- shards, "with specification and number each"
@@ -103,6 +104,10 @@ sheetOver hs =
 abbrev pub Within : List Holding → Type 0
 Within hs = anyPasses (rows (sheetOver hs)) ≡ false
 
+-- "a total would pass 2^64-1": one of any sheet, with this shard
+abbrev pub WouldPass : Sheet → Holding → Type 0
+WouldPass sheet h = anyPasses (rows (both sheet (sheetOver (h ∷ [])))) ≡ true
+
 -- ---- "the same shards in another order"
 
 pub data Reordered : List Holding → List Holding → Type 0 where
@@ -125,5 +130,6 @@ pub record Order13 : Type 0 where
   pub shards : (hs : List Holding) → Within hs → shardsOn (addAll empty hs) ≡ length hs
   -- The sheets of two parts, joined, are that of the whole.
   pub parts : (hs gs : List Holding) → Within (hs ++ gs) → joinAnswer (addAll empty hs) (addAll empty gs) ≡ Total (addAll empty (hs ++ gs))
-  -- 27 is given exactly when a total would pass, of any sheet, and leaves it.
-  pub stays : (sheet : Sheet) (h : Holding) → addOne sheet h ≡ SheetRefused 27 → keptBy sheet (addOne sheet h) ≡ sheet
+  -- 27 is given exactly when a total would pass, of any sheet, and no other number; then the sheet stays.
+  pub past : (sheet : Sheet) (h : Holding) → (addOne sheet h ≡ SheetRefused 27) ↔ WouldPass sheet h
+  pub stays : (sheet : Sheet) (h : Holding) (k : ℕ) → addOne sheet h ≡ SheetRefused k → (k ≡ 27) × (keptBy sheet (addOne sheet h) ≡ sheet)

@@ -1,18 +1,17 @@
 -- What order 11 promises (02): intake from the scanner. What the four calls refuse, and that a refusal changes no buffer, is in Demand1.
 use Prim.Native.Nat.{ℕ}
 use mathlib.Core.Path.{_≡_}
-use mathlib.Core.Bool.{true}
 use mathlib.Core.List.{List, []}
 use lib.ListN.{length, take}
+use Rattle.refusal.specs.Buffer.{over}
 use Rattle.refusal.specs.Checks.{firstNumber}
 use Rattle.sharding.specs.declared.Sharding.{Sharding}
 use Rattle.shard.specs.Items.{Item}
-use Rattle.admission.specs.declared.Intake.{Intake}
-use Rattle.admission.specs.Refusals.{unusable, openChecks, announceChecks, partChecks, closeChecks}
+use Rattle.admission.specs.Refusals.{openChecks, announceChecks, partChecks, closeChecks}
 use Rattle.intake.specs.declared.CloseAnswer.the-variants.{Closed}
 use Rattle.intake.specs.Calls.{closed, closeAnswer, closeLeft}
 use Rattle.delivered.specs.Delivered.{Delivery, asItems, deliveredForm, InOrder}
-use Rattle.delivered.specs.Runs.{Desk, Takes, ClosedShard}
+use Rattle.delivered.specs.Runs.{Desk, afterClose, Takes, ClosedShard, Over}
 use Rattle.delivered.specs.Says.{owing, openSays, announceSays, partSays, closeSays}
 
 -- `Takes spec shard out waiting xs d`: from the opening on the chunks xs were announced and handed over, no call was refused, each got the state and both
@@ -28,9 +27,9 @@ front d n = take n (closeLeft (d .state) (d .output) (d .waiting))
 
 -- Order 11: "If each call gets the last call's state and both buffers as it left them,
 pub record Order11 : Type 0 where
-  -- the close reports the length of the settled form of what was delivered, and the output begins with it,
+  -- the close reports the length of the settled form of what was delivered, and the output begins with it, and past it is as it was lent to the opening,
   pub settled : (spec : Sharding) (shard : ℕ) (out waiting : List ℕ) (xs : List Delivery) (d : Desk) (n : ℕ) → Takes spec shard out waiting xs d → Closes d n
-      → (n ≡ length (deliveredForm spec xs)) × (front d n ≡ deliveredForm spec xs)
+      → (n ≡ length (deliveredForm spec xs)) × (closeLeft (d .state) (d .output) (d .waiting) ≡ over (deliveredForm spec xs) out)
   -- however the parts were cut": two runs that deliver the same, in other parts or into other buffers, leave the same.
   pub cut : (spec : Sharding) (shard : ℕ) (out waiting out′ waiting′ : List ℕ) (xs ys : List Delivery) (d e : Desk) (m n : ℕ)
       → Takes spec shard out waiting xs d → Closes d m → Takes spec shard out′ waiting′ ys e → Closes e n → asItems xs ≡ asItems ys
@@ -52,5 +51,5 @@ pub record Order11 : Type 0 where
       → firstNumber (partChecks (d .state) n (length (d .output)) (d .waiting)) ≡ firstNumber (partSays xs n)
   pub closes : (spec : Sharding) (shard : ℕ) (out waiting : List ℕ) (xs : List Delivery) (d : Desk) → Takes spec shard out waiting xs d
       → firstNumber (closeChecks (d .state) (length (d .output)) (d .waiting)) ≡ firstNumber (closeSays xs)
-  -- 25 "after the close", of every call that neither 30 nor 10 refuses before
-  pub over : (s : Intake) (waiting : List ℕ) → unusable (closed s) waiting ≡ true
+  -- 25 "after the close", of every call but an announcement that 10 refuses before, with the state and both buffers as any close left them
+  pub after : (d : Desk) (n : ℕ) → Closes d n → Over (afterClose d)

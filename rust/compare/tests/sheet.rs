@@ -7,6 +7,7 @@ use reference::pair;
 use reference::sheet::{self, measure, measure_pair};
 use std::collections::BTreeSet;
 use std::env;
+use std::fs::File;
 use std::io::Write;
 use std::path::PathBuf;
 use std::process::{Command, Stdio};
@@ -246,4 +247,18 @@ fn the_program_on_mixed_sets() {
         assert_eq!(run(&input), expected);
     }
     assert_eq!(endings, ["", "cut", "too long"].map(String::from).into());
+}
+
+#[test]
+fn the_program_on_what_it_can_not_read() {
+    let folder = File::open(env!("CARGO_MANIFEST_DIR")).expect("a folder");
+    let write_only = File::options().write(true).open("/dev/null");
+    for input in [folder, write_only.expect("a file that takes all")] {
+        let output = Command::new(program())
+            .stdin(input)
+            .output()
+            .expect("the program runs");
+        let expected = sheet::Sheet::default().lines() + "unreadable\n";
+        assert_eq!(String::from_utf8_lossy(&output.stdout), expected);
+    }
 }

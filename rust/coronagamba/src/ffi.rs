@@ -169,34 +169,34 @@ mod tests {
         assert_eq!((length, out), (16, [0; 16]));
     }
 
-    /// 1 says labels of 64 bits, and every other number labels of 32.
+    /// Labels have 32 or 64 bits; every other number is refused, and then nothing
+    /// is written.
     #[test]
-    fn one_number_says_wide() {
+    fn two_label_widths() {
         let words: [u32; 5] = [1, 2, 0, 5, 6];
         let chunk = words.map(u32::to_le_bytes).concat();
         let (from, count, one) = (chunk.as_ptr(), chunk.len(), Extents::from([1; 3]));
-        for wide in 0..=u8::MAX {
-            let (expected, bytes) = if wide == 1 {
-                (5 + (6 << 32), 8)
-            } else {
-                (5, 4)
+        for bits in 0..=u8::MAX {
+            let (expected, told, bytes, written) = match bits {
+                32 => (0, 5, 4, 4),
+                64 => (0, 5 + (6 << 32), 8, 8),
+                _ => (2, 9, 9, 0),
             };
             let (mut label, mut length, mut out) = (9, 9, [7; 9]);
             // SAFETY: each pointer and count are those of one array, and the
             // results go to live values.
             unsafe {
                 let word =
-                    coronagamba_label(from, count, one, one, 1, wide, 0, 0, 0, 0, &mut label);
-                assert_eq!((word, label), (0, expected));
-                let word = coronagamba_unpacked_length(one, one, 1, wide, &mut length);
-                assert_eq!((word, length), (0, bytes));
+                    coronagamba_label(from, count, one, one, 1, bits, 0, 0, 0, 0, &mut label);
+                assert_eq!((word, label), (expected, told));
+                let word = coronagamba_unpacked_length(one, one, 1, bits, &mut length);
+                assert_eq!((word, length), (expected, bytes));
                 let (to, room) = (out.as_mut_ptr(), out.len());
                 let word =
-                    coronagamba_unpack(from, count, one, one, 1, wide, to, room, &mut length);
-                assert_eq!((word, length), (0, bytes));
+                    coronagamba_unpack(from, count, one, one, 1, bits, to, room, &mut length);
+                assert_eq!((word, length), (expected, bytes));
             }
-            let written = bytes as usize;
-            assert_eq!(out[..written], expected.to_le_bytes()[..written]);
+            assert_eq!(out[..written], u64::to_le_bytes(told)[..written]);
             assert_eq!(out[written..], [7; 9][written..]);
         }
     }

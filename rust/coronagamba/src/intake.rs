@@ -322,10 +322,10 @@ impl From<NotClosed<'_>> for Refusal {
 /// the buffers borrowed. Each call is lent the state and both buffers as the last
 /// call left them.
 ///
-/// Any numbers may stand here. Each call judges them, with 25 where no calls could
-/// have left them beside these buffers, and touches nothing out of bounds. But
-/// numbers that calls could have left are believed: the promise of the
-/// [`close`](State::close) is for buffers that nobody else wrote to.
+/// Any numbers may stand here. Each call judges them, with 25 where they contradict
+/// each other, the buffers' lengths or the last pair of the second buffer, and
+/// touches nothing out of bounds. Numbers that pass are believed: the promise of
+/// the [`close`](State::close) is for numbers and buffers that calls left.
 ///
 /// ```
 /// use coronagamba::intake::State;

@@ -5,7 +5,7 @@
 use crate::refusal::Refusal;
 
 /// The version that these declarations belong to: major, minor, patch.
-pub const VERSION: [u64; 3] = [0, 5, 0];
+pub const VERSION: [u64; 3] = [0, 5, 1];
 
 /// A sharding's hash that leaves an id as it is.
 pub const HASH_IDENTITY: u8 = 0;
@@ -44,7 +44,8 @@ impl Refusal {
 
     /// A volume or chunk extent is 0, or a cell coordinate is not below its grid size; in a chunk
     /// of labels also where a block size or the channel count is 0, or a voxel or channel is
-    /// outside.
+    /// outside; beyond the table, and before all else, where the label width is neither 32 nor 64
+    /// bits.
     pub const NO_SUCH_CELL: u8 = 2;
 
     /// A key is made or decoded, or a card read or written, or an info file read, and the grid

@@ -205,6 +205,11 @@ fn states() {
         assert_eq!(forged, kept);
         let _ = (forged.length(), forged.owed());
     }
+    // More came than the only chunk has: 2 bytes of 4 would be unlisted.
+    let mut forged = state;
+    forged.numbers[12..14].copy_from_slice(&[4, 0]);
+    let answer = forged.close(&mut out, &waiting).map(|_| ());
+    assert_eq!(number(answer), Err(25));
     assert_eq!((state, out, waiting), before);
 
     state.part(b"ab", &mut out, &waiting).expect("owed");

@@ -267,7 +267,10 @@ impl Numbers {
             && (begin == 0 || minishard > 0 && begin >= 24)
             && id == last
             && owed <= u128::from(size)
-            && came.is_some_and(|came| u128::from(size) <= came);
+            && came.is_some_and(|came| match count {
+                1 => u128::from(size) == came,
+                _ => u128::from(size) <= came,
+            });
         !holds
     }
 
@@ -464,6 +467,18 @@ mod tests {
             let mut forged = opened;
             forged.0[at] = 1;
             assert!(forged.contradict(&[7; 16]), "number {at}");
+        }
+    }
+
+    /// An only chunk is all that came of its minishard or is owed: of 10 bytes with
+    /// one chunk of 4 the other 6 would be unlisted.
+    #[test]
+    fn numbers_of_an_only_chunk() {
+        let waiting = [7, 0, 0, 0, 0, 0, 0, 0, 4, 0, 0, 0, 0, 0, 0, 0];
+        for (next, owed, contradicts) in [(10, 0, true), (4, 0, false), (3, 1, false), (3, 0, true)]
+        {
+            let numbers = Numbers([0, 0, 1, 0, 0, 0, 100, 16, 1, 1, 7, 0, next, owed, 0]);
+            assert_eq!(numbers.contradict(&waiting), contradicts, "{next} came");
         }
     }
 

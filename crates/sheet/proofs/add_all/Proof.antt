@@ -1,12 +1,11 @@
 -- The measure is the number of turns that are left.
 use native.Mathlib.Omega.{arith}
-use Rattle.sheet.specs.Turns.{Reached}
-use Rattle.sheet.proofs.Turning.{reaching, reach-next}
+use Rattle.sheet.proofs.Turning.{Turning, reaching}
 use Rattle.sheet.proofs.add_all.Statement.{statement}
 use Rattle.sheet.proofs.add_all.Tie as tie
 
 abbrev Inv-loop : tie.InvT-loop
-Inv-loop head₀ body₀ at₀ left₀ head body at left = Reached at
+Inv-loop head₀ body₀ at₀ left₀ head body at left = Turning left at
 
 abbrev μ-loop : tie.MeasureT-loop
 μ-loop head₀ body₀ at₀ left₀ head body at left = left
@@ -14,5 +13,5 @@ abbrev μ-loop : tie.MeasureT-loop
 pub add-all-spec : {M : Type 1} → statement M
 add-all-spec =
     tie.close
-    (tie.spec Inv-loop μ-loop (λ c κs. search reaching) (λ c. search reaching) (λ c κs. search reaching) (λ c. omega arith) (λ c. omega arith) (λ c. reach-next (c .before .before .before .before .before .before .loop .inv) (c .before .before .before .if1 .taken) (c .next .ensures)) (λ c. search reaching)
+    (tie.spec Inv-loop μ-loop (λ c κs. search reaching) (λ c. search reaching) (λ c κs. search reaching) (λ c. omega arith) (λ c. omega arith) (λ c. search reaching) (λ c. search reaching)
     (λ c. search reaching))

@@ -546,9 +546,9 @@ extern "C" {
     /// `state`.
     ///
     /// Refusals: 30 where a buffer has another length than on opening, 10 where the id belongs to
-    /// another shard, 25 out of order or after the close or where no calls could have left the
-    /// state, 26 while bytes are owed, 13 where the settled form of all announced so far and this
-    /// chunk would pass `out` or 1 GiB or `waiting` has no 16 bytes left for it
+    /// another shard, 25 out of order or after the close or where the state contradicts itself or
+    /// `waiting`, 26 while bytes are owed, 13 where the settled form of all announced so far and
+    /// this chunk would pass `out` or 1 GiB or `waiting` has no 16 bytes left for it
     pub fn coronagamba_intake_announce(
         state: *mut [u64; 15],
         id: u64,
@@ -563,7 +563,7 @@ extern "C" {
     /// owed. Writes them to their final place in `out`, and the new state to `state`.
     ///
     /// Refusals: 30 where a buffer has another length than on opening, 25 after the close or where
-    /// no calls could have left the state, 26 where these are more bytes than are owed
+    /// the state contradicts itself or `waiting`, 26 where these are more bytes than are owed
     pub fn coronagamba_intake_part(
         state: *mut [u64; 15],
         bytes: *const u8,
@@ -578,7 +578,7 @@ extern "C" {
     /// number of bytes to `length`, and to `state` a state with which each further call is refused.
     ///
     /// Refusals: 30 where a buffer has another length than on opening, 25 after the close or where
-    /// no calls could have left the state, 26 while bytes are owed
+    /// the state contradicts itself or `waiting`, 26 while bytes are owed
     pub fn coronagamba_intake_close(
         state: *mut [u64; 15],
         out: *mut u8,
@@ -769,19 +769,18 @@ extern "C" {
     ) -> u64;
 
     /// The label of a voxel in a chunk of the compressed segmentation encoding. `size` and `block`
-    /// are the chunk's and its blocks' extents in voxels. Where `wide` is 1 labels have 64 bits;
-    /// any other number says 32. Voxel and channel count from 0 in the chunk. Writes the label to
-    /// `label`.
+    /// are the chunk's and its blocks' extents in voxels; `bits` is the label width, 32 or 64.
+    /// Voxel and channel count from 0 in the chunk. Writes the label to `label`.
     ///
-    /// Refusals: 2 also where a block size or the channel count is 0 or a voxel or channel is
-    /// outside, 29, 28
+    /// Refusals: 2 also where `bits` is another number or a block size or the channel count is 0 or
+    /// a voxel or channel is outside, 29, 28
     pub fn coronagamba_label(
         chunk: *const u8,
         count: usize,
         size: Extents,
         block: Extents,
         channels: u32,
-        wide: u8,
+        bits: u8,
         x: u32,
         y: u32,
         z: u32,
@@ -790,35 +789,35 @@ extern "C" {
     ) -> u64;
 
     /// How many bytes a chunk of labels has in the raw form, whatever it holds. `size` and `block`
-    /// are the chunk's and its blocks' extents in voxels. Where `wide` is 1 labels have 64 bits;
-    /// any other number says 32. Writes the number to `length`.
+    /// are the chunk's and its blocks' extents in voxels; `bits` is the label width, 32 or 64.
+    /// Writes the number to `length`.
     ///
-    /// Refusals: 2 also where a block size or the channel count is 0, 13 where the number does not
-    /// fit 64 bits
+    /// Refusals: 2 also where `bits` is another number or a block size or the channel count is 0,
+    /// 13 where the number does not fit 64 bits
     pub fn coronagamba_unpacked_length(
         size: Extents,
         block: Extents,
         channels: u32,
-        wide: u8,
+        bits: u8,
         length: *mut u64,
     ) -> u64;
 
     /// A whole chunk of the compressed segmentation encoding in the raw form: labels little-endian,
     /// x fastest, then y, z, channel. `size` and `block` are the chunk's and its blocks' extents in
-    /// voxels. Where `wide` is 1 labels have 64 bits; any other number says 32. Writes the raw form
-    /// to the front of `out`, which needs the room that coronagamba_unpacked_length tells, and its
-    /// number of bytes to `length`.
+    /// voxels; `bits` is the label width, 32 or 64. Writes the raw form to the front of `out`,
+    /// which needs the room that coronagamba_unpacked_length tells, and its number of bytes to
+    /// `length`.
     ///
-    /// Refusals: 2 also where a block size or the channel count is 0, 29 where it would refuse the
-    /// label of any voxel, 28 where it would refuse the label of any voxel, 13 where `out` is
-    /// shorter than the raw form
+    /// Refusals: 2 also where `bits` is another number or a block size or the channel count is 0,
+    /// 29 where coronagamba_label would give it for any voxel, 28 where else that would for any, 13
+    /// where `out` is shorter than the raw form
     pub fn coronagamba_unpack(
         chunk: *const u8,
         count: usize,
         size: Extents,
         block: Extents,
         channels: u32,
-        wide: u8,
+        bits: u8,
         out: *mut u8,
         out_count: usize,
         length: *mut u64,

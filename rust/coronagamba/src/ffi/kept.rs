@@ -754,9 +754,12 @@ fn on_faulty_labels((number, chunk): &(u64, Vec<u8>)) -> Vec<Case<'_>> {
     let (number, from, count) = (*number, chunk.as_ptr(), chunk.len());
     let two = Extents::from([2; 3]);
     Vec::from(cases! { lent:
-        number => coronagamba_label(from, count, two, two, 1, 0, 0, 0, 0, 0, lent.one());
-        number => coronagamba_unpack(from, count, two, two, 1, 0, lent.many(32), 32, lent.one());
-        number => coronagamba_unpack(from, count, two, two, 1, 0, lent.many(31), 31, lent.one());
+        // A label width that is none goes before both.
+        2 => coronagamba_label(from, count, two, two, 1, 1, 0, 0, 0, 0, lent.one());
+        2 => coronagamba_unpack(from, count, two, two, 1, 1, lent.many(32), 32, lent.one());
+        number => coronagamba_label(from, count, two, two, 1, 32, 0, 0, 0, 0, lent.one());
+        number => coronagamba_unpack(from, count, two, two, 1, 32, lent.many(32), 32, lent.one());
+        number => coronagamba_unpack(from, count, two, two, 1, 32, lent.many(31), 31, lent.one());
     })
 }
 
@@ -765,14 +768,18 @@ fn on_sound_labels(chunk: &[u8]) -> Vec<Case<'_>> {
     let (from, count) = (chunk.as_ptr(), chunk.len());
     let [none, two, most] = [0, 2, u32::MAX].map(|extent| Extents::from([extent; 3]));
     Vec::from(cases! { lent:
-        2 => coronagamba_label(from, count, two, none, 1, 0, 0, 0, 0, 0, lent.one());
-        2 => coronagamba_label(from, count, two, two, 1, 0, 0, 0, 2, 0, lent.one());
-        2 => coronagamba_label(from, count, two, two, 1, 0, 0, 0, 0, 1, lent.one());
-        2 => coronagamba_unpacked_length(none, two, 1, 0, lent.one());
-        2 => coronagamba_unpacked_length(two, two, 0, 0, lent.one());
-        13 => coronagamba_unpacked_length(most, two, 1, 0, lent.one());
-        2 => coronagamba_unpack(from, count, none, two, 1, 0, lent.many(32), 32, lent.one());
-        13 => coronagamba_unpack(from, count, two, two, 1, 0, lent.many(31), 31, lent.one());
+        2 => coronagamba_label(from, count, two, none, 1, 32, 0, 0, 0, 0, lent.one());
+        2 => coronagamba_label(from, count, two, two, 1, 32, 0, 0, 2, 0, lent.one());
+        2 => coronagamba_label(from, count, two, two, 1, 32, 0, 0, 0, 1, lent.one());
+        2 => coronagamba_label(from, count, two, two, 1, 33, 0, 0, 0, 0, lent.one());
+        2 => coronagamba_unpacked_length(two, two, 1, 0, lent.one());
+        2 => coronagamba_unpacked_length(most, two, 1, 128, lent.one());
+        2 => coronagamba_unpack(from, count, two, two, 1, 16, lent.many(31), 31, lent.one());
+        2 => coronagamba_unpacked_length(none, two, 1, 32, lent.one());
+        2 => coronagamba_unpacked_length(two, two, 0, 32, lent.one());
+        13 => coronagamba_unpacked_length(most, two, 1, 32, lent.one());
+        2 => coronagamba_unpack(from, count, none, two, 1, 32, lent.many(32), 32, lent.one());
+        13 => coronagamba_unpack(from, count, two, two, 1, 32, lent.many(31), 31, lent.one());
     })
 }
 

@@ -20,7 +20,8 @@ pub const TABLE: &[Explained] = &[
         number: 2,
         given: "a volume or chunk extent is 0, or a cell coordinate is not below its grid size; \
          in a chunk of labels also where a block size or the channel count is 0, or a \
-         voxel or channel is outside",
+         voxel or channel is outside; beyond the table, and before all else, where the \
+         label width is neither 32 nor 64 bits",
         cause: "A cell given in voxels instead of chunks, axes in another order, or the card of \
          another volume.",
         remedy: "Look at the grid with 'card show'. A cell counts chunks from 0 on each axis: \

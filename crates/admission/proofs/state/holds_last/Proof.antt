@@ -11,6 +11,5 @@ holds-last-spec =
     (λ c κs. search testing)
     (λ c. search testing)
     (λ c κs. search testing)
-    (λ c. search testing)
-    (λ c. search testing)
+    (λ c κs. search testing)
     (λ c. search testing))

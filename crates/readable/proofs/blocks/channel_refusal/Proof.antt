@@ -19,5 +19,5 @@ pub channel-refusal-spec : {M : Type 1} → statement M
 channel-refusal-spec =
     tie.close
     (tie.spec Inv-loop μ-loop (λ c. (omega arith, greatest-none _))
-    (λ c κs. ((search needs, omega arith), (search needs, search each-whole, search each-width))) (λ c. search blocks-hit) (λ c. omega arith)
+    (λ c κs. ((search needs, omega arith), ((search needs, search each-whole, search each-width), search needs))) (λ c. search blocks-hit) (λ c. omega arith)
     (λ c. omega arith) (λ c. (omega arith, search greatest-still)) (λ c. search greatest-all))

@@ -1,0 +1,99 @@
+-- What measuring a shard and adding to a sheet refuse, by their checks.
+use Prim.Native.Nat.{ℕ, zero, suc}
+use mathlib.Core.Path.{_≡_, refl, sym, _∙_}
+use mathlib.Core.List.{List, [], _∷_, _++_}
+use mathlib.Core.Logic.{_↔_}
+use Rattle.refusal.specs.Checks.{Check, check, firstNumber, unless, answeredAt, Refuses, RefusesAt}
+use Rattle.refusal.proofs.Picks.{all-in, all-in-both}
+use Rattle.refusal.proofs.Refusing.{refuses}
+use Rattle.refusal.proofs.Positions.{at-both, at-plain, refusing-at}
+use Rattle.sharding.specs.declared.Sharding.{Sharding}
+use Rattle.sharding.specs.Specification.{noSuchShard}
+use Rattle.shard.specs.declared.CheckAnswer.the-variants as C
+use Rattle.shard.specs.Faults.{shardFault}
+use Rattle.shard.specs.File.{indexPart, dataPart, fileChecks, shardChecks, checkAnswer}
+use Rattle.shard.specs.Sound.{FirstFaultIs}
+use Rattle.shard.proofs.Numbers.{shard-in, shard-answer}
+use Rattle.shard.proofs.Whole.{check-names}
+use Rattle.seam.specs.Pair.{pairChecks, pairAnswer}
+use Rattle.seam.proofs.Pairs.{checks-seamed, seamed-front, seamed-back}
+use Rattle.seam.proofs.Refusals.{pair-refuses-at}
+use Rattle.pair.specs.Answers.{pairCheck}
+use Rattle.measure.specs.declared.MeasureAnswer.{MeasureAnswer}
+use Rattle.measure.specs.declared.MeasureAnswer.the-variants.{Sound, Refused, Faulty}
+use Rattle.measure.specs.Measures.{chunkBytes, fileMeasure}
+use Rattle.measure.specs.Answers.{passes, measuredIn, afterVerdict, measureAnswer, pairMeasure}
+use Rattle.measure.proofs.Answered.{measure-faulty, named-fault}
+use Rattle.holdings.specs.declared.Sheet.{Sheet}
+use Rattle.holdings.specs.declared.SheetAnswer.the-variants as Sh
+use Rattle.holdings.specs.Answers.{joinAnswer, sheetOf, addAnswer, pairSheet, pairAddAnswer}
+use Rattle.theorems.specs.Demands.{measureChecks, faultyAt, joinChecks}
+
+-- ---- a measure
+
+-- after the check: its refusal, with n or with the fault k of minishard m, or else a
+after-check : (n k m p : ℕ) (a : MeasureAnswer) → afterVerdict (unless C.Refused n (unless (λ j. C.Faulty j m p) k C.Sound)) a ≡ unless Refused n (unless (λ j. Faulty j m p) k a)
+unfolding unless afterVerdict
+after-check zero zero m p a = refl
+after-check zero (suc k) m p a = refl
+after-check (suc n) k m p a = refl
+
+module _ (spec : Sharding) (shard : ℕ) (file : List ℕ) where
+  abbrev past : List Check
+  past = check 27 (passes (chunkBytes spec (indexPart spec file) (dataPart spec file))) ∷ []
+
+  measured : measuredIn spec (indexPart spec file) (dataPart spec file) ≡ answeredAt Refused (faultyAt spec shard file) past (Sound (fileMeasure spec file))
+  unfolding measuredIn
+  measured = sym (at-plain Refused (faultyAt spec shard file) past (Sound (fileMeasure spec file)) (refl, tt))
+
+  measure-is : measureAnswer spec shard file ≡ answeredAt Refused (faultyAt spec shard file) (measureChecks spec shard file) (Sound (fileMeasure spec file))
+  unfolding measureAnswer checkAnswer
+  measure-is =
+      let f = shardFault spec shard (indexPart spec file) (dataPart spec file) in
+      after-check (firstNumber (fileChecks spec (noSuchShard spec shard) file)) (f .number) (f .minishard) (f .position) (measuredIn spec (indexPart spec file) (dataPart spec file))
+      ∙ sym (shard-answer spec shard file Refused (faultyAt spec shard file) (measuredIn spec (indexPart spec file) (dataPart spec file)))
+      ∙ rw measured (sym (at-both Refused (faultyAt spec shard file) (shardChecks spec shard file) past (Sound (fileMeasure spec file)) (shard-in spec shard file)))
+
+  pub measure-refuses : RefusesAt (measureAnswer spec shard file) Refused (faultyAt spec shard file) (measureChecks spec shard file)
+  measure-refuses =
+      rw measure-is
+      (refusing-at Refused (faultyAt spec shard file) (λ j k e. cc) (λ j k p q e. (cc, cc)) (λ j k p e. cc) (measureChecks spec shard file) _ (λ k e. cc) (λ k p e. cc)
+      (all-in-both (shardChecks spec shard file) past (shard-in spec shard file) (all-in past refl)))
+
+  pub measure-names : (k m p : ℕ) → (measureAnswer spec shard file ≡ Faulty k m p) ↔ FirstFaultIs spec shard file k m p
+  measure-names k m p = (
+    λ e. check-names spec shard file k m p .0 (named-fault spec (indexPart spec file) (dataPart spec file) (checkAnswer spec shard file) (unfold measureAnswer in e)),
+    λ g. sym (measure-faulty spec shard file refl (check-names spec shard file k m p .1 g)),
+  )
+
+-- of a pair: 1, 5, 23, then that of the joined file
+module _ (spec : Sharding) (shard : ℕ) (index d : List ℕ) where
+  pair-is : pairMeasure spec shard index d ≡ pairAnswer Refused spec (noSuchShard spec shard) index (measureAnswer spec shard (index ++ d))
+  unfolding pairMeasure pairCheck
+  pair-is = go (firstNumber (pairChecks spec (noSuchShard spec shard) index)) refl
+    where
+      go : (n : ℕ) → firstNumber (pairChecks spec (noSuchShard spec shard) index) ≡ n
+          → afterVerdict (unless C.Refused n (checkAnswer spec shard (index ++ d))) (measuredIn spec index d) ≡ unless Refused n (measureAnswer spec shard (index ++ d))
+      go zero z =
+          let e = checks-seamed spec (noSuchShard spec shard) index z in
+          unfold unless measureAnswer in rw (seamed-front spec index d e, seamed-back spec index d e)
+      go (suc n) z = unfold unless afterVerdict in refl
+
+  pub measure-refuses-pair : RefusesAt (pairMeasure spec shard index d) Refused (faultyAt spec shard (index ++ d)) (pairChecks spec (noSuchShard spec shard) index ++ measureChecks spec shard (index ++ d))
+  measure-refuses-pair =
+      rw pair-is
+      (pair-refuses-at Refused (λ j k e. cc) (faultyAt spec shard (index ++ d)) (λ j k p e. cc) spec (noSuchShard spec shard) index (measure-refuses spec shard (index ++ d)))
+
+-- ---- a sheet
+
+pub join-refuses : (a b : Sheet) → Refuses (joinAnswer a b) Sh.Refused (joinChecks a b)
+unfolding joinAnswer
+join-refuses a b = refuses Sh.Refused (λ j k e. cc) (joinChecks a b) _ refl (λ k e. cc)
+
+pub add-refuses : (sheet : Sheet) (spec : Sharding) (shard : ℕ) (file : List ℕ) → Refuses (addAnswer sheet spec shard file) Sh.Refused (joinChecks sheet (sheetOf spec shard file))
+unfolding addAnswer
+add-refuses sheet spec shard file = join-refuses sheet (sheetOf spec shard file)
+
+pub add-pair-refuses : (sheet : Sheet) (spec : Sharding) (shard : ℕ) (index d : List ℕ) → Refuses (pairAddAnswer sheet spec shard index d) Sh.Refused (joinChecks sheet (pairSheet spec shard index d))
+unfolding pairAddAnswer
+add-pair-refuses sheet spec shard index d = join-refuses sheet (pairSheet spec shard index d)
