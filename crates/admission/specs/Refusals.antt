@@ -1,4 +1,4 @@
--- The refusals of the four calls of an intake, "in that order": 30, 1, 5, 10, 25, 26, 13 (02, order 11).
+-- The refusals of the four calls of an intake, "in that order": 30, 1, 5, 10, 25, 26, 13 (RULES N2 to N5, N8).
 use Prim.Native.Nat.{ℕ, _+_, _*_}
 use mathlib.Core.Bool.{Bool, not, _&&_, _||_}
 use mathlib.Core.List.{List, [], _∷_}
@@ -15,7 +15,7 @@ use Rattle.admission.specs.State.{most, announcedLength, notVolume, sane
 
 -- ---- the tests
 
--- 30: "after opening, a lent buffer of another length than then"
+-- 30: "after opening, a lent buffer of another length than then" (RULES N1)
 unfoldable pub otherLengths : Intake → ℕ → ℕ → Bool
 otherLengths s output waiting = not (eqb (s .output) output) || not (eqb (s .waiting) waiting)
 
@@ -23,7 +23,7 @@ otherLengths s output waiting = not (eqb (s .output) output) || not (eqb (s .wai
 unfoldable pub foreign : Intake → ℕ → Bool
 foreign s id = allowed (s .spec) && not (eqb (shardOf (s .spec) id) (s .shard))
 
--- 25 of any call: "after the close", or a state that does not pass, so that no calls left it
+-- 25 of any call: "after the close", or a state that does not pass, so that no calls left it (RULES N8)
 unfoldable pub unusable : Intake → List ℕ → Bool
 unusable s w = not (sane s w) || not (eqb (s .phase) 0)
 
@@ -45,10 +45,12 @@ noRoom s id size =
 
 -- ---- the calls: of the output its length counts, of the second buffer also what it holds
 
+-- RULES N2
 unfoldable pub openChecks : Sharding → ℕ → ℕ → List Check
 openChecks spec shard output =
     check 1 (notVolume spec) ∷ check 5 (noSuchShard spec shard) ∷ check 13 (ltb (most output) (indexLength spec)) ∷ []
 
+-- RULES N3
 unfoldable pub announceChecks : Intake → ℕ → ℕ → ℕ → List ℕ → List Check
 announceChecks s id size output w =
     check 30 (otherLengths s output (length w))
@@ -58,10 +60,10 @@ announceChecks s id size output w =
     ∷ check 13 (noRoom s id size)
     ∷ []
 
--- "26 a part longer than what is still owed"
+-- "26 a part longer than what is still owed" (RULES N4)
 unfoldable pub partChecks : Intake → ℕ → ℕ → List ℕ → List Check
 partChecks s n output w = check 30 (otherLengths s output (length w)) ∷ check 25 (unusable s w) ∷ check 26 (ltb (s .owed) n) ∷ []
 
--- "or an announcement or close while bytes are owed"
+-- "or an announcement or close while bytes are owed" (RULES N5)
 unfoldable pub closeChecks : Intake → ℕ → List ℕ → List Check
 closeChecks s output w = check 30 (otherLengths s output (length w)) ∷ check 25 (unusable s w) ∷ check 26 (ltb 0 (s .owed)) ∷ []

@@ -1,4 +1,4 @@
--- The state of an intake in plain numbers, and tests that every state passes that calls left (02, order 11). Places count from the end of the shard
+-- The state of an intake in plain numbers, and tests that every state passes that calls left (RULES N1, N8). Places count from the end of the shard
 -- index.
 use Prim.Native.Nat.{ℕ, _+_, _*_, _-_, _≤_, _<_, min}
 use mathlib.Core.Path.{_≡_}
@@ -60,7 +60,7 @@ going s w = placed s && (begun s && waits s w)
 
 -- the numbers of the state contradict neither each other, nor the lengths, nor the last pair that waits: every state that calls left passes. Not
 -- compared are the pairs before the last one, what stands in the output, and whether the open minishard has as many ids as chunks, or one before it
--- any id
+-- any id (RULES N8)
 unfoldable pub sane : Intake → List ℕ → Bool
 sane s w =
     not (notVolume (s .spec))

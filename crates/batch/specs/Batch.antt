@@ -13,7 +13,7 @@ use Rattle.grid.specs.declared.Cell.{Cell}
 use Rattle.grid.specs.Grid.{gridOf, zeroExtent, inGrid}
 use Rattle.grid.specs.Key.{tooManyBits, keyOf}
 
--- the cells of lent numbers, x, y and z of each in turn; one or two numbers left over are no cell
+-- the cells of lent numbers, x, y and z of each in turn; one or two numbers left over are no cell (RULES G9)
 unfoldable pub cellsOf : List ℕ → List Cell
 cellsOf (x ∷ y ∷ z ∷ rest) = record { x = x; y = y; z = z } ∷ cellsOf rest
 cellsOf (x ∷ y ∷ []) = []
@@ -39,7 +39,7 @@ keysChecks v cells keys =
     ∷ room (keysOf v cells) keys
     ∷ []
 
--- how many keys there are
+-- how many keys there are (RULES G9)
 unfoldable pub keysAnswer : Volume → List Cell → List ℕ → Written
 keysAnswer v cells keys = answered Refused (keysChecks v cells keys) (Length (length (keysOf v cells)))
 

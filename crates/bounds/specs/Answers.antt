@@ -1,4 +1,4 @@
--- What `bounds_of` answers: its check (01, "Refusal numbers"), or else where the cell lies.
+-- What `bounds_of` answers: its check (RULES G2), or else where the cell lies.
 use mathlib.Core.List.{List, [], _∷_}
 use Rattle.refusal.specs.Checks.{Check, check, answered}
 use Rattle.grid.specs.declared.Volume.{Volume}

@@ -1,4 +1,4 @@
--- Where a cell begins and ends, signed and exact (01, "Cells and keys").
+-- Where a cell begins and ends, signed and exact (RULES G3).
 use Prim.Native.Nat.{ℕ, _+_, _*_, _<_, min}
 use lib.IntN.{ℤ, pos, _+ℤ_}
 use Rattle.grid.specs.declared.Cell.{Cell}
@@ -6,11 +6,11 @@ use Rattle.grid.specs.declared.Volume.{Volume}
 use Rattle.bounds.specs.declared.Point.{Point}
 use Rattle.bounds.specs.declared.Bounds.{Bounds}
 
--- "A cell begins at offset + g × chunk"
+-- "A cell begins at offset + g × chunk" (RULES G3)
 unfoldable pub beginOf : ℤ → ℕ → ℕ → ℤ
 beginOf offset chunk g = offset +ℤ pos (g * chunk)
 
--- "and ends at offset + min((g+1) × chunk, size), per axis"
+-- "and ends at offset + min((g+1) × chunk, size), per axis" (RULES G3)
 unfoldable pub endOf : ℤ → ℕ → ℕ → ℕ → ℤ
 endOf offset size chunk g = offset +ℤ pos (min ((g + 1) * chunk) size)
 

@@ -16,7 +16,7 @@ use Rattle.card.specs.declared.CardAnswer.the-variants.{Says, Refused}
 use Rattle.card.specs.Layout.{cardBytes}
 use Rattle.card.specs.Reading.{wellFormed, cardIn}
 
--- 1, 2 and 3 of what a card says (01, 'Refusal numbers')
+-- 1, 2 and 3 of what a card says (RULES C4)
 unfoldable pub recordChecks : Card → List Check
 recordChecks c =
     check 1 (not (allowed (c .sharding)))
@@ -28,14 +28,14 @@ recordChecks c =
 abbrev pub fault : Card → ℕ
 fault c = firstNumber (recordChecks c)
 
--- "In a card, 14 precedes 1 and 2, and 3 comes after them."
+-- "In a card, 14 precedes 1 and 2, and 3 comes after them." (RULES C4)
 unfoldable pub readChecks : List ℕ → List Check
 readChecks s = check 14 (not (wellFormed s)) ∷ recordChecks (cardIn s)
 
 unfoldable pub readAnswer : List ℕ → CardAnswer
 readAnswer s = answered Refused (readChecks s) (Says (cardIn s))
 
--- writing: 1, 2, 3, then 13
+-- writing: 1, 2, 3, then 13 (RULES C4)
 unfoldable pub writeChecks : Card → List ℕ → List Check
 writeChecks c out = recordChecks c ++ (room (cardBytes c) out ∷ [])
 

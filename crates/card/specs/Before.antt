@@ -1,5 +1,5 @@
 -- The readers of cards as they were before order 7 and before order 4, in the old reading rooms, and the bytes of a card as they were.
--- No code uses them. They are kept to say what these readers answer to the cards that are written now (02, orders 4 and 7).
+-- No code uses them. They are kept to say what these readers answer to the cards that are written now (RULES C6).
 use Prim.Native.Nat.{ℕ, _<_, _≤_}
 use mathlib.Core.Path.{_≡_}
 use mathlib.Core.Bool.{Bool, true, false, not, _&&_}
@@ -47,6 +47,7 @@ cardInBeforeMesh s =
 unfoldable pub readChecksBeforeMesh : List ℕ → List Check
 readChecksBeforeMesh s = check 14 (not (wellFormedBeforeMesh s)) ∷ recordChecks (cardInBeforeMesh s)
 
+-- RULES C6
 unfoldable pub readAnswerBeforeMesh : List ℕ → CardAnswer
 readAnswerBeforeMesh s = answered Refused (readChecksBeforeMesh s) (Says (cardInBeforeMesh s))
 
@@ -67,6 +68,7 @@ recordChecksBefore c =
 unfoldable pub readChecksBefore : List ℕ → List Check
 readChecksBefore s = check 14 (not (wellFormedBeforeMesh s)) ∷ recordChecksBefore (cardInBeforeMesh s)
 
+-- RULES C6
 unfoldable pub readAnswerBefore : List ℕ → CardAnswer
 readAnswerBefore s = answered Refused (readChecksBefore s) (Says (cardInBeforeMesh s))
 

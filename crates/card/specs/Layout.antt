@@ -1,4 +1,4 @@
--- The bytes of a deposit card (01, 'Deposit card').
+-- The bytes of a deposit card (RULES C1).
 use Prim.Native.Nat.{ℕ, suc, _-_, _^_, _<_}
 use mathlib.Core.Bool.{Bool, false, _&&_}
 use mathlib.Core.List.{List, [], _∷_, _++_}
@@ -65,11 +65,11 @@ offsetBytes o = pick (noOffset o) [] (offsetTag o)
 unfoldable pub volumeBytes : Volume → List ℕ
 volumeBytes v = extentsBytes 5 (v .size) ++ (extentsBytes 6 (v .chunk) ++ offsetBytes (v .offset))
 
--- "card tag 8, one byte of 1, means mesh and is absent for volume" (02, order 7)
+-- "card tag 8, one byte of 1, means mesh and is absent for volume" (RULES C1)
 unfoldable pub kindBytes : Sharding → List ℕ
 kindBytes s = pick (isMesh s) (oneByte 8 mesh) []
 
--- "tags rising, each once"
+-- "tags rising, each once" (RULES C1)
 unfoldable pub cardBytes : Card → List ℕ
 cardBytes c = shardingBytes (c .sharding) ++ (volumeBytes (c .volume) ++ kindBytes (c .sharding))
 

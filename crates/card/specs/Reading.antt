@@ -1,4 +1,4 @@
--- Reading a deposit card: which bytes are one, and what they say (01, 'Deposit card').
+-- Reading a deposit card: which bytes are one, and what they say (RULES C2, C3).
 use Prim.Native.Nat.{ℕ, suc, _+_, _-_, _^_}
 use mathlib.Core.Bool.{Bool, false, not, _&&_, _||_}
 use mathlib.Core.List.{List}
@@ -38,11 +38,11 @@ offsetAt s p = record { x = signed32 (leAt 4 s p); y = signed32 (leAt 4 s (p + 4
 unfoldable pub offsetField : List ℕ → Bool
 offsetField s = fieldAt 7 12 s 46 && not (noOffset (offsetAt s 49))
 
--- "card tag 8, one byte of 1, means mesh" (02, order 7): the last field, so its place is the end of the others
+-- "card tag 8, one byte of 1, means mesh" (RULES C1, C2): the last field, so its place is the end of the others
 unfoldable pub kindField : List ℕ → ℕ → Bool
 kindField s p = fieldAt 8 1 s p && eqb (getD s (p + 3) 0) mesh
 
--- "A card has 46 or 61 bytes", without an offset or with one, and "a mesh card has 50 or 65 bytes"; "all else is refused"
+-- "A card has 46 or 61 bytes", without an offset or with one, and "a mesh card has 50 or 65 bytes"; "all else is refused" (RULES C2)
 unfoldable pub wellFormed : List ℕ → Bool
 wellFormed s =
     pick (eqb (length s) 46) (sixFields s)
@@ -69,6 +69,6 @@ offsetIn s = pick (eqb (length s) 46 || eqb (length s) 50) zeros (offsetAt s 49)
 unfoldable pub volumeIn : List ℕ → Volume
 volumeIn s = record { size = extentsAt s 19; chunk = extentsAt s 34; offset = offsetIn s }
 
--- what a card says
+-- what a card says (RULES C3)
 unfoldable pub cardIn : List ℕ → Card
 cardIn s = record { sharding = shardingIn s; volume = volumeIn s }

@@ -2,13 +2,11 @@
 // of a mesh in 50 or 65.
 pub mod inner;
 mod reading;
-mod twos;
-mod writing;
+pub mod twos;
 
 ghost use mathlib.Core.Path.{_≡_};
-ghost use Rattle.card.specs.Answers.{readAnswer, writeAnswer, writeLeft};
+ghost use Rattle.card.specs.Answers.{readAnswer};
 use grid::Volume;
-use refusal::Written;
 use sharding::Sharding;
 
 #[repr(C)]
@@ -35,16 +33,4 @@ pub fn read_card(bytes: &[u8]) -> CardAnswer
         return CardAnswer::Refused(number);
     }
     CardAnswer::Says(card)
-}
-
-// The card's bytes at the front of the buffer: refused with 1, 2, 3 or 13.
-pub fn write_card(card: Card, out: &mut [u8]) -> Written
-    ensures answer { λ r. ⌜ r ≡ writeAnswer card (now (out .entry)) ⌝ }
-    ensures out { λ _. ⌜ now (out .exit) ≡ writeLeft card (now (out .entry)) ⌝ }
-{
-    let number = inner::judge(card);
-    if number != 0 {
-        return Written::Refused(number);
-    }
-    writing::write(card, out)
 }

@@ -1,4 +1,4 @@
--- The corners of a node (01, "Manifest"): "origin + (position × shape) × 2^level, its far corner near + shape × 2^level, in f32,
+-- The corners of a node (RULES M8): "origin + (position × shape) × 2^level, its far corner near + shape × 2^level, in f32,
 -- each operation rounded once in that order, judged by bits".
 use Prim.Native.Nat.{ℕ, _^_}
 use mathlib.Core.Bool.{Bool, false, not, _&&_}
@@ -25,11 +25,11 @@ finite x = finiteBits (toBits binary32 x)
 abbrev pub powerOf : ℕ → Float
 powerOf l = fin false 1 (pos l)
 
--- on one axis: of origin o and shape e, at position p (below 2^24, so that an f32 holds it exactly) and level l
+-- on one axis: of origin o and shape e, at position p (below 2^24, so that an f32 holds it exactly) and level l (RULES M8)
 unfoldable pub nearOf : Float → Float → ℕ → ℕ → Float
 nearOf o e p l = add binary32 o (mul binary32 (mul binary32 (ofInt binary32 (pos p)) e) (powerOf l))
 
--- on one axis: from the near end n
+-- on one axis: from the near end n (RULES M8)
 unfoldable pub farOf : Float → Float → ℕ → Float
 farOf n e l = add binary32 n (mul binary32 e (powerOf l))
 
@@ -60,7 +60,7 @@ placed n = ltb (n .x) (2 ^ 24) && (ltb (n .y) (2 ^ 24) && ltb (n .z) (2 ^ 24))
 unfoldable pub finiteCorner : Corner → Bool
 finiteCorner c = finite (c .x) && (finite (c .y) && finite (c .z))
 
--- 18: "that node has a position of 2^24 or more or either corner is not finite"
+-- 18: "that node has a position of 2^24 or more or either corner is not finite" (RULES M8)
 unfoldable pub boxChecks : Header → ℕ → Node → List Check
 boxChecks h l n =
     check 18 (not (placed n))

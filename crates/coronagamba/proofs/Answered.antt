@@ -13,7 +13,7 @@ use Rattle.unlisted.specs.declared.UnlistedAnswer.{UnlistedAnswer}
 use Rattle.unlisted.specs.declared.UnlistedAnswer.the-variants as U
 use Rattle.settle.specs.declared.SettleAnswer.{SettleAnswer}
 use Rattle.settle.specs.declared.SettleAnswer.the-variants as S
-use Rattle.coronagamba.specs.Word.{word}
+use Rattle.word.specs.Word.{word}
 use Rattle.coronagamba.specs.Shards.{checkWord, lookupWord, startAfter, sizeAfter, countWord, countAfter, settleWord, formAfter, unlistedWord, unlistedAfter}
 use Rattle.coronagamba.proofs.Told.{told, after}
 

@@ -12,8 +12,8 @@ use Rattle.segmentation.specs.declared.Shape.{Shape}
 use Rattle.segmentation.specs.declared.LabelAnswer.{LabelAnswer}
 use Rattle.segmentation.specs.declared.LabelAnswer.the-variants.{Label, Refused as Unlabelled}
 use Rattle.segmentation.specs.Labels.{labelAnswer}
-use Rattle.unpack.specs.Raw.{lengthAnswer, unpackAnswer, unpackLeft}
-use Rattle.coronagamba.specs.Word.{writtenWord, lengthAfter}
+use Rattle.rawform.specs.Raw.{lengthAnswer, unpackAnswer, unpackLeft}
+use Rattle.word.specs.Word.{writtenWord, lengthAfter}
 use Rattle.coronagamba.specs.Labels.{noWidth, widthChecks, labelBy, writtenBy, leftBy, labelWord, labelAfter}
 use Rattle.coronagamba.proofs.Told.{told, after}
 

@@ -4,7 +4,6 @@ pub mod Patterned
 pub mod Told
 pub mod Writing
 pub mod Answered
-pub mod Word
 pub mod Intaken
 pub mod Sheeted
 pub mod Labelled

@@ -19,7 +19,7 @@ use Rattle.holdings.specs.declared.SheetAnswer.{SheetAnswer}
 use Rattle.holdings.specs.declared.SheetAnswer.the-variants.{Total, Refused}
 use Rattle.holdings.specs.Sheet.{rows}
 use Rattle.holdings.specs.Answers.{joinAnswer, addAnswer, pairAddAnswer}
-use Rattle.coronagamba.specs.Word.{word}
+use Rattle.word.specs.Word.{word}
 use Rattle.coronagamba.specs.Sheets.{measureWord, countsOf, countsAfter, sheetOf, sheetWord, rowsAfter}
 use Rattle.coronagamba.proofs.Told.{told, after}
 use Rattle.coronagamba.proofs.Checked.{minishard-fits, check-fits}

@@ -11,11 +11,11 @@ use Rattle.segmentation.specs.declared.Shape.{Shape}
 use Rattle.segmentation.specs.declared.LabelAnswer.{LabelAnswer}
 use Rattle.segmentation.specs.declared.LabelAnswer.the-variants.{Label, Refused}
 
--- "32- or 64-bit labels" (02, order 14): no other number is a label width
+-- "32- or 64-bit labels" (RULES E1): no other number is a label width
 abbrev pub noWidth : ℕ → Bool
 noWidth bits = not (eqb bits 32) && not (eqb bits 64)
 
--- asked with such a number, each call refuses with 2 before all else, which is beyond 02's table; otherwise it answers as the library does
+-- asked with such a number, each call refuses with 2 before all else, RULES E1; otherwise it answers as the library does
 abbrev pub widthChecks : ℕ → List Check
 widthChecks bits = check 2 (noWidth bits) ∷ []
 

@@ -1,5 +1,4 @@
 pub mod Version
-pub mod Word
 pub mod Places
 pub mod Cells
 pub mod Shards

@@ -13,7 +13,7 @@ use Rattle.unlisted.specs.declared.UnlistedAnswer.{UnlistedAnswer}
 use Rattle.unlisted.specs.declared.UnlistedAnswer.the-variants.{Count as Unlisted, Refused as NotCounted, Faulty as FaultUnlisted}
 use Rattle.settle.specs.declared.SettleAnswer.{SettleAnswer}
 use Rattle.settle.specs.declared.SettleAnswer.the-variants.{Length, Refused as NotSettled, Faulty as FaultSettled}
-use Rattle.coronagamba.specs.Word.{word}
+use Rattle.word.specs.Word.{word}
 
 -- the check names the faulty minishard and the position; the other calls give the position alone
 abbrev pub checkWord : CheckAnswer → ℕ
@@ -56,7 +56,7 @@ formAfter (Length n) before = n
 formAfter (NotSettled k) before = before
 formAfter (FaultSettled k p) before = before
 
--- the wish of the caller of settling: 1 asks to drop unlisted bytes, and no other number does (02, order 8)
+-- the wish of the caller of settling: 1 asks to drop unlisted bytes, and no other number does (RULES U5)
 abbrev pub asksToDrop : ℕ → Bool
 asksToDrop wish = eqb wish 1
 

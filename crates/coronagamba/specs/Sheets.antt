@@ -10,7 +10,7 @@ use Rattle.holdings.specs.declared.Sheet.{Sheet}
 use Rattle.holdings.specs.declared.SheetAnswer.{SheetAnswer}
 use Rattle.holdings.specs.declared.SheetAnswer.the-variants.{Total, Refused as SheetRefused}
 use Rattle.holdings.specs.Sheet.{rows}
-use Rattle.coronagamba.specs.Word.{word}
+use Rattle.word.specs.Word.{word}
 
 -- ---- the measure of a shard
 

@@ -1,7 +1,7 @@
 // Deposit cards.
 ghost use mathlib.Core.Path.{_≡_};
 ghost use Rattle.card.specs.Answers.{readAnswer, writeAnswer, writeLeft};
-ghost use Rattle.coronagamba.specs.Word.{writtenWord, lengthAfter};
+ghost use Rattle.word.specs.Word.{writtenWord, lengthAfter};
 ghost use Rattle.coronagamba.specs.Cards.{cardWord, shardingAfter, volumeAfter, chunkAfter, offsetAfter};
 use card::Card;
 use card::CardAnswer;
@@ -54,7 +54,7 @@ pub extern "C" fn coronagamba_card_write(
     ensures out { λ _. ⌜ now (out .exit) ≡ writeLeft (record { sharding = sharding; volume = volume }) (now (out .entry)) ⌝ }
     ensures length { λ _. ⌜ now (length .exit) ≡ lengthAfter (writeAnswer (record { sharding = sharding; volume = volume }) (now (out .entry))) (now (length .entry)) ⌝ }
 {
-    match card::write_card(Card { sharding, volume }, out) {
+    match cardwriting::write_card(Card { sharding, volume }, out) {
         Written::Length(n) => {
             *length = n as u64;
             0

@@ -6,7 +6,7 @@ ghost use Rattle.bounds.specs.Answers.{boundsAnswer};
 ghost use Rattle.batch.specs.Batch.{cellsOf, keysAnswer, keysLeft};
 ghost use Rattle.spread.specs.Row.{rowOf};
 ghost use Rattle.cover.specs.Cover.{coverAnswer, coverLeft};
-ghost use Rattle.coronagamba.specs.Word.{writtenWord, lengthAfter};
+ghost use Rattle.word.specs.Word.{writtenWord, lengthAfter};
 ghost use Rattle.coronagamba.specs.Cells.{gridWord, gridAfter, keyWord, keyAfter, cellWord, cellAfter, boundsWord, beginAfter, endAfter};
 use bounds::BoundsAnswer;
 use bounds::Point;
@@ -65,7 +65,7 @@ pub extern "C" fn coronagamba_keys_of(
     ensures keys { λ _. ⌜ now (keys .exit) ≡ keysLeft volume (cellsOf (now (cells .entry))) (now (keys .entry)) ⌝ }
     ensures length { λ _. ⌜ now (length .exit) ≡ lengthAfter (keysAnswer volume (cellsOf (now (cells .entry))) (now (keys .entry))) (now (length .entry)) ⌝ }
 {
-    match spread::keys_of(volume, cells, keys) {
+    match scan::keys_of(volume, cells, keys) {
         Written::Length(n) => {
             *length = n as u64;
             0
@@ -93,7 +93,7 @@ pub extern "C" fn coronagamba_row_keys(
     ensures keys { λ _. ⌜ now (keys .exit) ≡ keysLeft volume (rowOf from to y z) (now (keys .entry)) ⌝ }
     ensures length { λ _. ⌜ now (length .exit) ≡ lengthAfter (keysAnswer volume (rowOf from to y z) (now (keys .entry))) (now (length .entry)) ⌝ }
 {
-    match spread::row::row_keys(volume, from, to, y, z, keys) {
+    match scan::row::row_keys(volume, from, to, y, z, keys) {
         Written::Length(n) => {
             *length = n as u64;
             0

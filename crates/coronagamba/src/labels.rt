@@ -1,8 +1,8 @@
 // Labels inside a chunk: the label of a voxel, a whole chunk unpacked.
 ghost use mathlib.Core.Path.{_≡_};
 ghost use Rattle.segmentation.specs.Labels.{labelAnswer};
-ghost use Rattle.unpack.specs.Raw.{lengthAnswer, unpackAnswer, unpackLeft};
-ghost use Rattle.coronagamba.specs.Word.{writtenWord, lengthAfter};
+ghost use Rattle.rawform.specs.Raw.{lengthAnswer, unpackAnswer, unpackLeft};
+ghost use Rattle.word.specs.Word.{writtenWord, lengthAfter};
 ghost use Rattle.coronagamba.specs.Labels.{noWidth, labelBy, writtenBy, leftBy, shapeOf, labelWord, labelAfter};
 use grid::Extents;
 use refusal::Written;

@@ -5,7 +5,7 @@ ghost use Rattle.manifest.specs.Verdict.{manifestAnswer};
 ghost use Rattle.manifest.specs.Fields.{headerAnswer, fieldAnswer};
 ghost use Rattle.nodes.specs.Nodes.{nodeAnswer, nodesAnswer, nodesLeft};
 ghost use Rattle.corners.specs.Boxes.{finiteCorner, cornersAnswer};
-ghost use Rattle.coronagamba.specs.Word.{writtenWord, lengthAfter};
+ghost use Rattle.word.specs.Word.{writtenWord, lengthAfter};
 ghost use Rattle.coronagamba.specs.Manifests.{manifestWord, headerWord, headerAfter, fieldWord, kindAfter, valueAfter, nodeWord, positionAfter, fragmentAfter, bytesAfter, cornersWord, cornerBits, nearAfter, farAfter};
 use corners::Corner;
 use corners::CornersAnswer;

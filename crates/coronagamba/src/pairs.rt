@@ -5,11 +5,9 @@ ghost use Rattle.pair.specs.Answers.{pairCheck, pairLookup, pairFragment};
 ghost use Rattle.pairform.specs.Answers.{pairCount, pairListing, pairListingLeft, pairUnlisted, pairLength, pairSettle, pairSettleLeft};
 ghost use Rattle.names.specs.Shards.{fileNameAnswer, fileNameLeft};
 ghost use Rattle.names.specs.declared.FileKind.the-variants.{Index, Data};
-ghost use Rattle.coronagamba.specs.Word.{writtenWord, lengthAfter};
+ghost use Rattle.word.specs.Word.{writtenWord, lengthAfter};
 ghost use Rattle.coronagamba.specs.Shards.{checkWord, lookupWord, startAfter, sizeAfter, countWord, countAfter, settleWord, formAfter, asksToDrop, unlistedWord, unlistedAfter};
 ghost use Rattle.coronagamba.specs.Pairs.{rangeWord, fileAfter, placeAfter, rangeAfter};
-use crate::shards::fault_word;
-use crate::shards::position_word;
 use listing::CountAnswer;
 use lookup::LookupAnswer;
 use refusal::Written;
@@ -18,6 +16,8 @@ use settle::SettleAnswer;
 use shard::CheckAnswer;
 use sharding::Sharding;
 use unlisted::UnlistedAnswer;
+use word::inner::fault_word;
+use word::inner::position_word;
 
 // coronagamba_check of a pair: whether it is sound, as one file. Writes nothing. The position is that
 // in the joined file.

@@ -2,7 +2,7 @@
 ghost use mathlib.Core.Path.{_≡_};
 ghost use Rattle.sharding.specs.Place.{placeAnswer};
 ghost use Rattle.sharding.specs.Batch.{placesAnswer, shardsLeft, minishardsLeft};
-ghost use Rattle.coronagamba.specs.Word.{writtenWord, lengthAfter};
+ghost use Rattle.word.specs.Word.{writtenWord, lengthAfter};
 ghost use Rattle.coronagamba.specs.Places.{placeWord, shardAfter, minishardAfter};
 use refusal::Written;
 use sharding::PlaceAnswer;

@@ -1,14 +1,11 @@
 // Shards: lookup, fragments, the check, listings, unlisted bytes, settling.
 ghost use mathlib.Core.Path.{_≡_};
-ghost use Prim.Native.Nat.{_+_, _<_};
-ghost use mathlib.Core.Option.{none, some};
 ghost use Rattle.shard.specs.File.{checkAnswer};
 ghost use Rattle.lookup.specs.Find.{lookupAnswer};
 ghost use Rattle.fragment.specs.Fragment.{fragmentAnswer};
 ghost use Rattle.listing.specs.Listing.{countAnswer, listingAnswer, listingLeft};
 ghost use Rattle.unlisted.specs.Answers.{unlistedAnswer};
 ghost use Rattle.settle.specs.Answers.{lengthAnswer, settleAnswer, settleLeft};
-ghost use Rattle.coronagamba.specs.Word.{word};
 ghost use Rattle.coronagamba.specs.Shards.{checkWord, lookupWord, startAfter, sizeAfter, countWord, countAfter, settleWord, formAfter, asksToDrop, unlistedWord, unlistedAfter};
 use listing::CountAnswer;
 use lookup::LookupAnswer;
@@ -16,22 +13,8 @@ use settle::SettleAnswer;
 use shard::CheckAnswer;
 use sharding::Sharding;
 use unlisted::UnlistedAnswer;
-
-// The word has 32 bits for the position and one.
-pub fn position_word(refusal: u8, position: u64) -> u64
-    requires { ⌜ position + 1 < 4294967296 ⌝ }
-    ensures { λ r. ⌜ r ≡ word refusal none (some position) ⌝ }
-{
-    refusal as u64 + 4294967296 * (position + 1)
-}
-
-// It has 24 bits for the minishard and one.
-pub fn fault_word(refusal: u8, minishard: u64, position: u64) -> u64
-    requires { ⌜ (minishard + 1 < 16777216) × (position + 1 < 4294967296) ⌝ }
-    ensures { λ r. ⌜ r ≡ word refusal (some minishard) (some position) ⌝ }
-{
-    refusal as u64 + 256 * (minishard + 1) + 4294967296 * (position + 1)
-}
+use word::inner::fault_word;
+use word::inner::position_word;
 
 // Where the chunk of an id lies in the shard's file; in a mesh the chunk is a manifest. Writes where
 // it begins, counted from the file's first byte, to `start`, and its number of bytes to `length`. Of
@@ -114,7 +97,7 @@ pub extern "C" fn coronagamba_fragment(
 pub extern "C" fn coronagamba_check(sharding: Sharding, shard: u64, file: &[u8]) -> u64
     ensures answer { λ r. ⌜ r ≡ checkWord (checkAnswer sharding shard (now (file .entry))) ⌝ }
 {
-    match shard::check::check(sharding, shard, file) {
+    match inspect::check(sharding, shard, file) {
         CheckAnswer::Sound => 0,
         CheckAnswer::Refused(refusal) => refusal as u64,
         CheckAnswer::Faulty {

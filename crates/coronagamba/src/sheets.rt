@@ -4,12 +4,12 @@ ghost use Rattle.measure.specs.Answers.{measureAnswer, pairMeasure};
 ghost use Rattle.holdings.specs.Answers.{joinAnswer, addAnswer, pairAddAnswer};
 ghost use Rattle.holdings.specs.Sheet.{rows};
 ghost use Rattle.coronagamba.specs.Sheets.{measureWord, countsOf, countsAfter, sheetOf, sheetWord, rowsAfter};
-use crate::shards::fault_word;
 use holdings::Sheet;
 use holdings::SheetAnswer;
 use measure::Counts;
 use measure::MeasureAnswer;
 use sharding::Sharding;
+use word::inner::fault_word;
 
 fn counts_of(counts: Counts) -> [u64; 4]
     ensures { λ r. ⌜ r ≡ countsOf counts ⌝ }

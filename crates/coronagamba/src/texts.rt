@@ -1,8 +1,8 @@
 // File names.
 ghost use mathlib.Core.Path.{_≡_};
-ghost use Rattle.names.specs.Chunks.{chunkNameAnswer, chunkNameLeft};
+ghost use Rattle.chunknames.specs.Chunks.{chunkNameAnswer, chunkNameLeft};
 ghost use Rattle.names.specs.Shards.{shardNameAnswer, shardNameLeft};
-ghost use Rattle.coronagamba.specs.Word.{writtenWord, lengthAfter};
+ghost use Rattle.word.specs.Word.{writtenWord, lengthAfter};
 use grid::Cell;
 use grid::Volume;
 use refusal::Written;
@@ -22,7 +22,7 @@ pub extern "C" fn coronagamba_chunk_name(
     ensures out { λ _. ⌜ now (out .exit) ≡ chunkNameLeft volume cell (now (out .entry)) ⌝ }
     ensures length { λ _. ⌜ now (length .exit) ≡ lengthAfter (chunkNameAnswer volume cell (now (out .entry))) (now (length .entry)) ⌝ }
 {
-    match names::chunk_name(volume, cell, out) {
+    match chunknames::chunk_name(volume, cell, out) {
         Written::Length(n) => {
             *length = n as u64;
             0

@@ -1,4 +1,4 @@
--- Which chunks cover a box (02, order 5): the keys of the grid's cells that share a voxel with it, and what `cover` answers and leaves.
+-- Which chunks cover a box (RULES B1 to B4): the keys of the grid's cells that share a voxel with it, and what `cover` answers and leaves.
 use Prim.Native.Nat.{ℕ, zero, suc, _^_}
 use mathlib.Core.Bool.{Bool, true, false, _&&_}
 use mathlib.Core.List.{List, [], _∷_}
@@ -29,7 +29,7 @@ smaller a b = pick (ltZ a b) a b
 unfoldable pub shares : ℤ → ℤ → ℤ → ℤ → Bool
 shares begin end lower upper = ltZ (larger begin lower) (smaller end upper)
 
--- "share a voxel with the box": along each axis; a cell ends where its volume does
+-- "share a voxel with the box": along each axis; a cell ends where its volume does (RULES B1)
 unfoldable pub meets : Volume → Point → Point → Cell → Bool
 meets v lower upper c =
     shares (beginPoint v c .x) (endPoint v c .x) (lower .x) (upper .x)
@@ -51,21 +51,21 @@ unfoldable pub passing : (ℕ → Bool) → ℕ → ℕ → List ℕ
 passing test k zero = []
 passing test k (suc n) = keep (test k) k (passing test (suc k) n)
 
--- "the keys of all grid cells that share a voxel with the box"
+-- "the keys of all grid cells that share a voxel with the box" (RULES B2)
 unfoldable pub coverKeys : Volume → Point → Point → List ℕ
 coverKeys v lower upper = passing (covers v lower upper) 0 (2 ^ keyBits (gridOf v))
 
 -- ---- the answer, and what the output then holds
 
--- "2 and 3 as before, whatever the box, then 13 if the keys, one u64 each, do not fit"
+-- "2 and 3 as before, whatever the box, then 13 if the keys, one u64 each, do not fit" (RULES B3)
 unfoldable pub coverChecks : Volume → Point → Point → List ℕ → List Check
 coverChecks v lower upper out =
     check 2 (zeroExtent v) ∷ check 3 (tooManyBits (gridOf v)) ∷ room (coverKeys v lower upper) out ∷ []
 
--- "The count returned is the number of keys."
+-- "The count returned is the number of keys." (RULES B2)
 unfoldable pub coverAnswer : Volume → Point → Point → List ℕ → Written
 coverAnswer v lower upper out = answered Refused (coverChecks v lower upper out) (Length (length (coverKeys v lower upper)))
 
--- the keys and, past them, what was there; "the output is untouched in each" refusal
+-- the keys and, past them, what was there; "the output is untouched in each" refusal (RULES B2)
 unfoldable pub coverLeft : Volume → Point → Point → List ℕ → List ℕ
 coverLeft v lower upper out = left (coverChecks v lower upper out) (over (coverKeys v lower upper) out) out

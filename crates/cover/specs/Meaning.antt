@@ -21,7 +21,7 @@ pub record Between (begin end voxel : Point) : Type 0 where
   pub y : From (begin .y) (end .y) (voxel .y)
   pub z : From (begin .z) (end .z) (voxel .z)
 
--- "share a voxel": one lies in the cell and in the box
+-- "share a voxel": one lies in the cell and in the box (RULES B1)
 pub record SharesVoxel (v : Volume) (lower upper : Point) (c : Cell) : Type 0 where
   pub voxel : Point
   pub inside : Between (beginPoint v c) (endPoint v c) voxel
@@ -32,7 +32,7 @@ abbrev pub RisingFrom : ℕ → List ℕ → Type 0
 RisingFrom k [] = Unit {0}
 RisingFrom k (n ∷ ns) = (k ≤ n) × RisingFrom (suc n) ns
 
--- "an empty or reversed one", along some axis
+-- "an empty or reversed one", along some axis (RULES B4)
 unfoldable pub reversed : Point → Point → Bool
 reversed lower upper = leZ (upper .x) (lower .x) || (leZ (upper .y) (lower .y) || leZ (upper .z) (lower .z))
 
@@ -40,7 +40,7 @@ reversed lower upper = leZ (upper .x) (lower .x) || (leZ (upper .y) (lower .y) |
 unfoldable pub apart : ℤ → ℕ → ℤ → ℤ → Bool
 apart offset size lower upper = leZ upper offset || leZ (offset +ℤ pos size) lower
 
--- "or one outside the volume"
+-- "or one outside the volume" (RULES B4)
 unfoldable pub outside : Volume → Point → Point → Bool
 outside v lower upper =
     apart (v .offset .x) (v .size .x) (lower .x) (upper .x)

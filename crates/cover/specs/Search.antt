@@ -81,7 +81,7 @@ between axis low high k = leb (bitAnd low axis) (bitAnd k axis) && leb (bitAnd k
 unfoldable pub inBox : ℕ → ℕ → ℕ → ℕ → ℕ → ℕ → Bool
 inBox x y z low high k = between x low high k && (between y low high k && between z low high k)
 
--- the keys of the box: no other lies outside the first and the last
+-- the keys of the box: no other lies outside the first and the last (RULES B5)
 unfoldable pub boxKeys : ℕ → ℕ → ℕ → ℕ → ℕ → List ℕ
 boxKeys x y z low high = passing (inBox x y z low high) low (suc high - low)
 
@@ -99,7 +99,7 @@ pub record SplitAt (low high n : ℕ) : Type 0 where
   pub even : low / 2 ^ n % 2 ≡ 0
   pub next : high / 2 ^ n ≡ suc (low / 2 ^ n)
 
--- how many bits are left: those up to that one
+-- how many bits are left: those up to that one (RULES B5)
 unfoldable pub bitsLeft : ℕ → ℕ → ℕ
 bitsLeft low high = 64 - leadingZeros 64 (bitXor low high)
 

@@ -1,4 +1,4 @@
--- What is delivered to an intake, and its settled form (02, order 11). Nothing here speaks of states or of what an intake writes.
+-- What is delivered to an intake, and its settled form (RULES N6). Nothing here speaks of states or of what an intake writes.
 use Prim.Native.Nat.{ℕ, zero, suc, _<_, _≤_}
 use mathlib.Core.Path.{_≡_}
 use mathlib.Core.List.{List, [], _∷_, _++_}
@@ -47,7 +47,7 @@ gatheredFrom spec xs m (suc k) = byId (inMinishard spec m xs) ∷ gatheredFrom s
 unfoldable pub gathered : Sharding → List Item → List (List Item)
 gathered spec xs = gatheredFrom spec xs 0 (minishardCount spec)
 
--- "the settled form of what was delivered"
+-- "the settled form of what was delivered" (RULES N6)
 abbrev pub deliveredForm : Sharding → List Delivery → List ℕ
 deliveredForm spec xs = settled (gathered spec (asItems xs))
 

@@ -1,4 +1,4 @@
--- What an intake makes of what is delivered to it (02, order 11).
+-- What an intake makes of what is delivered to it (RULES N6, N7).
 pub mod Delivered
 pub mod Runs
 pub mod Says

@@ -1,5 +1,5 @@
 -- Runs of calls that deliver chunks to an intake, where "each call gets the last call's state and both buffers as it left them" and none is refused
--- (02, order 11).
+-- (RULES N6).
 use Prim.Native.Nat.{ℕ, _^_, _<_}
 use mathlib.Core.Path.{_≡_}
 use mathlib.Core.List.{List, [], _∷_}
@@ -57,7 +57,7 @@ pub data Delivers : Desk → List Delivery → Desk → Type 0 where
       → Delivers d (x ∷ xs) f
 
 -- a shard that was opened, parts before the first chunk, of which only empty ones are not refused, and then the chunks xs, each announced and its parts
--- handed over
+-- handed over (RULES N6)
 pub record Takes (spec : Sharding) (shard : ℕ) (out waiting : List ℕ) (xs : List Delivery) (d : Desk) : Type 0 where
   pub state : Intake
   pub opens : openAnswer spec shard out waiting ≡ Next state
@@ -66,7 +66,7 @@ pub record Takes (spec : Sharding) (shard : ℕ) (out waiting : List ℕ) (xs : 
   pub idles : HandsOver (afterOpen spec shard out waiting state) idle first
   pub delivers : Delivers first xs d
 
--- what a closed shard is, the first bytes of the output, as many as the close reports
+-- what a closed shard is, the first bytes of the output, as many as the close reports (RULES N6)
 pub record ClosedShard (spec : Sharding) (shard : ℕ) (xs : List Delivery) (file : List ℕ) : Type 0 where
   -- it passes the check,
   pub sound : SoundShard spec shard file

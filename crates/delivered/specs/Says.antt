@@ -1,4 +1,4 @@
--- The refusals of the calls of an intake, said of what was delivered alone (02, order 11).
+-- The refusals of the calls of an intake, said of what was delivered alone (RULES N7).
 use Prim.Native.Nat.{ℕ, _+_, _*_, _-_}
 use mathlib.Core.Bool.{Bool, false, not, _&&_, _||_}
 use mathlib.Core.List.{List, [], _∷_, _++_}
@@ -36,10 +36,11 @@ noPairLeft spec xs x waiting = ltb waiting (16 * length (inMinishard spec (minis
 
 -- ---- the calls, where nothing but the order of calls and the sizes can be wrong
 
+-- RULES N7
 unfoldable pub openSays : Sharding → ℕ → ℕ → List Check
 openSays spec shard output = check 1 (notVolume spec) ∷ check 5 (noSuchShard spec shard) ∷ check 13 (tooLong spec [] output) ∷ []
 
--- an announcement of the chunk x after xs
+-- an announcement of the chunk x after xs (RULES N7)
 unfoldable pub announceSays : Sharding → ℕ → ℕ → ℕ → List Delivery → Item → List Check
 announceSays spec shard output waiting xs x =
     check 10 (not (eqb (shardOf spec (x .id)) shard))
@@ -48,9 +49,10 @@ announceSays spec shard output waiting xs x =
     ∷ check 13 (tooLong spec (asItems xs ++ (x ∷ [])) output || noPairLeft spec (asItems xs) x waiting)
     ∷ []
 
--- a part of n bytes
+-- a part of n bytes (RULES N7)
 unfoldable pub partSays : List Delivery → ℕ → List Check
 partSays xs n = check 26 (ltb (owing xs) n) ∷ []
 
+-- RULES N7
 unfoldable pub closeSays : List Delivery → List Check
 closeSays xs = check 26 (ltb 0 (owing xs)) ∷ []

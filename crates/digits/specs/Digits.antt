@@ -24,7 +24,7 @@ unfoldable pub digitCount : ℕ → ℕ → ℕ
 digitCount b zero = 1
 digitCount b (suc n) = countTo b (suc n) (suc n)
 
--- "in base 10" (01, 'Cells and keys')
+-- "in base 10" (RULES G8)
 unfoldable pub decimal : ℕ → List ℕ
 decimal n = digits 10 (digitCount 10 n) n
 

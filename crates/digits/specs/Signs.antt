@@ -1,4 +1,4 @@
--- Signed numbers as text (01, 'Cells and keys').
+-- Signed numbers as text (RULES G8).
 use Prim.Native.Nat.{ℕ}
 use mathlib.Core.Bool.{Bool, true, false}
 use mathlib.Core.List.{List, _∷_}

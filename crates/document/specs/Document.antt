@@ -55,6 +55,7 @@ pub data Times (D : Type 0) : Type 0 where
   once : D → Times D
   twice : Times D
 
+-- RULES I5
 unfoldable pub times : {D : Type 0} → List D → Times D
 times [] = never
 times (x ∷ []) = once x
@@ -64,7 +65,7 @@ unfoldable pub valuesNamed : {D : Type 0} → List ℕ → List (Entry D) → Li
 valuesNamed name [] = []
 valuesNamed name (e ∷ l) = pick (eqList (e .name) name) (e .value ∷ valuesNamed name l) (valuesNamed name l)
 
--- the member with this name
+-- the member with this name (RULES I4)
 unfoldable pub memberOf : {D : Type 0} → List ℕ → DocumentOf D → Times D
 memberOf name word = never
 memberOf name (number m n) = never

@@ -21,6 +21,7 @@ use Rattle.document.specs.Document.{document}
 use Rattle.document.specs.Said.{settingsIn, saidAnswer}
 use Rattle.info.specs.Answers.{infoChecks, infoAnswer}
 
+-- RULES I1, I9
 pub record InfoMeaning : Type 0 where
   -- 19 exactly for a text that is no JSON value of depth at most 32 in UTF-8, by the rules of RFC 8259
   pub notJson : (s : List ℕ) (k : ℕ) → (infoAnswer s k ≡ Refused 19) ↔ (JsonText deepest s → ⊥)
@@ -34,7 +35,7 @@ pub record InfoMeaning : Type 0 where
   pub unsaid : (s : List ℕ) (k : ℕ) → JsonText deepest s → (infoAnswer s k ≡ Refused 20) ↔ (settingsIn k (document s) ≡ Wrong)
   -- and a record exactly where it says that record, and 1, 2 and 3 do not hold of it: its fields are the numbers that stand in the members named
   pub given : (s : List ℕ) (k : ℕ) (c : Card) → (infoAnswer s k ≡ Says c) ↔ (JsonText deepest s × (settingsIn k (document s) ≡ Are c) × (firstNumber (recordChecks c) ≡ 0))
-  -- of a volume (02, order 7)
+  -- of a volume (RULES I9)
   pub kind : (s : List ℕ) (k : ℕ) (c : Card) → infoAnswer s k ≡ Says c → c .sharding .kind ≡ volume
   -- two JSON texts that say the same document, however it is written, are answered alike
   pub alike : (a b : List ℕ) (k : ℕ) → JsonText deepest a → JsonText deepest b → document a ≡ document b → infoAnswer a k ≡ infoAnswer b k

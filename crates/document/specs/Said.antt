@@ -31,7 +31,7 @@ use Rattle.document.specs.Document.{DocumentOf, Document, Times, times, 
 use Rattle.document.specs.Document.DocumentOf.{word, number, string, array, object}
 use Rattle.document.specs.Document.Times.{never, once, twice}
 
--- a number of 0 or more; with a minus, 0 only
+-- a number of 0 or more; with a minus, 0 only (RULES I6)
 unfoldable pub naturalOf : {D : Type 0} → DocumentOf D → Number
 naturalOf word = Wrong
 naturalOf (number m n) = pick m (whenIs n Wrong (λ k. pick (eqb k 0) (Is 0) Wrong)) n
@@ -39,7 +39,7 @@ naturalOf (string t) = Wrong
 naturalOf (array l) = Wrong
 naturalOf (object l) = Wrong
 
--- a signed number of 32 bits
+-- a signed number of 32 bits (RULES I6)
 unfoldable pub coordinateOf : {D : Type 0} → DocumentOf D → Number
 coordinateOf word = Wrong
 coordinateOf (number m n) = pick m (belowOf n) (aboveOf n)
@@ -71,17 +71,17 @@ volumeOf scale =
     whenExtents (sizeOf scale) NoVolume (λ a. whenExtents (chunkOf scale) NoVolume (λ b. whenOffset (offsetGiven (memberOf offsetName scale)) NoVolume
     (λ o. VolumeIs (record { size = a; chunk = b; offset = o }))))
 
--- "its @type as 002 says"
+-- "its @type as 002 says" (RULES I7)
 unfoldable pub typeSaid : {D : Type 0} → DocumentOf (DocumentOf D) → Bool
 typeSaid g = whenOnce (memberOf typeName g) false (saysText typeText)
 
--- "an index or data encoding other than raw" is refused; "If not specified, equivalent to "raw"."
+-- "an index or data encoding other than raw" is refused; "If not specified, equivalent to "raw"." (RULES I7)
 unfoldable pub rawGiven : {D : Type 0} → Times (DocumentOf D) → Bool
 rawGiven never = true
 rawGiven (once v) = saysText rawText v
 rawGiven twice = false
 
--- the number of a hash, by its name: 2, which no specification may have, "answers an unknown hash name" with 1
+-- the number of a hash, by its name: 2, which no specification may have, "answers an unknown hash name" with 1 (RULES I7)
 unfoldable pub hashOf : {D : Type 0} → DocumentOf D → Number
 hashOf word = Wrong
 hashOf (number m n) = Wrong
@@ -103,7 +103,7 @@ settingsOn scale =
     whenSharding (whenOnce (memberOf shardingName scale) NoSharding shardingOn) NoSettings
     (λ a. whenVolume (volumeOf scale) NoSettings (λ v. SettingsAre (record { sharding = a; volume = v })))
 
--- of scale k, from 0, of the outermost value's scales
+-- of scale k, from 0, of the outermost value's scales (RULES I5)
 unfoldable pub settingsIn : {D : Type 0} → ℕ → DocumentOf (DocumentOf (DocumentOf (DocumentOf (DocumentOf (DocumentOf D))))) → Settings
 settingsIn k doc = whenOnce (memberOf scalesName doc) NoSettings (λ v. whenNth k (elementsOf v) NoSettings settingsOn)
 

@@ -1,5 +1,5 @@
 -- The settled form as it was before order 7: a function of pairs of an id and its chunk's bytes, with nothing before a chunk. Of what is listed before
--- order 2, by exact sums, and now. No code uses it. It is kept to say that volumes settle to the same bytes (02, orders 2 and 7).
+-- order 2, by exact sums, and now. No code uses it. It is kept to say that volumes settle to the same bytes (RULES F16, U8).
 use Prim.Native.Nat.{ℕ, zero, suc, _+_, _*_, _-_}
 use mathlib.Core.List.{List, [], _∷_, _++_}
 use lib.ListN.{length, take, drop}
@@ -89,6 +89,7 @@ pairsOf pair index d m (suc k) =
 unfoldable pub pairBefore : List ℕ → ℕ → ℕ → ℕ → Pair
 pairBefore d s n i = record { id = exactId (idSteps d s) i; bytes = take (sizes d s n i) (drop (exactStart (startSteps d s n) (sizes d s n) i) d) }
 
+-- RULES U8
 unfoldable pub fileFormBefore : Sharding → List ℕ → List ℕ
 fileFormBefore spec file = settledBefore (pairsOf pairBefore (indexPart spec file) (dataPart spec file) 0 (minishardCount spec))
 
@@ -97,5 +98,6 @@ fileFormBefore spec file = settledBefore (pairsOf pairBefore (indexPart spec fil
 unfoldable pub pairBeforeMesh : List ℕ → ℕ → ℕ → ℕ → Pair
 pairBeforeMesh d s n i = record { id = idAt (idSteps d s) i; bytes = chunkAt d s n i }
 
+-- RULES U8
 unfoldable pub fileFormBeforeMesh : Sharding → List ℕ → List ℕ
 fileFormBeforeMesh spec file = settledBefore (pairsOf pairBeforeMesh (indexPart spec file) (dataPart spec file) 0 (minishardCount spec))

@@ -29,6 +29,7 @@ itemsOf spec index d m = itemsAt spec d (entryStart index m) (entryCount (entryS
 abbrev pub idOf : Item → ℕ
 idOf x = x .id
 
+-- RULES U3
 unfoldable pub byId : List Item → List Item
 byId items = sortBy idOf items
 
@@ -39,11 +40,11 @@ unfoldable pub contentFrom : Sharding → List ℕ → List ℕ → ℕ → ℕ 
 contentFrom spec index d m zero = []
 contentFrom spec index d m (suc k) = byId (itemsOf spec index d m) ∷ contentFrom spec index d (suc m) k
 
--- all that it lists: the order in which it stands makes no difference
+-- all that it lists: the order in which it stands makes no difference (RULES U3)
 unfoldable pub contentOf : Sharding → List ℕ → List ℕ → List (List Item)
 contentOf spec index d = contentFrom spec index d 0 (minishardCount spec)
 
--- its settled form, and the length of that
+-- its settled form, and the length of that (RULES U3)
 unfoldable pub formOf : Sharding → List ℕ → List ℕ → List ℕ
 formOf spec index d = settled (contentOf spec index d)
 

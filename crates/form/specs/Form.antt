@@ -1,4 +1,4 @@
--- The settled form (01, 'Settled form'): a function of what is listed, as a list of minishards, each a list of items in rising id order.
+-- The settled form (RULES U1, U2): a function of what is listed, as a list of minishards, each a list of items in rising id order.
 -- Places count from the end of the shard index.
 use Prim.Native.Nat.{ℕ, _+_, _*_, _-_}
 use mathlib.Core.List.{List, [], _∷_, _++_}
@@ -32,7 +32,7 @@ sizeRow (x ∷ xs) = length (x .body) ∷ sizeRow xs
 unfoldable pub indexOf : ℕ → List Item → List ℕ
 indexOf p items = row (idRow 0 items) ++ (row (startRow p items) ++ row (sizeRow items))
 
--- a minishard at the place p: its chunks and their leads, then its minishard index. One with no item is empty
+-- a minishard at the place p: its chunks and their leads, then its minishard index. One with no item is empty (RULES U1)
 unfoldable pub partOf : ℕ → List Item → List ℕ
 partOf p items = chunksOf items ++ indexOf p items
 
@@ -57,14 +57,15 @@ unfoldable pub entryFinish : ℕ → List Item → ℕ
 entryFinish p [] = 0
 entryFinish p (x ∷ xs) = p + partLength (x ∷ xs)
 
+-- RULES U1
 unfoldable pub entriesFrom : ℕ → List (List Item) → List ℕ
 entriesFrom p [] = []
 entriesFrom p (items ∷ more) = entryBegin p items ∷ entryFinish p items ∷ entriesFrom (p + partLength items) more
 
--- the whole: the shard index, then the minishards, and nothing else
+-- the whole: the shard index, then the minishards, and nothing else (RULES U1)
 unfoldable pub settled : List (List Item) → List ℕ
 settled content = row (entriesFrom 0 content) ++ partsFrom 0 content
 
--- its length, a whole number of any size
+-- its length, a whole number of any size (RULES U2)
 unfoldable pub settledLength : List (List Item) → ℕ
 settledLength content = 16 * length content + partsLength content

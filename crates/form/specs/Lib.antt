@@ -1,4 +1,4 @@
--- The settled form (01, 'Settled form').
+-- The settled form (RULES U1 to U3).
 pub mod Sorted
 pub mod Form
 pub mod Content

@@ -1,4 +1,4 @@
--- What the answer depends on (02, order 7): what that of a lookup depends on, which in a mesh is every manifest of the chosen minishard too, and the
+-- What the answer depends on (RULES M12): what that of a lookup depends on, which in a mesh is every manifest of the chosen minishard too, and the
 -- fragment handed out.
 use Prim.Native.Nat.{ℕ}
 use mathlib.Core.Path.{_≡_, refl, sym, _∙_}

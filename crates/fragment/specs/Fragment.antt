@@ -1,4 +1,4 @@
--- One node's fragment: "Lookup can hand out the manifest or one node's fragment (18, after 12, for no such node or a volume shard)" (02, order 7).
+-- One node's fragment: "Lookup can hand out the manifest or one node's fragment (18, after 12, for no such node or a volume shard)" (RULES M11).
 -- The answer is a lookup's: a place in the file and a length, or a refusal.
 use Prim.Native.Nat.{ℕ, _+_, _-_}
 use mathlib.Core.Bool.{Bool, not, _||_}
@@ -41,6 +41,7 @@ noNode spec s level node = not (isMesh spec) || not (hasNode s level node)
 unfoldable pub fragmentChecks : Sharding → ℕ → List ℕ → ℕ → ℕ → ℕ → List Check
 fragmentChecks spec shard file id level node = lookupChecks spec shard file id ++ (check 18 (noNode spec (manifestOf spec file id) level node) ∷ [])
 
+-- RULES M11
 unfoldable pub fragmentAnswer : Sharding → ℕ → List ℕ → ℕ → ℕ → ℕ → LookupAnswer
 fragmentAnswer spec shard file id level node =
     answeredAt Refused Faulty (fragmentChecks spec shard file id level node)

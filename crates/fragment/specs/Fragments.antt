@@ -1,4 +1,4 @@
--- What is said of the answer about a fragment: the bytes that it hands out, and those that it depends on (02, order 7).
+-- What is said of the answer about a fragment: the bytes that it hands out, and those that it depends on (RULES M11, M12).
 use Prim.Native.Nat.{ℕ, _+_, _≤_}
 use mathlib.Core.Path.{_≡_}
 use mathlib.Core.Bool.{false}
@@ -17,7 +17,7 @@ use Rattle.lookup.specs.Find.{lookupAnswer, partBytes}
 use Rattle.fragment.specs.Fragment.{fragmentAnswer}
 
 -- the call finds these bytes, behind the shard index and within the file, and at the very place: all fragments of the manifest that a lookup finds
--- end where it begins, and this one begins as many bytes behind their beginning as those before it have
+-- end where it begins, and this one begins as many bytes behind their beginning as those before it have (RULES M11)
 pub record HandsOutFragment (spec : Sharding) (shard : ℕ) (file : List ℕ) (id level node : ℕ) (bytes : List ℕ) : Type 0 where
   pub start : ℕ
   pub count : ℕ
@@ -33,6 +33,7 @@ pub record HandsOutFragment (spec : Sharding) (shard : ℕ) (file : List ℕ) (i
   pub part : partBytes (fragmentAnswer spec shard file id level node) file ≡ bytes
 
 -- "no such node or a volume shard": the chosen minishard is sound and lists the id, but of a volume, or with a manifest that has no such node
+-- (RULES M11)
 pub record LacksFragment (spec : Sharding) (shard : ℕ) (file : List ℕ) (id level node : ℕ) : Type 0 where
   pub bytes : List ℕ
   pub sound : SoundMinishard spec shard (indexPart spec file) (dataPart spec file) (minishardOf spec id)
@@ -44,7 +45,7 @@ abbrev pub AgreeInFragment : Sharding → ℕ → ℕ → ℕ → ℕ → List �
 AgreeInFragment spec shard id level node a b =
     (start n : ℕ) → fragmentAnswer spec shard b id level node ≡ Found start n → take n (drop start a) ≡ take n (drop start b)
 
--- the call gives the same answer of them, and hands out the same bytes where they agree in these
+-- the call gives the same answer of them, and hands out the same bytes where they agree in these (RULES M12)
 pub record SameFragment (spec : Sharding) (shard id level node : ℕ) (a b : List ℕ) : Type 0 where
   pub answer : fragmentAnswer spec shard a id level node ≡ fragmentAnswer spec shard b id level node
   pub bytes : AgreeInFragment spec shard id level node a b

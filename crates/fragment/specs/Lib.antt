@@ -1,3 +1,3 @@
--- One node's fragment in a mesh shard (02, order 7).
+-- One node's fragment in a mesh shard (RULES M11, M12).
 pub mod Fragment
 pub mod Fragments

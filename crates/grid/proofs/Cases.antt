@@ -1,4 +1,4 @@
--- Worked cases of grids and keys that 01 does not mark P, as one table: source 000's example, and refusals by their order.
+-- Worked cases of grids and keys beside those of RULES W1, as one table: source 000's example, and refusals by their order.
 use Prim.Native.Nat.{ℕ, _^_}
 use mathlib.Core.Path.{_≡_, refl}
 use mathlib.Core.List.{List, [], _∷_, map}

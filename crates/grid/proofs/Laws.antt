@@ -1,4 +1,4 @@
--- What holds of grids and keys, at the answers: the laws that 01 and the demands ask for.
+-- What holds of grids and keys, at the answers: the laws that the rules and the demands ask for.
 use Prim.Native.Nat.{ℕ, zero, suc, _^_, _≤_, _<_}
 use mathlib.Core.Path.{_≡_, refl, sym, _∙_}
 use mathlib.Core.Bool.{Bool, true, false, not}

@@ -1,4 +1,4 @@
--- What each entry point answers: its checks in their fixed order (01, "Refusal numbers"), or else the result.
+-- What each entry point answers: its checks in their fixed order (RULES R2), or else the result.
 use Prim.Native.Nat.{ℕ}
 use mathlib.Core.Bool.{Bool, not, _||_}
 use mathlib.Core.List.{List, [], _∷_}
@@ -14,7 +14,7 @@ use Rattle.grid.specs.declared.CellAnswer.the-variants.{At, Refused as C
 use Rattle.grid.specs.Grid.{gridOf, zeroExtent, inGrid}
 use Rattle.grid.specs.Key.{tooManyBits, keyOf, cellOf, isKey}
 
--- refusal 2: "a volume or chunk extent is 0, or a cell coordinate is not below its grid size"
+-- refusal 2: "a volume or chunk extent is 0, or a cell coordinate is not below its grid size" (RULES G2)
 unfoldable pub noCell : Volume → Cell → Bool
 noCell v c = zeroExtent v || not (inGrid (gridOf v) c)
 

@@ -1,4 +1,4 @@
--- The grid of a volume: how many cells each axis has, and which cells there are (01, "Cells and keys").
+-- The grid of a volume: how many cells each axis has, and which cells there are (RULES G1, G2).
 use Prim.Native.Nat.{ℕ, _+_, _-_, _/_, _^_, _<_}
 use mathlib.Core.Bool.{Bool, _&&_, _||_}
 use lib.Dec.{ltb, eqb}
@@ -6,10 +6,11 @@ use Rattle.grid.specs.declared.Extents.{Extents}
 use Rattle.grid.specs.declared.Cell.{Cell}
 use Rattle.grid.specs.declared.Volume.{Volume}
 
--- "Grid size is the extent divided by the chunk, rounded up."
+-- "Grid size is the extent divided by the chunk, rounded up." (RULES G1)
 unfoldable pub gridSize : ℕ → ℕ → ℕ
 gridSize extent chunk = (extent + (chunk - 1)) / chunk
 
+-- RULES G1
 unfoldable pub gridOf : Volume → Extents
 gridOf v =
     record {
@@ -22,10 +23,11 @@ gridOf v =
 unfoldable pub hasZero : Extents → Bool
 hasZero e = eqb (e .x) 0 || (eqb (e .y) 0 || eqb (e .z) 0)
 
+-- RULES G2
 unfoldable pub zeroExtent : Volume → Bool
 zeroExtent v = hasZero (v .size) || hasZero (v .chunk)
 
--- each coordinate is below its grid size
+-- each coordinate is below its grid size (RULES G2)
 unfoldable pub inGrid : Extents → Cell → Bool
 inGrid grid c = ltb (c .x) (grid .x) && (ltb (c .y) (grid .y) && ltb (c .z) (grid .z))
 

@@ -1,4 +1,4 @@
--- The compressed Morton key of a cell, by the numbered steps of source 000, and the cell of a key (01, "Cells and keys").
+-- The compressed Morton key of a cell, by the numbered steps of source 000, and the cell of a key (RULES G4 to G6).
 use Prim.Native.Nat.{ℕ, zero, suc, _+_, _*_, _/_, _%_, _^_}
 use mathlib.Core.Bool.{Bool, true, false, _&&_}
 use lib.Dec.{ltb}
@@ -10,7 +10,7 @@ use Rattle.grid.specs.Grid.{inGrid}
 unfoldable pub bitOf : ℕ → ℕ → ℕ
 bitOf n i = n / 2 ^ i % 2
 
--- turn i uses an axis of so many cells: "If 2**i < grid_size[dim]"
+-- turn i uses an axis of so many cells: "If 2**i < grid_size[dim]" (RULES G4)
 unfoldable pub used : ℕ → ℕ → Bool
 used cells i = ltb (2 ^ i) cells
 
@@ -34,15 +34,15 @@ steps (suc n) i grid c w =
     (step (used (grid .y) i) (bitOf (c .y) i)
     (step (used (grid .x) i) (bitOf (c .x) i) w)))
 
--- "Set j := 0." Coordinates are u32: 32 turns reach each bit, and a turn that no axis uses gives nothing.
+-- "Set j := 0." Coordinates are u32: 32 turns reach each bit, and a turn that no axis uses gives nothing. (RULES G5)
 unfoldable pub keyOf : Extents → Cell → ℕ
 keyOf grid c = steps 32 0 grid c (record { j = 0; key = 0 }) .key
 
--- how many output bits the steps give: the cell does not matter
+-- how many output bits the steps give: the cell does not matter (RULES G4)
 unfoldable pub keyBits : Extents → ℕ
 keyBits grid = steps 32 0 grid (record { x = 0; y = 0; z = 0 }) (record { j = 0; key = 0 }) .j
 
--- refusal 3: "the grid needs more than 64 key bits"
+-- refusal 3: "the grid needs more than 64 key bits" (RULES G4)
 unfoldable pub tooManyBits : Extents → Bool
 tooManyBits grid = ltb 64 (keyBits grid)
 
@@ -80,11 +80,12 @@ stepsBack zero i grid key w = w
 stepsBack (suc n) i grid key w =
     stepsBack n (suc i) grid key (stepBack (used (grid .x) i) (used (grid .y) i) (used (grid .z) i) key i w)
 
+-- RULES G6
 unfoldable pub cellOf : Extents → ℕ → Cell
 cellOf grid key =
     let w : Input = stepsBack 32 0 grid key (record { j = 0; x = 0; y = 0; z = 0 }) in
     record { x = w .x; y = w .y; z = w .z }
 
--- refusal 4, denied: no "bit above the last used one", and no "cell outside the grid"
+-- refusal 4, denied: no "bit above the last used one", and no "cell outside the grid" (RULES G6)
 unfoldable pub isKey : Extents → ℕ → Bool
 isKey grid key = ltb key (2 ^ keyBits grid) && inGrid grid (cellOf grid key)

@@ -1,4 +1,4 @@
--- What adding to a sheet and joining two sheets answer: the new sheet, or "27 a total would pass 2^64-1" (02, order 13). The caller keeps the sheet
+-- What adding to a sheet and joining two sheets answer: the new sheet, or "27 a total would pass 2^64-1" (RULES H2, H3). The caller keeps the sheet
 -- that was: refused, it "stays as before that shard".
 use Prim.Native.Nat.{ℕ}
 use mathlib.Core.List.{List, [], _∷_}
@@ -16,7 +16,7 @@ use Rattle.holdings.specs.declared.SheetAnswer.{SheetAnswer}
 use Rattle.holdings.specs.declared.SheetAnswer.the-variants.{Total, Refused}
 use Rattle.holdings.specs.Sheet.{rows, anyPasses, both, soundSheet, refusedSheet, shardSheet}
 
--- two sheets together
+-- two sheets together (RULES H3)
 unfoldable pub joinAnswer : Sheet → Sheet → SheetAnswer
 joinAnswer a b = answered Refused (check 27 (anyPasses (rows (both a b))) ∷ []) (Total (both a b))
 
@@ -24,6 +24,7 @@ joinAnswer a b = answered Refused (check 27 (anyPasses (rows (both a b))) ∷ []
 unfoldable pub sheetOf : Sharding → ℕ → List ℕ → Sheet
 sheetOf spec shard file = shardSheet (checkAnswer spec shard file) (fileMeasure spec file)
 
+-- RULES H2
 unfoldable pub addAnswer : Sheet → Sharding → ℕ → List ℕ → SheetAnswer
 addAnswer sheet spec shard file = joinAnswer sheet (sheetOf spec shard file)
 
@@ -31,6 +32,7 @@ addAnswer sheet spec shard file = joinAnswer sheet (sheetOf spec shard file)
 unfoldable pub pairSheet : Sharding → ℕ → List ℕ → List ℕ → Sheet
 pairSheet spec shard index d = shardSheet (pairCheck spec shard index d) (measureOf spec index d)
 
+-- RULES H2
 unfoldable pub pairAddAnswer : Sheet → Sharding → ℕ → List ℕ → List ℕ → SheetAnswer
 pairAddAnswer sheet spec shard index d = joinAnswer sheet (pairSheet spec shard index d)
 

@@ -1,5 +1,5 @@
 -- The yearly holdings sheet: "shards sound, shards the check refuses for each number and, over sound shards, chunks listed, sum of chunk sizes, and
--- unlisted bytes as defined in order 8" (02, order 13).
+-- unlisted bytes as defined in order 8" (RULES H2).
 use Prim.Native.Nat.{ℕ, _+_}
 use mathlib.Core.Path.{_≡_}
 use mathlib.Core.Bool.{Bool, false, _||_}
@@ -24,7 +24,7 @@ isAmong k (n ∷ ns) = eqb k n || isAmong k ns
 unfoldable pub hasRow : ℕ → Bool
 hasRow k = isAmong k numbers
 
--- the rows of a sheet: shards sound, shards refused with each of these numbers, chunks listed, their bytes, unlisted bytes
+-- the rows of a sheet: shards sound, shards refused with each of these numbers, chunks listed, their bytes, unlisted bytes (RULES H2)
 unfoldable pub rows : Sheet → List ℕ
 rows s =
     s .sound
@@ -102,7 +102,7 @@ refusedSheet number =
       unlisted = 0;
     }
 
--- by what the check says of it
+-- by what the check says of it (RULES H2)
 unfoldable pub shardSheet : CheckAnswer → Counts → Sheet
 shardSheet Sound counts = soundSheet counts
 shardSheet (Refused number) counts = refusedSheet number
@@ -110,6 +110,7 @@ shardSheet (Faulty number minishard position) counts = refusedSheet number
 
 -- ---- two sheets, row by row
 
+-- RULES H3
 unfoldable pub both : Sheet → Sheet → Sheet
 both a b =
     record {

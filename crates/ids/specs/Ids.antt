@@ -4,11 +4,11 @@ use mathlib.Core.Bool.{Bool}
 use lib.Dec.{eqb}
 use Rattle.endian.specs.Range.{sumTo, anyBelow, first}
 
--- the id of entry i: the sum of the id steps so far, modulo 2^64
+-- the id of entry i: the sum of the id steps so far, modulo 2^64 (RULES F4)
 unfoldable pub idAt : (ℕ → ℕ) → ℕ → ℕ
 idAt steps i = sumTo steps (suc i) % 2 ^ 64
 
--- an earlier entry has the id of entry i
+-- an earlier entry has the id of entry i (RULES F9)
 unfoldable pub repeats : (ℕ → ℕ) → ℕ → Bool
 repeats id i = anyBelow i (λ j. eqb (id j) (id i))
 

@@ -1,4 +1,4 @@
--- The indexes of a shard, and tests over their entries (01, 'From id to shard'; source 002).
+-- The indexes of a shard, and tests over their entries (RULES F1 to F5, F12).
 pub mod Index
 pub mod Tests
 pub mod Reading

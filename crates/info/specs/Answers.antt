@@ -28,7 +28,7 @@ recordOf Wrong =
       volume = record { size = record { x = 0; y = 0; z = 0 }; chunk = record { x = 0; y = 0; z = 0 }; offset = zeros };
     }
 
--- "19 before 20, both before 1, [..] then 2 and 3 as for a card"
+-- "19 before 20, both before 1, [..] then 2 and 3 as for a card" (RULES I8)
 unfoldable pub infoChecks : List ℕ → ℕ → List Check
 infoChecks s k = check 19 (not (isJson deepest s)) ∷ check 20 (noSettings (settingsOf s k)) ∷ recordChecks (recordOf (settingsOf s k))
 

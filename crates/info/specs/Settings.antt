@@ -126,7 +126,7 @@ hashIn s p = whenAt (needed hashName s p) Wrong (hashAt s)
 unfoldable pub numberIn : List ℕ → List ℕ → ℕ → Number
 numberIn name s p = whenAt (needed name s p) Wrong (naturalAt s)
 
--- "A number its card field cannot hold is of the wrong kind"; "the info reader yields volume" (02, order 7)
+-- "A number its card field cannot hold is of the wrong kind"; "the info reader yields volume" (RULES I6, I9)
 unfoldable pub shardingOf : ℕ → ℕ → ℕ → ℕ → ShardingIn
 shardingOf a h m n =
     pick (ltb a 256 && (ltb h 256 && (ltb m 256 && ltb n 256)))

@@ -2,3 +2,4 @@
 pub mod Stepped
 pub mod Answered
 pub mod Refused
+pub mod Numbered

@@ -1,4 +1,4 @@
--- What each call of an intake answers and leaves (02, order 11): "Data goes to its final place in the output at once". Places count from the end
+-- What each call of an intake answers and leaves (RULES N1 to N5): "Data goes to its final place in the output at once". Places count from the end
 -- of the shard index.
 use Prim.Native.Nat.{ℕ, _+_, _*_, _-_}
 use mathlib.Core.List.{List}
@@ -67,10 +67,11 @@ opened spec shard output waiting = record {
   phase = 0;
 }
 
+-- RULES N2
 unfoldable pub openAnswer : Sharding → ℕ → List ℕ → List ℕ → IntakeAnswer
 openAnswer spec shard out w = answered Refused (openChecks spec shard (length out)) (Next (opened spec shard (length out) (length w)))
 
--- the shard index, with an entry 0, 0 for each minishard: none has a chunk yet
+-- the shard index, with an entry 0, 0 for each minishard: none has a chunk yet (RULES N2)
 unfoldable pub openLeft : Sharding → ℕ → List ℕ → List ℕ
 openLeft spec shard out = left (openChecks spec shard (length out)) (paste 0 (replicate (indexLength spec) 0) out) out
 
@@ -95,13 +96,15 @@ noted s id size = record {
 abbrev pub announced : Intake → ℕ → ℕ → Intake
 announced s id size = noted (turned s (minishardOf (s .spec) id)) id size
 
+-- RULES N3
 unfoldable pub announceAnswer : Intake → ℕ → ℕ → List ℕ → List ℕ → IntakeAnswer
 announceAnswer s id size out w = answered Refused (announceChecks s id size (length out) w) (Next (announced s id size))
 
+-- RULES N3
 unfoldable pub announceLeft : Intake → ℕ → ℕ → List ℕ → List ℕ → List ℕ
 announceLeft s id size out w = left (announceChecks s id size (length out) w) (turnedLeft s (minishardOf (s .spec) id) out w) out
 
--- the second buffer: id and size behind those of the chunks of its minishard
+-- the second buffer: id and size behind those of the chunks of its minishard (RULES N3)
 unfoldable pub announceWaiting : Intake → ℕ → ℕ → List ℕ → List ℕ → List ℕ
 announceWaiting s id size out w =
     left (announceChecks s id size (length out) w) (paste (16 * countIn s (minishardOf (s .spec) id)) (pair id size) w) w
@@ -123,9 +126,11 @@ taken s n = record {
   phase = s .phase;
 }
 
+-- RULES N4
 unfoldable pub partAnswer : Intake → List ℕ → List ℕ → List ℕ → IntakeAnswer
 partAnswer s bytes out w = answered Refused (partChecks s (length bytes) (length out) w) (Next (taken s (length bytes)))
 
+-- RULES N4
 unfoldable pub partLeft : Intake → List ℕ → List ℕ → List ℕ → List ℕ
 partLeft s bytes out w = left (partChecks s (length bytes) (length out) w) (paste (indexLength (s .spec) + s .next) bytes out) out
 
@@ -146,8 +151,10 @@ closed s = record {
   phase = 1;
 }
 
+-- RULES N5
 unfoldable pub closeAnswer : Intake → List ℕ → List ℕ → CloseAnswer
 closeAnswer s out w = answered NotClosed (closeChecks s (length out) w) (Closed (closed s) (announcedLength s))
 
+-- RULES N5
 unfoldable pub closeLeft : Intake → List ℕ → List ℕ → List ℕ
 closeLeft s out w = left (closeChecks s (length out) w) (endedLeft s out w) out

@@ -1,2 +1,3 @@
--- Intake from the scanner (02, order 11).
+-- Intake from the scanner (RULES N1 to N5).
 pub mod Calls
+pub mod Numbers

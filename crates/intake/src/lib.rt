@@ -1,4 +1,5 @@
 // Intake from the scanner: a new volume shard, written in its settled form while its chunks come in parts.
+pub mod numbers;
 mod steps;
 
 ghost use mathlib.Core.Path.{_≡_};

@@ -10,7 +10,7 @@ use Rattle.text.specs.declared.Found.{Found}
 use Rattle.text.specs.declared.Found.the-variants.{At, Nothing}
 use Rattle.strings.specs.Chars.{stringAt}
 
--- "to a depth of 32" (order 'read the settings from the info file')
+-- "to a depth of 32" (order 'read the settings from the info file') (RULES I2)
 abbrev pub deepest : ℕ
 deepest = 32
 
@@ -57,5 +57,6 @@ unfoldable pub endsAt : List ℕ → Found → Bool
 endsAt s (At e) = same (ws s e) (length s)
 endsAt s Nothing = false
 
+-- RULES I1
 unfoldable pub isJson : ℕ → List ℕ → Bool
 isJson d s = endsAt s (valueAt d s (ws s 0))

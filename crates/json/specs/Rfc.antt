@@ -40,12 +40,12 @@ pub data ValueOf (s : List ℕ) (Inner : ℕ → ℕ → Type 0) : ℕ → ℕ �
   array : {i e : ℕ} → byteAt s i ≡ 0x5B → Listed s Inner 0x5D (i + 1) e → ValueOf s Inner i e
   object : {i e : ℕ} → byteAt s i ≡ 0x7B → Listed s (Member s Inner) 0x7D (i + 1) e → ValueOf s Inner i e
 
--- nested at most d deep: "the outermost value being at depth 1 and each value in another, a plain number too, one deeper"
+-- nested at most d deep: "the outermost value being at depth 1 and each value in another, a plain number too, one deeper" (RULES I2)
 abbrev pub Value : List ℕ → ℕ → ℕ → ℕ → Type 0
 Value s zero i e = ⊥
 Value s (suc d) i e = ValueOf s (Value s d) i e
 
--- JSON-text = ws value ws
+-- JSON-text = ws value ws (RULES I1)
 pub data JsonText (d : ℕ) (s : List ℕ) : Type 0 where
   text : (i e : ℕ) → Ws s 0 i → Value s d i e → Ws s e (length s) → JsonText d s
 

@@ -1,4 +1,4 @@
--- Reals by their bits (01, refusal 16 and "judged by bits"): IEEE 754 binary32, an f32.
+-- Reals by their bits (RULES M3): IEEE 754 binary32, an f32.
 use Prim.Native.Nat.{ℕ, _/_, _%_, _^_}
 use mathlib.Core.Bool.{Bool, not, _&&_}
 use mathlib.Core.List.{List}
@@ -6,11 +6,11 @@ use lib.Dec.{ltb, eqb}
 use lib.Ieee.{Float, binary32, ofBits}
 use Rattle.layout.specs.Layout.{itemAt}
 
--- the pattern of a finite real: its exponent field is not all ones
+-- the pattern of a finite real: its exponent field is not all ones (RULES M3)
 unfoldable pub finiteBits : ℕ → Bool
 finiteBits b = not (eqb (b / 2 ^ 23 % 256) 255)
 
--- of a finite real's pattern: above zero has no sign and is not 0 (so neither zero is above zero)
+-- of a finite real's pattern: above zero has no sign and is not 0 (so neither zero is above zero) (RULES M3)
 unfoldable pub aboveZero : ℕ → Bool
 aboveZero b = ltb 0 b && ltb b (2 ^ 31)
 

@@ -1,4 +1,4 @@
--- Where the items of a manifest stand (01, "Manifest"; source 001, "Encoded manifest format"). Each item has 4 bytes.
+-- Where the items of a manifest stand (RULES M1). Each item has 4 bytes.
 use Prim.Native.Nat.{ℕ, _+_, _*_}
 use mathlib.Core.Bool.{Bool, _&&_, _||_}
 use mathlib.Core.List.{List}
@@ -6,7 +6,7 @@ use lib.Dec.{leb, ltb}
 use Rattle.endian.specs.Little.{leAt}
 use Rattle.endian.specs.Range.{sumTo}
 
--- the number in item i, counted from 0 in file order
+-- the number in item i, counted from 0 in file order (RULES M1)
 unfoldable pub itemAt : List ℕ → ℕ → ℕ
 itemAt s i = leAt 4 s (4 * i)
 
@@ -14,7 +14,7 @@ itemAt s i = leAt 4 s (4 * i)
 abbrev pub levelsOf : List ℕ → ℕ
 levelsOf s = itemAt s 6
 
--- after it the scales, one a level, and the vertex offsets, three a level: these and the first six are the reals
+-- after it the scales, one a level, and the vertex offsets, three a level: these and the first six are the reals (RULES M1)
 unfoldable pub isReal : ℕ → ℕ → Bool
 isReal levels i = ltb i 6 || (leb 7 i && ltb i (7 + 4 * levels))
 
@@ -26,7 +26,7 @@ countOf s l = itemAt s (7 + 4 * levelsOf s + l)
 abbrev pub nodesBefore : List ℕ → ℕ → ℕ
 nodesBefore s l = sumTo (countOf s) l
 
--- the item where level l's nodes begin: each node before it has four items
+-- the item where level l's nodes begin: each node before it has four items (RULES M1)
 abbrev pub levelItem : List ℕ → ℕ → ℕ
 levelItem s l = 7 + 5 * levelsOf s + 4 * nodesBefore s l
 
@@ -44,5 +44,6 @@ yAt s first n i = itemAt s (first + n + i)
 abbrev pub zAt : List ℕ → ℕ → ℕ → ℕ → ℕ
 zAt s first n i = itemAt s (first + 2 * n + i)
 
+-- RULES M1
 unfoldable pub sizeAt : List ℕ → ℕ → ℕ → ℕ → ℕ
 sizeAt s first n i = itemAt s (first + 3 * n + i)

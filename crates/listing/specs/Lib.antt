@@ -1,3 +1,3 @@
--- The listing of a minishard (01, 'From id to shard').
+-- The listing of a minishard (RULES L5, L6).
 pub mod Listing
 pub mod Triples

@@ -1,4 +1,4 @@
--- The listing of a minishard, in stored order: three numbers for each entry (01, 'From id to shard' and 'Refusal numbers'; 02, order 7): 1, 5, 6,
+-- The listing of a minishard, in stored order: three numbers for each entry (RULES L5, R2): 1, 5, 6,
 -- then 7 to 11 of that minishard, for a mesh also 15 to 17 and 21, with their position, then 13.
 use Prim.Native.Nat.{ℕ, zero, suc, _+_}
 use mathlib.Core.Bool.{_||_}
@@ -41,7 +41,7 @@ listedCount spec file m = entryCount (entryStart (indexPart spec file) m) (entry
 unfoldable pub countIn : Sharding → ℕ → List ℕ → List ℕ → ℕ → CountAnswer
 countIn spec shard index d m = answeredAt Refused Faulty (minishardChecks spec shard index d m) (Count (entryCount (entryStart index m) (entryEnd index m)))
 
--- 5 also for a minishard number that is not below 2^minishard_bits: ours, beyond 01
+-- 5 also for a minishard number that is not below 2^minishard_bits (RULES L6)
 unfoldable pub countChecks : Sharding → ℕ → List ℕ → ℕ → List Check
 countChecks spec shard file m =
     fileChecks spec (noSuchShard spec shard || leb (minishardCount spec) m) file
@@ -55,10 +55,10 @@ countAnswer spec shard file m = answeredAt Refused Faulty (countChecks spec shar
 unfoldable pub listingChecks : Sharding → ℕ → List ℕ → ℕ → List ℕ → List Check
 listingChecks spec shard file m out = countChecks spec shard file m ++ (room (listingOf spec file m) out ∷ [])
 
--- how many numbers were written
+-- how many numbers were written (RULES L5)
 unfoldable pub listingAnswer : Sharding → ℕ → List ℕ → ℕ → List ℕ → CountAnswer
 listingAnswer spec shard file m out = answeredAt Refused Faulty (listingChecks spec shard file m out) (Count (length (listingOf spec file m)))
 
--- what the numbers then are
+-- what the numbers then are (RULES L5)
 unfoldable pub listingLeft : Sharding → ℕ → List ℕ → ℕ → List ℕ → List ℕ
 listingLeft spec shard file m out = left (listingChecks spec shard file m out) (over (listingOf spec file m) out) out

@@ -1,10 +1,10 @@
--- What three numbers of a listing say (01, 'From id to shard').
+-- What three numbers of a listing say (RULES L5).
 use Prim.Native.Nat.{ℕ, _+_, _*_, _≤_}
 use mathlib.Core.Path.{_≡_}
 use mathlib.Core.List.{List}
 use lib.ListN.{length, take, drop, getD}
 
--- the three numbers from 3 i on, of the numbers l, are the id and the place and length of these bytes in the file
+-- the three numbers from 3 i on, of the numbers l, are the id and the place and length of these bytes in the file (RULES L5)
 pub record Says (l file : List ℕ) (i id : ℕ) (bytes : List ℕ) : Type 0 where
   pub start : ℕ
   pub size : ℕ

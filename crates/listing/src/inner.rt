@@ -9,8 +9,8 @@ ghost use Rattle.shard.specs.File.{indexLength, indexPart, dataPart};
 ghost use Rattle.listing.specs.Listing.{countIn};
 use crate::CountAnswer;
 use crate::rows::count_in;
+use judge::judge;
 use shard::inner::index_length;
-use shard::judge::judge;
 use sharding::Sharding;
 
 // How many chunks minishard m lists, or its fault, in a shard of two parts.

@@ -1,4 +1,4 @@
--- The case of 01, 'Cases on each side', that speaks of `locate`: the whole input and the whole output. The same card of a mesh gives the same.
+-- The worked case of `locate` (RULES W3): the whole input and the whole output. The same card of a mesh gives the same.
 use Prim.Native.Nat.{ℕ}
 use mathlib.Core.Path.{_≡_, refl}
 use mathlib.Core.List.{List, [], _∷_, _++_}

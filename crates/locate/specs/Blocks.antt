@@ -15,7 +15,7 @@ use Rattle.locate.specs.declared.Block.{Block}
 use Rattle.locate.specs.Lines.{refusedLine}
 use Rattle.locate.specs.Output.{cellsText, framed, output}
 
--- "A card has 46 or 61 bytes", and "a mesh card has 50 or 65" (02, order 7)
+-- "A card has 46 or 61 bytes", and "a mesh card has 50 or 65" (RULES C1)
 unfoldable pub isCardLength : ℕ → Bool
 isCardLength n = eqb n 46 || (eqb n 61 || (eqb n 50 || eqb n 65))
 

@@ -1,4 +1,4 @@
--- The line that `locate` prints for a cell (01, 'Deposit card').
+-- The line that `locate` prints for a cell (RULES C7).
 use Prim.Native.Nat.{ℕ}
 use mathlib.Core.List.{List, [], _∷_, _++_}
 use Rattle.refusal.specs.Choice.{pick}

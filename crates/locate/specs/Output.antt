@@ -1,4 +1,4 @@
--- What the program `locate` prints for its whole input (01, 'Deposit card').
+-- What the program `locate` prints for its whole input (RULES C7).
 use Prim.Native.Nat.{ℕ, zero, suc, _+_, _/_, _%_}
 use mathlib.Core.List.{List, [], _∷_, _++_}
 use lib.Dec.{eqb}
@@ -46,7 +46,7 @@ printed (Says card) rest = cellsText card rest
 printed (Refused n) rest = refusedLine n
 
 -- what the program prints for its whole input: "a two-byte little-endian card length, the card, then cells"; where the
--- length is cut short, no byte of a card is left
+-- length is cut short, no byte of a card is left (RULES C7)
 unfoldable pub output : List ℕ → List ℕ
 output s =
     let n = leAt 2 s 0 in

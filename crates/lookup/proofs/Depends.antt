@@ -1,4 +1,4 @@
--- What a lookup's answer depends on (01, 'From id to shard'; 02, order 7): the file's length, one index entry, that minishard's index, of a mesh every
+-- What a lookup's answer depends on (RULES L4): the file's length, one index entry, that minishard's index, of a mesh every
 -- manifest that it lists, and the chunk handed out.
 use Prim.Native.Nat.{ℕ, zero, suc, _+_, _*_, _-_, _<_, _≤_, min}
 use mathlib.Core.List.{List, []}

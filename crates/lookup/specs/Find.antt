@@ -1,4 +1,4 @@
--- Lookup (01, 'From id to shard' and 'Refusal numbers'; 02, order 7): 1, 5, 6, then 7 to 11 of the chosen minishard, for a mesh also 15 to 17 and
+-- Lookup (RULES L1, R2): 1, 5, 6, then 7 to 11 of the chosen minishard, for a mesh also 15 to 17 and
 -- 21, with their position, then 12.
 use Prim.Native.Nat.{ℕ, _+_}
 use mathlib.Core.Bool.{Bool, not, _||_}
@@ -26,7 +26,7 @@ isId steps id i = eqb (idAt steps i) id
 abbrev pub unlisted : List ℕ → ℕ → ℕ → ℕ → Check
 unlisted d s n id = check 12 (not (anyBelow n (isId (idSteps d s) id)))
 
--- the chunk of the first entry that has it, in a file whose shard index has `base` bytes
+-- the chunk of the first entry that has it, in a file whose shard index has `base` bytes (RULES L1)
 unfoldable pub chunkOf : ℕ → List ℕ → ℕ → ℕ → ℕ → LookupAnswer
 chunkOf base d s n id =
     let i = first (isId (idSteps d s) id) n in
@@ -56,16 +56,18 @@ lookupIn spec shard index d id = answeredAt Refused Faulty (chosenChecks spec sh
 
 -- ---- in a file
 
+-- RULES S7
 unfoldable pub lookupChecks : Sharding → ℕ → List ℕ → ℕ → List Check
 lookupChecks spec shard file id =
     fileChecks spec (noSuchShard spec shard || not (eqb (shardOf spec id) shard)) file
     ++ chosenChecks spec shard (indexPart spec file) (dataPart spec file) id
 
+-- RULES L1
 unfoldable pub lookupAnswer : Sharding → ℕ → List ℕ → ℕ → LookupAnswer
 lookupAnswer spec shard file id =
     answeredAt Refused Faulty (lookupChecks spec shard file id) (chosenChunk spec (indexPart spec file) (dataPart spec file) id)
 
--- the part handed out: the bytes found, or, refused, the empty part at the file's start
+-- the part handed out: the bytes found, or, refused, the empty part at the file's start (RULES L2)
 abbrev pub partStart : LookupAnswer → ℕ
 partStart (Found start n) = start
 partStart (Refused number) = 0
@@ -76,6 +78,7 @@ partEnd (Found start n) = start + n
 partEnd (Refused number) = 0
 partEnd (Faulty number position) = 0
 
+-- RULES L2
 abbrev pub partBytes : LookupAnswer → List ℕ → List ℕ
 partBytes (Found start n) file = take n (drop start file)
 partBytes (Refused number) file = []

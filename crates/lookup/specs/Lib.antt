@@ -1,3 +1,3 @@
--- Lookup in a shard (01, 'From id to shard').
+-- Lookup in a shard (RULES L1 to L4).
 pub mod Find
 pub mod Lookups

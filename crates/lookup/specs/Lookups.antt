@@ -1,4 +1,4 @@
--- What is said of a lookup's answer: the chunk that it hands out, and the bytes that it depends on (01, 'From id to shard'; 02, order 7).
+-- What is said of a lookup's answer: the chunk that it hands out, and the bytes that it depends on (RULES L3, L4).
 use Prim.Native.Nat.{ℕ, _+_, _*_, _-_, _≤_, _<_}
 use mathlib.Core.Path.{_≡_}
 use mathlib.Core.Bool.{true}
@@ -28,7 +28,7 @@ chunkStart index d m i =
     let n = entryCount s (entryEnd index m) in
     startAt (startSteps d s n) (sizes d s n) i
 
--- a lookup finds these bytes, and at the very place that entry i of the chosen minishard gives, which lies within the file
+-- a lookup finds these bytes, and at the very place that entry i of the chosen minishard gives, which lies within the file (RULES L3)
 pub record HandsOut (spec : Sharding) (shard : ℕ) (file : List ℕ) (id i : ℕ) (bytes : List ℕ) : Type 0 where
   pub start : ℕ
   pub count : ℕ
@@ -59,7 +59,7 @@ abbrev pub chunkBytes : Sharding → List ℕ → ℕ → ℕ → List ℕ
 chunkBytes spec file m i = chunkAt (dataPart spec file) (entryStart (indexPart spec file) m) (chunkCount spec file m) i
 
 -- two files agree in their length, in the index entry of the id's minishard, and in that minishard's index; of a mesh also in "every manifest of
--- the chosen minishard"
+-- the chosen minishard" (RULES L4)
 pub record AgreeFor (spec : Sharding) (id : ℕ) (a b : List ℕ) : Type 0 where
   pub size : length a ≡ length b
   pub entry : entryBytes a (minishardOf spec id) ≡ entryBytes b (minishardOf spec id)
@@ -71,7 +71,7 @@ pub record AgreeFor (spec : Sharding) (id : ℕ) (a b : List ℕ) : Type 0 where
 abbrev pub AgreeInChunk : Sharding → ℕ → ℕ → List ℕ → List ℕ → Type 0
 AgreeInChunk spec shard id a b = (start n : ℕ) → lookupAnswer spec shard b id ≡ Found start n → take n (drop start a) ≡ take n (drop start b)
 
--- a lookup in them gives the same answer, and hands out the same bytes where they agree in these
+-- a lookup in them gives the same answer, and hands out the same bytes where they agree in these (RULES L4)
 pub record SameAnswer (spec : Sharding) (shard id : ℕ) (a b : List ℕ) : Type 0 where
   pub answer : lookupAnswer spec shard a id ≡ lookupAnswer spec shard b id
   pub bytes : AgreeInChunk spec shard id a b → partBytes (lookupAnswer spec shard a id) a ≡ partBytes (lookupAnswer spec shard b id) b

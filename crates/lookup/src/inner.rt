@@ -12,8 +12,8 @@ use crate::LookupAnswer;
 use endian::inner::read_u64;
 use index::entry_end;
 use index::entry_start;
+use judge::judge;
 use shard::inner::index_length;
-use shard::judge::judge;
 use sharding::Sharding;
 use sharding::inner::minishard_of;
 

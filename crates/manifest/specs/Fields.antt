@@ -14,7 +14,7 @@ use Rattle.manifest.specs.declared.HeaderAnswer.the-variants as H
 use Rattle.manifest.specs.declared.Field.{Field}
 use Rattle.manifest.specs.declared.Field.the-variants as F
 
--- chunk shape and grid origin: the first six items
+-- chunk shape and grid origin: the first six items (RULES M6)
 unfoldable pub headerAt : List ℕ → Header
 headerAt s =
     record {
@@ -29,7 +29,7 @@ headerAt s =
 unfoldable pub headerAnswer : List ℕ → HeaderAnswer
 headerAnswer s = answered H.Refused (manifestChecks s) (H.Header (headerAt s))
 
--- "A field asked for by number is answered as a real or as a whole number, by its kind."
+-- "A field asked for by number is answered as a real or as a whole number, by its kind." (RULES M6)
 unfoldable pub fieldAt : List ℕ → ℕ → Field
 fieldAt s i = pick (isReal (levelsOf s) i) (F.Real (realAt s i)) (F.Whole (itemAt s i))
 

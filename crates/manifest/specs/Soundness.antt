@@ -1,4 +1,4 @@
--- What a sound manifest is, said of each item and each node (01, "Manifest" and refusals 15 to 17). The verdict is 0 exactly of these.
+-- What a sound manifest is, said of each item and each node (RULES M5). The verdict is 0 exactly of these.
 use Prim.Native.Nat.{ℕ, _+_, _*_, _≤_, _<_}
 use mathlib.Core.Path.{_≡_}
 use mathlib.Core.Bool.{true}
@@ -8,6 +8,7 @@ use Rattle.layout.specs.Layout.{itemAt, levelsOf, isReal, countOf, nodesBefore,
 use Rattle.layout.specs.Bits.{finiteBits, aboveZero}
 use Rattle.manifest.specs.Verdict.{mostBytes, mostLevels, inOrder}
 
+-- RULES M5
 pub record Sound (s : List ℕ) : Type 0 where
   pub bytes : length s ≤ mostBytes
   pub levels : levelsOf s ≤ mostLevels

@@ -1,4 +1,4 @@
--- The judgement on a manifest: refusals 15, 16 and 17 (01, "Refusal numbers").
+-- The judgement on a manifest: refusals 15, 16 and 17 (RULES M2 to M4).
 use Prim.Native.Nat.{ℕ, _+_, _-_, _*_}
 use mathlib.Core.Bool.{Bool, not, _&&_, _||_}
 use mathlib.Core.List.{List, [], _∷_}
@@ -18,7 +18,7 @@ mostBytes = 16777216
 abbrev pub mostLevels : ℕ
 mostLevels = 32
 
--- not 15: "Length is 28 + 20 × levels + 16 × nodes, exactly", at most 32 levels and 16,777,216 bytes
+-- not 15: "Length is 28 + 20 × levels + 16 × nodes, exactly", at most 32 levels and 16,777,216 bytes (RULES M2)
 unfoldable pub rightLength : List ℕ → Bool
 rightLength s =
     leb (length s) mostBytes
@@ -28,6 +28,7 @@ rightLength s =
 unfoldable pub realFits : List ℕ → ℕ → Bool
 realFits s i = not (isReal (levelsOf s) i) || finiteBits (itemAt s i)
 
+-- RULES M3
 unfoldable pub realsFit : List ℕ → Bool
 realsFit s =
     every (realFits s) (7 + 4 * levelsOf s)
@@ -46,7 +47,7 @@ levelRises s first n = every (inOrder s first n) (n - 1)
 unfoldable pub riseAt : List ℕ → ℕ → Bool
 riseAt s l = levelRises s (levelItem s l) (countOf s l)
 
--- not 17: each level's nodes are in strictly rising order
+-- not 17: each level's nodes are in strictly rising order (RULES M4)
 unfoldable pub nodesRise : List ℕ → Bool
 nodesRise s = every (riseAt s) (levelsOf s)
 

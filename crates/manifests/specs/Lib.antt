@@ -1,3 +1,3 @@
--- The tests of a mesh minishard's manifests (02, order 7).
+-- The tests of a mesh minishard's manifests (RULES M10).
 pub mod Each
 pub mod Mesh

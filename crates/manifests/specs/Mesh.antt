@@ -1,4 +1,4 @@
--- The tests of the manifests that a mesh minishard lists (02, order 7): 15, 16 and 17 of each, then 21.
+-- The tests of the manifests that a mesh minishard lists (RULES M10): 15, 16 and 17 of each, then 21.
 use Prim.Native.Nat.{ℕ}
 use mathlib.Core.Bool.{Bool, not}
 use mathlib.Core.List.{List, [], _∷_}
@@ -23,6 +23,7 @@ unorderedNodes d s n i = not (nodesRise (chunkAt d s n i))
 unfoldable pub fragmentsOutside : List ℕ → ℕ → ℕ → ℕ → Bool
 fragmentsOutside d s n i = ltb (startAt (startSteps d s n) (sizes d s n) i) (fragmentsLength (chunkAt d s n i))
 
+-- RULES M10
 unfoldable pub manifestTests : List ℕ → ℕ → ℕ → List EntryTest
 manifestTests d s n =
     entryTest 15 1 (wrongLength d s n)

@@ -26,7 +26,7 @@ use Rattle.pair.specs.Answers.{pairCheck}
 use Rattle.pair.proofs.Laws.{sound-seamed, check-as-joined}
 use Rattle.ranges.specs.Ranges.{countIn}
 use Rattle.ranges.specs.Covered.{unlistedBytes}
-use Rattle.unlisted.specs.Reading.{RangedShard}
+use Rattle.stretch.specs.Reading.{RangedShard}
 use Rattle.unlisted.proofs.Counted.{sound-ranged}
 use Rattle.form.specs.Content.{formLength}
 use Rattle.minishard.specs.Writing.{capped}

@@ -1,4 +1,4 @@
--- What the measuring call answers: the refusals of the check, 27 where the sizes of the chunks together pass 2^64 - 1, or the measure (02, order 13).
+-- What the measuring call answers: the refusals of the check, 27 where the sizes of the chunks together pass 2^64 - 1, or the measure (RULES H1).
 use Prim.Native.Nat.{ℕ}
 use mathlib.Core.Bool.{Bool}
 use mathlib.Core.List.{List, [], _∷_}
@@ -33,11 +33,11 @@ afterVerdict C.Sound a = a
 afterVerdict (C.Refused k) a = Refused k
 afterVerdict (C.Faulty k m p) a = Faulty k m p
 
--- of a file
+-- of a file (RULES H1)
 unfoldable pub measureAnswer : Sharding → ℕ → List ℕ → MeasureAnswer
 measureAnswer spec shard file = afterVerdict (checkAnswer spec shard file) (measuredIn spec (indexPart spec file) (dataPart spec file))
 
--- of a pair: the index file is the shard index where the check passes, else 23 (02, order 10)
+-- of a pair: the index file is the shard index where the check passes, else 23 (RULES P1) (RULES H1)
 unfoldable pub pairMeasure : Sharding → ℕ → List ℕ → List ℕ → MeasureAnswer
 pairMeasure spec shard index d = afterVerdict (pairCheck spec shard index d) (measuredIn spec index d)
 

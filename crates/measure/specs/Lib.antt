@@ -1,4 +1,4 @@
--- The measure of a shard (02, order 13).
+-- The measure of a shard (RULES H1).
 pub mod Measures
 pub mod Answers
 pub mod Reading

@@ -1,4 +1,4 @@
--- What is counted over a sound shard: "chunks listed, sum of chunk sizes, and unlisted bytes as defined in order 8" (02, order 13), and the length of
+-- What is counted over a sound shard: "chunks listed, sum of chunk sizes, and unlisted bytes as defined in order 8" (RULES H1), and the length of
 -- its settled form. A shard is two lists here: its shard index, and the data behind it.
 use Prim.Native.Nat.{ℕ}
 use mathlib.Core.List.{List}
@@ -25,7 +25,7 @@ sizesIn index d m = sumTo (sizes d (entryStart index m) (countIn index m)) (coun
 unfoldable pub chunkBytes : Sharding → List ℕ → List ℕ → ℕ
 chunkBytes spec index d = sumTo (sizesIn index d) (minishardCount spec)
 
--- all of them; the settled length is counted up to the first one that settling refuses with 13
+-- all of them; the settled length is counted up to the first one that settling refuses with 13 (RULES H1)
 unfoldable pub measureOf : Sharding → List ℕ → List ℕ → Counts
 measureOf spec index d =
     record {

@@ -4,7 +4,7 @@ ghost use Prim.Native.Nat.{_*_, _≤_};
 ghost use Rattle.endian.specs.Range.{sumTo};
 ghost use Rattle.index.specs.Index.{sizes};
 ghost use Rattle.ranges.specs.Ranges.{countIn};
-ghost use Rattle.unlisted.specs.Reading.{RangedShard};
+ghost use Rattle.stretch.specs.Reading.{RangedShard};
 ghost use Rattle.settle.specs.Writing.{SettleableShard};
 ghost use Rattle.measure.specs.Reading.{Sized, SizedIn, SizedParts, Few};
 ghost use Rattle.measure.specs.Measures.{sizesIn};

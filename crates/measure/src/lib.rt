@@ -3,8 +3,8 @@ pub mod inner;
 
 ghost use mathlib.Core.Path.{_≡_};
 ghost use Rattle.measure.specs.Answers.{measureAnswer, pairMeasure};
+use inspect::check;
 use shard::CheckAnswer;
-use shard::check::check;
 use shard::inner::index_length;
 use sharding::Sharding;
 

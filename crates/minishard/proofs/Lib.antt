@@ -1,11 +1,4 @@
--- Laws of writing one minishard.
+-- Laws of the length of one minishard, and of whether it may be written as it stands.
 pub mod Walk
 pub mod Lengths
 pub mod Climbing
-pub mod StoredRows
-pub mod StoredChunks
-pub mod Filling
-pub mod Naming
-pub mod Copying
-pub mod Stepping
-pub mod SortedWhole

@@ -1,3 +1,2 @@
--- One minishard of a settled form (01, 'Settled form').
+-- One minishard of a settled form (RULES U1).
 pub mod Writing
-pub mod Reordered

@@ -1,16 +1,11 @@
-// The length of a settled minishard, and writing it: as it stands where that is its settled form, else sorted.
+// The length of a settled minishard, and whether it may be written as it stands.
 ghost use mathlib.Core.Path.{_≡_};
 ghost use Prim.Native.Nat.{_+_, _*_, _≤_};
 ghost use lib.ListN.{length};
-ghost use Rattle.endian.specs.Place.{paste};
 ghost use Rattle.endian.specs.Range.{sumTo};
 ghost use Rattle.index.specs.Index.{idSteps, sizes, mostShardBytes};
 ghost use Rattle.shard.specs.Items.{leads};
-ghost use Rattle.form.specs.Form.{partOf};
-ghost use Rattle.form.specs.Content.{itemsAt, byId};
-ghost use Rattle.minishard.specs.Writing.{Readable, LeadsIn, Apart, MayStand, Climbs, minishardLength, capped};
-use crate::sorted::settle_sorted;
-use crate::stored::settle_stored;
+ghost use Rattle.minishard.specs.Writing.{Readable, LeadsIn, MayStand, Climbs, minishardLength, capped};
 use endian::inner::read_u64;
 use shard::inner::MOST_SHARD_BYTES;
 use shard::inner::has_leads;
@@ -81,7 +76,7 @@ pub fn part_length(spec: Sharding, data: &[u8], s: usize, n: usize) -> usize
     listed
 }
 
-// ---- writing it
+// ---- whether it may be written as it stands
 
 // Whether each id is above the one before.
 fn ids_rise(data: &[u8], s: usize, n: usize) -> bool
@@ -101,8 +96,8 @@ fn ids_rise(data: &[u8], s: usize, n: usize) -> bool
     true
 }
 
-// Whether it may be written as it stands.
-fn may_stand(spec: Sharding, data: &[u8], s: usize, n: usize) -> bool
+// Nor may any chunk have a lead.
+pub fn may_stand(spec: Sharding, data: &[u8], s: usize, n: usize) -> bool
     requires { ⌜ Readable (now «data») s n ⌝ }
     ensures { λ r. ⌜ MayStand spec (now («data» .entry)) s n r ⌝ }
 {
@@ -110,25 +105,4 @@ fn may_stand(spec: Sharding, data: &[u8], s: usize, n: usize) -> bool
         return false;
     }
     ids_rise(data, s, n)
-}
-
-// The minishard at the place p, which counts from `base`.
-pub fn settle_part(
-    spec: Sharding,
-    data: &[u8],
-    s: usize,
-    n: usize,
-    out: &mut [u8],
-    base: usize,
-    p: usize,
-) -> usize
-    requires { ⌜ Readable (now «data») s n × LeadsIn spec (now «data») s n × Apart (now «data») s n ⌝ }
-    requires { ⌜ (base + p + minishardLength spec (now «data») s n ≤ length (now out)) × (minishardLength spec (now «data») s n ≤ mostShardBytes) ⌝ }
-    ensures { λ r. ⌜ r ≡ minishardLength spec (now («data» .entry)) s n ⌝ }
-    ensures { λ _. ⌜ now (out .exit) ≡ paste (base + p) (partOf p (byId (itemsAt spec (now («data» .entry)) s n))) (now (out .entry)) ⌝ }
-{
-    if may_stand(spec, data, s, n) {
-        return settle_stored(spec, data, s, n, out, base, p);
-    }
-    settle_sorted(spec, data, s, n, out, base, p)
 }

@@ -1,4 +1,2 @@
-// One minishard of a settled form: its length, and writing it.
+// One minishard of a settled form: its length, and whether it may be written as it stands.
 pub mod inner;
-mod sorted;
-mod stored;

@@ -9,6 +9,7 @@ use Rattle.endian.specs.Little.{le, leAt}
 abbrev pub add32 : ℕ → ℕ → ℕ
 add32 a b = (a + b) % 2 ^ 32
 
+-- RULES S4
 abbrev pub mul32 : ℕ → ℕ → ℕ
 mul32 a b = (a * b) % 2 ^ 32
 
@@ -93,16 +94,16 @@ finished s =
     let e = summed (mixed (summed s)) in
     le 4 (e .h1) ++ (le 4 (e .h2) ++ (le 4 (e .h3) ++ le 4 (e .h4)))
 
--- MurmurHash3_x86_128 of a key of 8 bytes
+-- MurmurHash3_x86_128 of a key of 8 bytes (RULES S3)
 unfoldable pub murmur3 : ℕ → List ℕ → List ℕ
 murmur3 seed key = finished (lengthened (tail key (seeded seed)))
 
 -- ---- the archive's hash
 
--- 01, 'What the archive holds'
+-- RULES S3
 abbrev pub seed : ℕ
 seed = 0
 
--- murmur hashes a number as 8 little-endian bytes; the first 8 bytes of the result, little-endian, are the hash
+-- murmur hashes a number as 8 little-endian bytes; the first 8 bytes of the result, little-endian, are the hash (RULES S3)
 unfoldable pub murmurHash : ℕ → ℕ
 murmurHash n = leAt 8 (murmur3 seed (le len n)) 0

@@ -1,5 +1,2 @@
 pub mod Texts
-pub mod Chunked
-pub mod Apart
-pub mod Cases
 pub mod Sharded

@@ -1,23 +1,17 @@
--- What the writers of names need: two texts with a byte between, a span, and the answer.
+-- What the writers of names need: two texts with a byte between, and the answer.
 use Prim.Native.Nat.{ℕ, _+_, _≤_, _<_}
 use mathlib.Core.Path.{_≡_, refl, sym, _∙_}
 use mathlib.Core.List.{List, [], _∷_, _++_, append-assoc}
 use native.Mathlib.Omega.{arith}
 use borrow.Author.Needs.{needs}
-use lib.IntN.{ℤ}
 use lib.ListN.{length, length-append}
 use mir.Syntax.{w64}
-use mir.Val.{Fits, SFits}
-use mir.Facts.{toZ-ofZ}
+use mir.Val.{Fits}
 use Rattle.endian.specs.Place.{paste}
 use Rattle.refusal.specs.Buffer.{written}
 use Rattle.refusal.specs.declared.Written.the-variants.{Length}
 use Rattle.endian.proofs.Buffer.{too-long, kept-whole, how-long, at-front}
 use Rattle.endian.proofs.Paste.{paste-then, length-paste}
-use Rattle.digits.specs.Signs.{signed}
-use Rattle.digits.specs.declared.inner.Signed.{Signed}
-use Rattle.digits.proofs.Signing.{back}
-use Rattle.names.specs.Spans.{spanOf}
 
 -- ---- two texts with a byte between
 
@@ -59,15 +53,6 @@ module _ (xs ys : List ℕ) (x : ℕ) where
         all-end r w = omega (arith, total)
 
 pub ruleset joining = (length-three, first-room, between-fits, between-room, second-room, all-put, all-end, needs)
-
--- ---- a span from two i64s, each read back from its bits
-
-pub span-is : (b e : ℤ) (r s : Signed) → SFits w64 b → SFits w64 e → r ≡ signed (back b) → s ≡ signed (back e) → record { begin = r; end = s } ≡ spanOf b e
-unfolding spanOf
-span-is b e r s f g p q =
-    let p′ : r ≡ signed b = rw (toZ-ofZ f) at p in
-    let q′ : s ≡ signed e = rw (toZ-ofZ g) at q in
-    λ i. record { begin = p′ i; end = q′ i }
 
 -- ---- a text written at the front of a buffer
 

@@ -1,3 +1,1 @@
-pub mod Spans
-pub mod Chunks
 pub mod Shards

@@ -1,4 +1,4 @@
--- The names of a shard's files (01, 'From id to shard'; of the earlier two-file edition 02, order 10).
+-- The names of a shard's files (RULES S6).
 use Prim.Native.Nat.{ℕ, _+_, _/_, max}
 use mathlib.Core.Bool.{not}
 use mathlib.Core.List.{List, [], _∷_, _++_}
@@ -13,17 +13,17 @@ use Rattle.digits.specs.Digits.{digits}
 use Rattle.names.specs.declared.FileKind.{FileKind}
 use Rattle.names.specs.declared.FileKind.the-variants.{Shard, Index, Data}
 
--- "ceil(shard_bits/4) digits and never empty"
+-- "ceil(shard_bits/4) digits and never empty" (RULES S6)
 unfoldable pub shardDigits : Sharding → ℕ
 shardDigits spec = max 1 ((shardBits spec + 3) / 4)
 
--- how the names of the files end: ".shard", and of the earlier two-file edition ".index" and ".data" (source 002)
+-- how the names of the files end: ".shard", and of the earlier two-file edition ".index" and ".data" (source 002) (RULES S6)
 abbrev pub suffixOf : FileKind → List ℕ
 suffixOf Shard = 46 ∷ 115 ∷ 104 ∷ 97 ∷ 114 ∷ 100 ∷ []
 suffixOf Index = 46 ∷ 105 ∷ 110 ∷ 100 ∷ 101 ∷ 120 ∷ []
 suffixOf Data = 46 ∷ 100 ∷ 97 ∷ 116 ∷ 97 ∷ []
 
--- "the shard number in lowercase hexadecimal, padded [..], then `.shard`", or then as the other files of a shard end
+-- "the shard number in lowercase hexadecimal, padded [..], then `.shard`", or then as the other files of a shard end (RULES S6)
 unfoldable pub fileName : FileKind → Sharding → ℕ → List ℕ
 fileName kind spec shard = digits 16 (shardDigits spec) shard ++ suffixOf kind
 

@@ -1,26 +1,11 @@
-// The names of chunks and of shard files, written into lent buffers.
+// The names of shard files, written into lent buffers.
 pub mod inner;
 
 ghost use mathlib.Core.Path.{_≡_};
-ghost use Rattle.names.specs.Chunks.{chunkNameAnswer, chunkNameLeft};
 ghost use Rattle.names.specs.Shards.{fileNameAnswer, fileNameLeft, shardNameAnswer, shardNameLeft};
 ghost use Rattle.names.specs.declared.FileKind.the-variants.{Index, Data};
-use bounds::BoundsAnswer;
-use grid::Cell;
-use grid::Volume;
 use refusal::Written;
 use sharding::Sharding;
-
-// The name of an unsharded chunk: refused with 2 or 13.
-pub fn chunk_name(volume: Volume, cell: Cell, out: &mut [u8]) -> Written
-    ensures answer { λ r. ⌜ r ≡ chunkNameAnswer volume cell (now (out .entry)) ⌝ }
-    ensures out { λ _. ⌜ now (out .exit) ≡ chunkNameLeft volume cell (now (out .entry)) ⌝ }
-{
-    match bounds::bounds_of(volume, cell) {
-        BoundsAnswer::Within(bounds) => inner::bounds_name(bounds, out),
-        BoundsAnswer::Refused(number) => Written::Refused(number),
-    }
-}
 
 // A shard is one file, or in the earlier edition an index file and a data file.
 pub enum FileKind {

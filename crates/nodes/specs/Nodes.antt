@@ -33,11 +33,11 @@ unfoldable pub levelBytes : List ℕ → ℕ → ℕ
 levelBytes s l = sumTo (sizeAt s (levelItem s l) (countOf s l)) (countOf s l)
 
 -- where that fragment starts, counted from the first fragment: the sum of all earlier sizes, over all levels
--- (source 001 names the sizes offsets; they are sizes)
+-- (source 001 names the sizes offsets; they are sizes) (RULES M7)
 unfoldable pub fragmentStart : List ℕ → ℕ → ℕ → ℕ
 fragmentStart s l i = sumTo (levelBytes s) l + sumTo (sizeAt s (levelItem s l) (countOf s l)) i
 
--- how many bytes all fragments have together
+-- how many bytes all fragments have together (RULES M9)
 unfoldable pub fragmentsLength : List ℕ → ℕ
 fragmentsLength s = sumTo (levelBytes s) (levelsOf s)
 
@@ -58,6 +58,7 @@ nodeIn s first n i start =
 unfoldable pub nodeFrom : List ℕ → ℕ → ℕ → ℕ → ℕ → Node
 nodeFrom s first n base i = nodeIn s first n i (base + sumTo (sizeAt s first n) i)
 
+-- RULES M7
 unfoldable pub nodeAt : List ℕ → ℕ → ℕ → Node
 nodeAt s l i = nodeIn s (levelItem s l) (countOf s l) i (fragmentStart s l i)
 
@@ -79,6 +80,7 @@ unfoldable pub numbersFrom : (ℕ → Node) → ℕ → ℕ → List ℕ
 numbersFrom node i zero = []
 numbersFrom node i (suc k) = numbersOf (node i) ++ numbersFrom node (suc i) k
 
+-- RULES M7
 unfoldable pub nodesOf : List ℕ → ℕ → List ℕ
 nodesOf s l = numbersFrom (nodeAt s l) 0 (countOf s l)
 

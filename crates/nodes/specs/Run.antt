@@ -20,6 +20,6 @@ unfoldable pub ofLevels : List ℕ → List ℕ → ℕ → List ℕ
 ofLevels s run zero = []
 ofLevels s run (suc l) = ofLevels s run l ++ ofLevel s run l (countOf s l)
 
--- all fragments
+-- all fragments (RULES M9)
 abbrev pub joined : List ℕ → List ℕ → List ℕ
 joined s run = ofLevels s run (levelsOf s)

@@ -11,7 +11,7 @@ use Rattle.refusal.proofs.Tests.{told-yes}
 use Rattle.sharding.specs.declared.Sharding.{Sharding}
 use Rattle.sharding.specs.Specification.{allowed, minishardCount, shardCount, noSuchShard}
 use Rattle.sharding.specs.Place.{shardOf}
-use Rattle.shard.specs.declared.judge.ShardFault.{ShardFault}
+use Rattle.shard.specs.declared.faults.ShardFault.{ShardFault}
 use Rattle.shard.specs.declared.CheckAnswer.the-variants as C
 use Rattle.shard.specs.Faults.{faultOf, firstFault, shardFault}
 use Rattle.shard.specs.File.{indexPart, dataPart, fileChecks, verdict, checkAnswer}

@@ -1,4 +1,4 @@
--- What calls on a pair answer: 1, 5, 23, and then as for the joined file (02, order 10).
+-- What calls on a pair answer: 1, 5, 23, and then as for the joined file (RULES P2).
 use Prim.Native.Nat.{ℕ, _-_, _≤_}
 use mathlib.Core.Bool.{Bool, not, _||_}
 use mathlib.Core.List.{List, _++_}
@@ -15,6 +15,7 @@ use Rattle.lookup.specs.declared.LookupAnswer.the-variants.{Found, Refused, Fau
 use Rattle.lookup.specs.Find.{lookupAnswer}
 use Rattle.fragment.specs.Fragment.{fragmentAnswer}
 
+-- RULES P2
 unfoldable pub pairCheck : Sharding → ℕ → List ℕ → List ℕ → CheckAnswer
 pairCheck spec shard index d = pairAnswer C.Refused spec (noSuchShard spec shard) index (checkAnswer spec shard (index ++ d))
 
@@ -22,17 +23,18 @@ pairCheck spec shard index d = pairAnswer C.Refused spec (noSuchShard spec shard
 abbrev pub otherShard : Sharding → ℕ → ℕ → Bool
 otherShard spec shard id = noSuchShard spec shard || not (eqb (shardOf spec id) shard)
 
--- the place found is one in the joined file
+-- the place found is one in the joined file (RULES P2)
 unfoldable pub pairLookup : Sharding → ℕ → List ℕ → List ℕ → ℕ → LookupAnswer
 pairLookup spec shard index d id = pairAnswer Refused spec (otherShard spec shard id) index (lookupAnswer spec shard (index ++ d) id)
 
+-- RULES P2
 unfoldable pub pairFragment : Sharding → ℕ → List ℕ → List ℕ → ℕ → ℕ → ℕ → LookupAnswer
 pairFragment spec shard index d id level node =
     pairAnswer Refused spec (otherShard spec shard id) index (fragmentAnswer spec shard (index ++ d) id level node)
 
 -- ---- the part handed out is one of the data file
 
--- an answer with its place counted in the data file, behind an index file of `seam` bytes
+-- an answer with its place counted in the data file, behind an index file of `seam` bytes (RULES P3)
 abbrev pub inData : ℕ → LookupAnswer → LookupAnswer
 inData seam (Found start n) = Found (start - seam) n
 inData seam (Refused number) = Refused number

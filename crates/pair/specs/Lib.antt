@@ -1,2 +1,2 @@
--- Check, lookup and fragments of the earlier two-file edition (02, order 10).
+-- Check, lookup and fragments of the earlier two-file edition (RULES P1 to P3).
 pub mod Answers

@@ -17,7 +17,7 @@ use Rattle.shard.proofs.AfterCheck.{afterCheck}
 use Rattle.shard.proofs.Whole.{check-passes-sound}
 use Rattle.ranges.specs.Covered.{unlistedBytes, fileUnlisted}
 use Rattle.unlisted.specs.declared.UnlistedAnswer.the-variants as U
-use Rattle.unlisted.specs.Reading.{RangedShard}
+use Rattle.stretch.specs.Reading.{RangedShard}
 use Rattle.unlisted.proofs.Counted.{sound-ranged, unlisted-by-check}
 use Rattle.seam.specs.Pair.{pairChecks}
 use Rattle.seam.proofs.Pairs.{seamed-front, seamed-back}

@@ -1,4 +1,4 @@
--- What calls on a pair answer and leave: 1, 5, 23, and then as for the joined file (02, order 10).
+-- What calls on a pair answer and leave: 1, 5, 23, and then as for the joined file (RULES P2).
 use Prim.Native.Nat.{ℕ}
 use mathlib.Core.Bool.{Bool, _||_}
 use mathlib.Core.List.{List, _++_}
@@ -22,10 +22,11 @@ use Rattle.settle.specs.Answers.{lengthAnswer, settleAnswer, settleLeft}
 abbrev pub noMinishard : Sharding → ℕ → ℕ → Bool
 noMinishard spec shard m = noSuchShard spec shard || leb (minishardCount spec) m
 
+-- RULES P2
 unfoldable pub pairCount : Sharding → ℕ → List ℕ → List ℕ → ℕ → CountAnswer
 pairCount spec shard index d m = pairAnswer N.Refused spec (noMinishard spec shard m) index (countAnswer spec shard (index ++ d) m)
 
--- the places listed are those in the joined file
+-- the places listed are those in the joined file (RULES P2)
 unfoldable pub pairListing : Sharding → ℕ → List ℕ → List ℕ → ℕ → List ℕ → CountAnswer
 pairListing spec shard index d m out = pairAnswer N.Refused spec (noMinishard spec shard m) index (listingAnswer spec shard (index ++ d) m out)
 
@@ -34,12 +35,15 @@ pairListingLeft spec shard index d m out = pairAnswer (λ k. out) spec (noMinish
 
 -- ---- unlisted bytes, and the settled form, which is one file
 
+-- RULES P2
 unfoldable pub pairUnlisted : Sharding → ℕ → List ℕ → List ℕ → UnlistedAnswer
 pairUnlisted spec shard index d = pairAnswer U.Refused spec (noSuchShard spec shard) index (unlistedAnswer spec shard (index ++ d))
 
+-- RULES P2
 unfoldable pub pairLength : Sharding → ℕ → List ℕ → List ℕ → Bool → SettleAnswer
 pairLength spec shard index d dropping = pairAnswer S.Refused spec (noSuchShard spec shard) index (lengthAnswer spec shard (index ++ d) dropping)
 
+-- RULES P2
 unfoldable pub pairSettle : Sharding → ℕ → List ℕ → List ℕ → Bool → List ℕ → SettleAnswer
 pairSettle spec shard index d dropping out = pairAnswer S.Refused spec (noSuchShard spec shard) index (settleAnswer spec shard (index ++ d) dropping out)
 

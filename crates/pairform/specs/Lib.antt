@@ -1,2 +1,2 @@
--- Listing, unlisted bytes and settling of the earlier two-file edition (02, order 10).
+-- Listing, unlisted bytes and settling of the earlier two-file edition (RULES P2).
 pub mod Answers

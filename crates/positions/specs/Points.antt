@@ -1,4 +1,4 @@
--- What the position of a refusal points at (02, orders 6 and 7): for 7 and 8 the index entry, for 9 and 10 the id step of the first offending
+-- What the position of a refusal points at (RULES R4): for 7 and 8 the index entry, for 9 and 10 the id step of the first offending
 -- entry, for 11, 15, 16, 17 and 21 its start step.
 use Prim.Native.Nat.{ℕ, _+_, _*_, _≤_, _<_}
 use mathlib.Core.Path.{_≡_}
@@ -54,7 +54,7 @@ pub data Offending (spec : Sharding) (shard : ℕ) (file d : List ℕ) (m s e n 
   seventeen : isMesh spec ≡ true → k ≡ 17 → AtStartStep spec file d s n (unorderedNodes d s n) p → Offending spec shard file d m s e n k p
   twentyone : isMesh spec ≡ true → k ≡ 21 → AtStartStep spec file d s n (fragmentsOutside d s n) p → Offending spec shard file d m s e n k p
 
--- it lies within the file, which has an allowed length
+-- it lies within the file, which has an allowed length (RULES R4)
 pub record PointsFrom (spec : Sharding) (shard : ℕ) (file : List ℕ) (m k p : ℕ) (d : List ℕ) (s e : ℕ) : Type 0 where
   pub within : p + 8 ≤ length file
   pub short : length file ≤ mostShardBytes

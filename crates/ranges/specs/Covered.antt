@@ -43,6 +43,6 @@ coveredAt spec index d p = coveredIn spec index d (minishardCount spec) p
 unfoldable pub unlistedBytes : Sharding → List ℕ → List ℕ → ℕ
 unlistedBytes spec index d = misses (coveredAt spec index d) (length d)
 
--- of a file
+-- of a file (RULES U4)
 abbrev pub fileUnlisted : Sharding → List ℕ → ℕ
 fileUnlisted spec file = unlistedBytes spec (indexPart spec file) (dataPart spec file)

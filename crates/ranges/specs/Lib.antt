@@ -1,3 +1,3 @@
--- The ranges of a shard, and its unlisted bytes (02, orders 8, 12 and 13).
+-- The ranges of a shard, and its unlisted bytes (RULES U4).
 pub mod Ranges
 pub mod Covered

@@ -1,4 +1,4 @@
--- The ranges of a shard: the chunks that it lists, what is kept unlisted right before each, and its minishard indexes (02, orders 8, 12 and 13).
+-- The ranges of a shard: the chunks that it lists, what is kept unlisted right before each, and its minishard indexes (RULES U4).
 -- Positions count from the end of the shard index, as starts do: position p is byte `length index + p` of the file.
 use Prim.Native.Nat.{ℕ, _-_, _≤_, _<_}
 use mathlib.Core.List.{List}
@@ -57,7 +57,7 @@ pub record Listed (spec : Sharding) (index d : List ℕ) (p : ℕ) : Type 0 wher
   pub range : Range
   pub lies : LiesIn spec index d range p
 
--- "An unlisted byte lies past the shard index in no listed chunk, no fragment and no nonempty minishard index."
+-- "An unlisted byte lies past the shard index in no listed chunk, no fragment and no nonempty minishard index." (RULES U4)
 pub record Unlisted (spec : Sharding) (index d : List ℕ) (p : ℕ) : Type 0 where
   pub within : p < length d
   pub apart : (range : Range) → LiesIn spec index d range p → ⊥

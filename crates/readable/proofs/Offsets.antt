@@ -13,10 +13,10 @@ use Rattle.refusal.specs.Choice.{pick}
 use Rattle.segmentation.specs.declared.Shape.{Shape}
 use Rattle.segmentation.specs.Words.{word}
 use Rattle.segmentation.specs.Layout.{across, down, deep, widthIn, isWidth}
-use Rattle.readable.specs.Checks.{greatest, blockCount, headerRefusal, channelHeaders, headersRefusal}
-use Rattle.readable.specs.Seen.{Seen, Sees, Blank}
+use Rattle.packed.specs.Checks.{greatest, blockCount, headerRefusal, channelHeaders, headersRefusal}
+use Rattle.seen.specs.Seen.{Seen, Sees, Blank}
 use Rattle.segmentation.proofs.Asked.{whole-yes, whole-no}
-use Rattle.readable.proofs.Greatest.{within-or-past, greatest-step, le-greatest, greatest-le, greatest-is, greatest-same, greatest-at}
+use Rattle.packed.proofs.Greatest.{within-or-past, greatest-step, le-greatest, greatest-le, greatest-is, greatest-same, greatest-at}
 
 -- ---- how many blocks there are
 

@@ -15,14 +15,14 @@ use Rattle.segmentation.specs.Words.{word}
 use Rattle.segmentation.specs.Layout.{noVoxels, outside, across, down, deep, blockNumber, placeNumber, widthIn, isWidth}
 use Rattle.segmentation.specs.Labels.{labelWords, labelAnswer}
 use Rattle.segmentation.specs.Steps.{valueAnswer, blockAnswer, channelAnswer, voxelAnswer}
-use Rattle.readable.specs.Voxels.{refusalIn, Within, someRefused, chunkRefusal, AllReadable}
-use Rattle.readable.specs.Checks.{greatest, insideOf, blockCount, headerRefusal, channelHeaders, headersRefusal, placeRefusal, voxelsRefusal, blockRefusal, blocksRefusal}
+use Rattle.packed.specs.Voxels.{refusalIn, Within, someRefused, chunkRefusal, AllReadable}
+use Rattle.packed.specs.Checks.{greatest, insideOf, blockCount, headerRefusal, channelHeaders, headersRefusal, placeRefusal, voxelsRefusal, blockRefusal, blocksRefusal}
 use Rattle.segmentation.proofs.Stepwise.{stepwise}
 use Rattle.segmentation.proofs.Asked.{some-voxels, whole-yes, whole-no}
-use Rattle.readable.proofs.Greatest.{within-or-past, le-greatest, greatest-le, greatest-at}
+use Rattle.packed.proofs.Greatest.{within-or-past, le-greatest, greatest-le, greatest-at}
 use Rattle.readable.proofs.Offsets.{header-good-whole, header-good-width, channel-past, channel-within, channel-most, channel-least, each-whole, each-width, offset-whole, headers-none}
-use Rattle.readable.proofs.Mild.{Mild, value-mild, greatest-mild, channel-mild, place-row, row-layer, layer-voxels, block-channel, channel-blocks, voxels-at, layer-at, row-at, channel-found, blocks-found}
-use Rattle.readable.proofs.Inside.{voxel-in, voxel-block, voxel-place, block-in, place-in, number-below, number-column, number-layer, number-line, number-again, inside-x, inside-y, inside-z}
+use Rattle.packed.proofs.Mild.{Mild, value-mild, greatest-mild, channel-mild, place-row, row-layer, layer-voxels, block-channel, channel-blocks, voxels-at, layer-at, row-at, channel-found, blocks-found}
+use Rattle.packed.proofs.Inside.{voxel-in, voxel-block, voxel-place, block-in, place-in, number-below, number-column, number-layer, number-line, number-again, inside-x, inside-y, inside-z}
 
 -- ---- one block by its header
 

@@ -2,13 +2,13 @@
 ghost use mathlib.Core.Path.{_≡_};
 ghost use mathlib.Core.Bool.{false};
 ghost use Rattle.segmentation.specs.Layout.{noVoxels};
-ghost use Rattle.readable.specs.Voxels.{chunkRefusal};
-ghost use Rattle.readable.specs.Checks.{span};
-ghost use Rattle.readable.specs.Seen.{Blank};
+ghost use Rattle.packed.specs.Voxels.{chunkRefusal};
+ghost use Rattle.packed.specs.Checks.{span};
+ghost use Rattle.seen.specs.Seen.{Blank};
 use crate::blocks::blocks_refusal;
 use crate::headers::headers_refusal;
-use crate::seen::MAP_WORDS;
-use crate::seen::clear;
+use seen::inner::MAP_WORDS;
+use seen::inner::clear;
 use segmentation::Shape;
 use segmentation::inner::linear;
 

@@ -2,4 +2,3 @@
 mod blocks;
 mod headers;
 pub mod inner;
-mod seen;

@@ -7,11 +7,11 @@ use Rattle.refusal.specs.Checks.{Check, check, answered, left}
 use Rattle.refusal.specs.declared.Written.{Written}
 use Rattle.refusal.specs.declared.Written.the-variants.{Length, Refused}
 
--- refusal 13: "the output is too short for the whole answer"
+-- refusal 13: "the output is too short for the whole answer" (RULES R5)
 abbrev pub room : {A : Type 0} → List A → List A → Check
 room s out = check 13 (ltb (length out) (length s))
 
--- s at the front, and past it what was there
+-- s at the front, and past it what was there (RULES R5)
 abbrev pub over : {A : Type 0} → List A → List A → List A
 over s out = s ++ drop (length s) out
 

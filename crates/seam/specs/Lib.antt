@@ -1,3 +1,3 @@
--- The earlier two-file edition of a shard (02, order 10).
+-- The earlier two-file edition of a shard (RULES P1, P4, P5).
 pub mod Pair
 pub mod Range

@@ -1,5 +1,5 @@
 -- A shard of the earlier edition: "a separate <shard>.index file (containing the \"shard index\") and a <shard>.data file (containing the remaining
--- data)" (source 002). It is treated "as their concatenation, without joining them" (02, order 10); the seam is where the index file ends.
+-- data)" (source 002). It is treated "as their concatenation, without joining them" (RULES P1); the seam is where the index file ends.
 use Prim.Native.Nat.{ℕ}
 use mathlib.Core.Bool.{Bool, not}
 use mathlib.Core.List.{List, [], _∷_, _++_}
@@ -10,11 +10,11 @@ use Rattle.sharding.specs.declared.Sharding.{Sharding}
 use Rattle.sharding.specs.Specification.{allowed}
 use Rattle.shard.specs.File.{indexLength, badFileLength}
 
--- 23: "the index file is not exactly as long as the shard index"
+-- 23: "the index file is not exactly as long as the shard index" (RULES P1)
 unfoldable pub badSeam : Sharding → List ℕ → Bool
 badSeam spec index = not (eqb (length index) (indexLength spec))
 
--- 1, 5 and "23 [..] right after 5" of a call on a pair; what 5 is depends on the call
+-- 1, 5 and "23 [..] right after 5" of a call on a pair; what 5 is depends on the call (RULES P1)
 unfoldable pub pairChecks : Sharding → Bool → List ℕ → List Check
 pairChecks spec five index = check 1 (not (allowed spec)) ∷ check 5 five ∷ check 23 (badSeam spec index) ∷ []
 

@@ -1,4 +1,4 @@
--- "a byte range of the joined file" (02, order 10), end excluded: "that part of the index file or of the data file, whichever holds it. An empty
+-- "a byte range of the joined file" (RULES P4), end excluded: "that part of the index file or of the data file, whichever holds it. An empty
 -- range at the seam belongs to the data file."
 use Prim.Native.Nat.{ℕ, _+_, _-_, _≤_, _<_}
 use mathlib.Core.Bool.{Bool, not, _||_, _&&_}
@@ -14,7 +14,7 @@ use Rattle.seam.specs.declared.RangeAnswer.{RangeAnswer}
 use Rattle.seam.specs.declared.RangeAnswer.the-variants.{InIndex, InData, Refused}
 use Rattle.seam.specs.Pair.{badSeam}
 
--- 24 of a joined file of n bytes: "a range crosses the seam, is reversed or passes the end"
+-- 24 of a joined file of n bytes: "a range crosses the seam, is reversed or passes the end" (RULES P4)
 unfoldable pub badRange : ℕ → ℕ → ℕ → ℕ → Bool
 badRange seam n start end = (ltb start seam && ltb seam end) || (ltb end start || ltb n end)
 
@@ -27,10 +27,11 @@ rangeChecks spec index d start end =
     ∷ check 24 (badRange (length index) (length (index ++ d)) start end)
     ∷ []
 
--- which file holds a range that crosses nothing, where in it, and how long it is: from the seam on it is the data file
+-- which file holds a range that crosses nothing, where in it, and how long it is: from the seam on it is the data file (RULES P4)
 unfoldable pub heldRange : ℕ → ℕ → ℕ → RangeAnswer
 heldRange seam start end = pick (ltb start seam) (InIndex start (end - start)) (InData (start - seam) (end - start))
 
+-- RULES P4
 unfoldable pub rangeAnswer : Sharding → List ℕ → List ℕ → ℕ → ℕ → RangeAnswer
 rangeAnswer spec index d start end = answered Refused (rangeChecks spec index d start end) (heldRange (length index) start end)
 
@@ -46,6 +47,7 @@ either (InIndex start n) index d = index
 either (InData start n) index d = d
 either (Refused number) index d = d
 
+-- RULES P5
 abbrev pub rangeStart : RangeAnswer → ℕ
 rangeStart (InIndex start n) = start
 rangeStart (InData start n) = start
@@ -56,6 +58,7 @@ rangeLength (InIndex start n) = n
 rangeLength (InData start n) = n
 rangeLength (Refused number) = 0
 
+-- RULES P5
 abbrev pub rangeBytes : RangeAnswer → List ℕ → List ℕ → List ℕ
 rangeBytes a index d = take (rangeLength a) (drop (rangeStart a) (either a index d))
 

@@ -18,14 +18,10 @@ use Rattle.refusal.proofs.Picks.{by-picks}
 use Rattle.refusal.proofs.Refusing.{answered-both}
 use Rattle.refusal.proofs.Positions.{Plain, at-both, at-plain}
 use Rattle.sharding.specs.declared.Sharding.{Sharding}
-use Rattle.sharding.specs.Specification.{noSuchShard}
-use Rattle.shard.specs.declared.CheckAnswer.{CheckAnswer}
-use Rattle.shard.specs.declared.CheckAnswer.the-variants.{Sound, Refused as CheckRefused, Faulty as CheckFaulty}
-use Rattle.shard.specs.Faults.{shardFault}
 use Rattle.index.specs.Index.{mostShardBytes}
-use Rattle.shard.specs.File.{indexPart, dataPart, fileChecks, shardChecks, checkAnswer}
+use Rattle.shard.specs.File.{indexPart, dataPart, shardChecks, checkAnswer}
 use Rattle.shard.specs.Sound.{SoundShard}
-use Rattle.shard.proofs.Numbers.{shard-in, shard-answer}
+use Rattle.shard.proofs.Numbers.{shard-in}
 use Rattle.shard.proofs.Whole.{sound-passes-check}
 use Rattle.shard.proofs.AfterCheck.{afterCheck, by-check}
 use Rattle.ranges.specs.Covered.{unlistedBytes, fileUnlisted}

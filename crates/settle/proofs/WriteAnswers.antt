@@ -23,7 +23,7 @@ use Rattle.shard.proofs.Leads.{sound-led}
 use Rattle.shard.proofs.Split.{restOf, rest-whole}
 use Rattle.shard.proofs.AfterCheck.{passed-sound, passed-allowed, passed-held, passed-front}
 use Rattle.ranges.specs.Covered.{unlistedBytes}
-use Rattle.unlisted.specs.Reading.{RangedShard}
+use Rattle.stretch.specs.Reading.{RangedShard}
 use Rattle.unlisted.proofs.Counted.{sound-ranged}
 use Rattle.form.specs.Content.{formOf, formLength}
 use Rattle.minishard.specs.Writing.{capped}

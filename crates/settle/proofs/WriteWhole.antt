@@ -27,8 +27,8 @@ use Rattle.form.specs.Content.{itemsAt, itemsOf, byId, contentFrom, contentOf, 
 use Rattle.settle.specs.Writing.{Settleable, SettleableIn, SettleableParts, SettleableShard, oneLength, wholeLength, entryBytes}
 use Rattle.form.proofs.Measures.{length-part, length-items, chunks-by-id, length-by-id, part-by-id, length-shard-index, length-content-from, length-content}
 use Rattle.minishard.specs.Writing.{Readable, LeadsIn, Apart, minishardLength, capped}
-use Rattle.minishard.proofs.StoredRows.{items-none, items-all}
-use Rattle.minishard.proofs.Copying.{paste-both}
+use Rattle.stored.proofs.StoredRows.{items-none, items-all}
+use Rattle.sorted.proofs.Copying.{paste-both}
 
 -- ---- one minishard and its entry
 

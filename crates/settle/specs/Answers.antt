@@ -1,5 +1,5 @@
 -- What settling answers and leaves: the refusals of the check, with their position, then 22 unless the caller asks to drop unlisted bytes, then 13
--- (01, 'Refusal numbers'; 02, orders 6 and 8).
+-- (RULES U5, U6).
 use Prim.Native.Nat.{ℕ}
 use mathlib.Core.Bool.{Bool, not, _||_, _&&_}
 use mathlib.Core.List.{List, [], _∷_, _++_}
@@ -28,7 +28,7 @@ answerOf (NotWritten k) = Refused k
 unfoldable pub losesBytes : Sharding → List ℕ → List ℕ → Bool → Bool
 losesBytes spec index d dropping = not dropping && ltb 0 (unlistedBytes spec index d)
 
--- "22 unlisted bytes, after the check and before 13"
+-- "22 unlisted bytes, after the check and before 13" (RULES U5)
 unfoldable pub unlistedCheck : Sharding → List ℕ → List ℕ → Bool → Check
 unlistedCheck spec index d dropping = check 22 (losesBytes spec index d dropping)
 
@@ -60,6 +60,7 @@ lengthChecks spec shard file dropping =
     shardChecks spec shard file
     ++ (unlistedCheck spec (indexPart spec file) (dataPart spec file) dropping ∷ lengthCheck spec (indexPart spec file) (dataPart spec file) ∷ [])
 
+-- RULES U6
 unfoldable pub lengthAnswer : Sharding → ℕ → List ℕ → Bool → SettleAnswer
 lengthAnswer spec shard file dropping = answeredAt Refused Faulty (lengthChecks spec shard file dropping) (Length (fileFormLength spec file))
 
@@ -68,8 +69,10 @@ settleChecks spec shard file dropping out =
     shardChecks spec shard file
     ++ (unlistedCheck spec (indexPart spec file) (dataPart spec file) dropping ∷ settleCheck spec (indexPart spec file) (dataPart spec file) out ∷ [])
 
+-- RULES U5
 unfoldable pub settleAnswer : Sharding → ℕ → List ℕ → Bool → List ℕ → SettleAnswer
 settleAnswer spec shard file dropping out = answeredAt Refused Faulty (settleChecks spec shard file dropping out) (Length (fileFormLength spec file))
 
+-- RULES U5
 unfoldable pub settleLeft : Sharding → ℕ → List ℕ → Bool → List ℕ → List ℕ
 settleLeft spec shard file dropping out = left (settleChecks spec shard file dropping out) (over (fileForm spec file) out) out

@@ -1,3 +1,3 @@
--- Settling (01, 'Settled form').
+-- Settling (RULES U5, U6).
 pub mod Answers
 pub mod Writing

@@ -7,7 +7,7 @@ ghost use Rattle.refusal.specs.Buffer.{over};
 ghost use Rattle.endian.specs.Little.{row};
 ghost use Rattle.endian.specs.Place.{paste};
 ghost use Rattle.index.specs.Index.{mostShardBytes};
-ghost use Rattle.unlisted.specs.Reading.{RangedShard};
+ghost use Rattle.stretch.specs.Reading.{RangedShard};
 ghost use Rattle.form.specs.Form.{partOf, settled};
 ghost use Rattle.form.specs.Content.{itemsOf, byId, contentFrom, formOf, formLength};
 ghost use Rattle.minishard.specs.Writing.{capped};
@@ -17,11 +17,11 @@ use endian::inner::put_u64;
 use endian::inner::read_u64;
 use minishard::inner::add_capped;
 use minishard::inner::part_length;
-use minishard::inner::settle_part;
 use refusal::Written;
 use shard::inner::MOST_SHARD_BYTES;
 use sharding::Sharding;
 use sharding::inner::minishard_count;
+use sorted::inner::settle_part;
 use unlisted::inner::unlisted;
 
 // ---- one minishard

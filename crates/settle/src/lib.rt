@@ -3,9 +3,9 @@ pub mod inner;
 
 ghost use mathlib.Core.Path.{_≡_};
 ghost use Rattle.settle.specs.Answers.{answerOf, lengthAnswer, settleAnswer, settleLeft};
+use inspect::check;
 use refusal::Written;
 use shard::CheckAnswer;
-use shard::check::check;
 use shard::inner::index_length;
 use sharding::Sharding;
 

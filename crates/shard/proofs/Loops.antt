@@ -7,13 +7,13 @@ use native.Mathlib.Numerals.{add-one}
 use native.Mathlib.Omega.{arith}
 use lib.ListN.{length}
 use borrow.Author.Tests.{ne-eqb}
-use Rattle.endian.specs.Little.{leAt, rowAt}
+use Rattle.endian.specs.Little.{leAt}
 use Rattle.endian.specs.Range.{first}
 use Rattle.twice.specs.Twice.{firstTwice}
 use Rattle.sharding.specs.declared.Sharding.{Sharding}
 use Rattle.index.specs.declared.Fault.{Fault}
-use Rattle.shard.specs.declared.judge.ShardFault.{ShardFault}
-use Rattle.index.specs.Index.{entryStart, entryEnd, entryCount, idSteps}
+use Rattle.shard.specs.declared.faults.ShardFault.{ShardFault}
+use Rattle.index.specs.Index.{entryStart, entryEnd, entryCount, idSteps, startSteps, sizes}
 use Rattle.index.specs.Tests.{EntryTest, entryTest, entryPlace, rowPlace, firstOf, fault}
 use Rattle.shard.specs.Faults.{foreign, foreignAt, outside, idTest, placeTest, endTest, meshTests, entryTests, faultOf, faultAt, noFault, orLater, firstFault}
 use Rattle.index.proofs.Tests.{test-passed, test-failed}
@@ -95,13 +95,13 @@ module _ {f : ℕ → Fault} {from to m n : ℕ} (base : ℕ) where
   end-place spec shard d s u r w l e o q t = end-entry 9 u (omega arith) r (ours-hit spec shard m w l e o q t) l
 
   -- 11: its chunk starts past the file, or ends past it
-  module _ (d : List ℕ) (s t len : ℕ) {q : ℕ} (row : q ≡ s + 8 * n) {ts : List EntryTest} {i end x v z : ℕ} {y : ShardFault} (u : y ≡ faultIn 11 m (base + q + 8 * i))
-      (r : Testing f from to m (base + s) n (entryTest 11 1 (outside len (rowAt d q) (rowAt d t)) ∷ ts)) (w : Span (rowAt d q) (rowAt d t) len n i end) (l : i < n)
-      (e : x ≡ leAt 8 d (q + 8 * i)) (o : v ≡ (end + x) % 2 ^ 64) (g : z ≡ leAt 8 d (t + 8 * i)) where
-    pub end-start : len < v → y ≡ firstFault f from (to - from)
+  module _ (d : List ℕ) (s : ℕ) {q : ℕ} (row : q ≡ s + 8 * n) {ts : List EntryTest} {i end x v z : ℕ} {y : ShardFault} (u : y ≡ faultIn 11 m (base + q + 8 * i))
+      (r : Testing f from to m (base + s) n (endTest d s n ∷ ts)) (w : Span (startSteps d s n) (sizes d s n) (length d) n i end) (l : i < n)
+      (e : x ≡ startSteps d s n i) (o : v ≡ (end + x) % 2 ^ 64) (g : z ≡ sizes d s n i) where
+    pub end-start : length d < v → y ≡ firstFault f from (to - from)
     end-start h = end-entry 10 u (omega arith) r (span-start-past w l e o g h) l
 
-    pub end-size : v ≤ len → len - v < z → y ≡ firstFault f from (to - from)
+    pub end-size : v ≤ length d → length d - v < z → y ≡ firstFault f from (to - from)
     end-size h k = end-entry 10 u (omega arith) r (span-past w l e o g h k) l
 
 -- ---- the entry of m in the shard index

@@ -1,5 +1,5 @@
 -- Ids, starts and the tests 9 and 11 as they were before order 2: exact sums, and ids that rise. No code uses them. They are kept to say
--- that a shard that passed then, of a volume as all were, passes now (02, orders 2 and 7).
+-- that a shard that passed then, of a volume as all were, passes now (RULES F16).
 use Prim.Native.Nat.{ℕ, zero, suc, _+_, _^_}
 use mathlib.Core.Path.{_≡_}
 use mathlib.Core.Bool.{Bool, _||_}
@@ -61,7 +61,7 @@ shardChecksBefore spec shard file =
     fileChecks spec (noSuchShard spec shard) file
     ++ minishardsChecksBefore spec shard (indexPart spec file) (dataPart spec file) 0 (minishardCount spec)
 
--- none of them held: the shard passed; there was no mesh (02, order 7)
+-- none of them held: the shard passed; there was no mesh (RULES F16)
 pub record PassedBefore (spec : Sharding) (shard : ℕ) (file : List ℕ) : Type 0 where
   pub volumes : spec .kind ≡ volume
   pub none : firstNumber (shardChecksBefore spec shard file) ≡ 0

@@ -1,4 +1,4 @@
--- The tests of minishards as checks of a call (01, 'Refusal numbers': lower numbers first; within a minishard each test runs over all
+-- The tests of minishards as checks of a call (RULES F12, F13: lower numbers first; within a minishard each test runs over all
 -- entries before the next, and 7 to 11, for a mesh also 15 to 17 and 21, are finished for one minishard before the next).
 use Prim.Native.Nat.{ℕ, zero, suc, _+_}
 use mathlib.Core.List.{List, [], _∷_, _++_}

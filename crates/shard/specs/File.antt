@@ -1,4 +1,4 @@
--- A shard as one file, and the verdict of the whole-shard check (01, 'Refusal numbers', 1, 5, 6, then by minishards 7 to 11, for a
+-- A shard as one file, and the verdict of the whole-shard check (RULES F13: 1, 5, 6, then by minishards 7 to 11, for a
 -- mesh also 15 to 17 and 21).
 use Prim.Native.Nat.{ℕ, _*_}
 use mathlib.Core.Bool.{Bool, not, _||_}
@@ -9,13 +9,13 @@ use Rattle.refusal.specs.Checks.{Check, check, unless, answered}
 use Rattle.sharding.specs.declared.Sharding.{Sharding}
 use Rattle.sharding.specs.Specification.{allowed, minishardCount, noSuchShard}
 use Rattle.index.specs.Index.{mostShardBytes}
-use Rattle.shard.specs.declared.judge.ShardFault.{ShardFault}
+use Rattle.shard.specs.declared.faults.ShardFault.{ShardFault}
 use Rattle.shard.specs.declared.CheckAnswer.{CheckAnswer}
 use Rattle.shard.specs.declared.CheckAnswer.the-variants.{Sound, Refused, Faulty}
 use Rattle.shard.specs.Faults.{shardFault}
 use Rattle.shard.specs.Checks.{minishardsChecks}
 
--- the shard index has a start and an end, of 8 bytes each, for each minishard
+-- the shard index has a start and an end, of 8 bytes each, for each minishard (RULES F1)
 abbrev pub indexLength : Sharding → ℕ
 indexLength spec = 16 * minishardCount spec
 
@@ -26,7 +26,7 @@ indexPart spec file = take (indexLength spec) file
 abbrev pub dataPart : Sharding → List ℕ → List ℕ
 dataPart spec file = drop (indexLength spec) file
 
--- refusal 6 of a file of n bytes
+-- refusal 6 of a file of n bytes (RULES F1)
 unfoldable pub badFileLength : Sharding → ℕ → Bool
 badFileLength spec n = ltb n (indexLength spec) || ltb mostShardBytes n
 
@@ -44,10 +44,11 @@ shardChecks spec shard file =
 
 -- ---- the whole-shard check
 
--- what it says of the first fault: 7 to 11, for a mesh also 15 to 17 and 21, come with the minishard and the position (02, orders 6 and 7)
+-- what it says of the first fault: 7 to 11, for a mesh also 15 to 17 and 21, come with the minishard and the position (RULES R3)
 abbrev pub verdict : ShardFault → CheckAnswer
 verdict f = unless (λ k. Faulty k (f .minishard) (f .position)) (f .number) Sound
 
+-- RULES F13
 unfoldable pub checkAnswer : Sharding → ℕ → List ℕ → CheckAnswer
 checkAnswer spec shard file =
     answered Refused (fileChecks spec (noSuchShard spec shard) file)

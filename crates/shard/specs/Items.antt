@@ -1,4 +1,4 @@
--- What an entry of a minishard index lists: an item (01, 'From id to shard').
+-- What an entry of a minishard index lists: an item (RULES F15).
 use Prim.Native.Nat.{ℕ, _-_, _≤_}
 use mathlib.Core.Path.{_≡_}
 use mathlib.Core.Bool.{Bool, true, false}
@@ -18,7 +18,7 @@ pub record Item : Type 0 where
   pub body : List ℕ
 
 -- how many bytes right before a chunk go with it: none in a volume; in a mesh a manifest's fragments, "the bytes before it, as many as the sum of
--- its sizes" (02, order 7)
+-- its sizes" (RULES M9)
 unfoldable pub leadLength : Sharding → List ℕ → ℕ
 leadLength spec body = pick (isMesh spec) (fragmentsLength body) 0
 
@@ -29,7 +29,7 @@ itemOf spec d id start size =
     let k = leadLength spec body in
     record { id = id; lead = take k (drop (start - k) d); body = body }
 
--- entry i of the minishard index of n entries at s
+-- entry i of the minishard index of n entries at s (RULES F15)
 unfoldable pub itemAt : Sharding → List ℕ → ℕ → ℕ → ℕ → Item
 itemAt spec d s n i = itemOf spec d (idAt (idSteps d s) i) (startAt (startSteps d s n) (sizes d s n) i) (sizes d s n i)
 

@@ -1,4 +1,4 @@
--- Reading shards (01, 'From id to shard'; source 002).
+-- Reading shards (RULES F1 to F15).
 pub mod Faults
 pub mod Checks
 pub mod File

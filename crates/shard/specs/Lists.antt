@@ -1,4 +1,4 @@
--- What a sound shard lists (01, 'From id to shard'): items, in whatever order they stand.
+-- What a sound shard lists (RULES F15): items, in whatever order they stand.
 use Prim.Native.Nat.{ℕ, _<_}
 use mathlib.Core.Path.{_≡_}
 use mathlib.Core.Logic.{_↔_}
@@ -28,13 +28,13 @@ pub record ListsItem (spec : Sharding) (index d : List ℕ) (m : ℕ) (item : It
   pub among : entry < entryCount (entryStart index m) (entryEnd index m)
   pub listed : itemAt spec d (entryStart index m) (entryCount (entryStart index m) (entryEnd index m)) entry ≡ item
 
--- the shard does
+-- the shard does (RULES F15)
 pub record Lists (spec : Sharding) (file : List ℕ) (item : Item) : Type 0 where
   pub minishard : ℕ
   pub below : minishard < minishardCount spec
   pub lists : ListsItem spec (indexPart spec file) (dataPart spec file) minishard item
 
--- two shards list the same
+-- two shards list the same (RULES F15)
 abbrev pub SameListing : Sharding → List ℕ → List ℕ → Type 0
 SameListing spec a b = (item : Item) → Lists spec a item ↔ Lists spec b item
 
@@ -46,6 +46,6 @@ pub record ListsChunk (spec : Sharding) (file : List ℕ) (id : ℕ) (bytes : Li
   pub below : minishard < minishardCount spec
   pub lists : ListsIn (indexPart spec file) (dataPart spec file) minishard id bytes
 
--- two shards list the same pairs
+-- two shards list the same pairs (RULES F15)
 abbrev pub SameChunks : Sharding → List ℕ → List ℕ → Type 0
 SameChunks spec a b = (id : ℕ) (bytes : List ℕ) → ListsChunk spec a id bytes ↔ ListsChunk spec b id bytes

@@ -1,4 +1,4 @@
--- Which shards are sound (01, 'From id to shard'; of meshes 02, order 7), said of all entries: the check passes exactly these.
+-- Which shards are sound (RULES F14, of meshes M10), said of all entries: the check passes exactly these.
 use Prim.Native.Nat.{ℕ, _-_, _%_, _≤_, _<_}
 use mathlib.Core.Path.{_≡_}
 use mathlib.Core.Bool.{true}
@@ -16,7 +16,7 @@ use Rattle.nodes.specs.Nodes.{fragmentsLength}
 use Rattle.shard.specs.Checks.{minishardChecks}
 use Rattle.shard.specs.File.{indexLength, indexPart, dataPart, fileChecks}
 
--- none of 7 to 11, for a mesh also none of 15 to 17 and 21, holds of minishard m, whose minishard index stands in d from s to e
+-- none of 7 to 11, for a mesh also none of 15 to 17 and 21, holds of minishard m, whose minishard index stands in d from s to e (RULES F6, F14)
 pub record SoundFrom (spec : Sharding) (shard m : ℕ) (d : List ℕ) (s e : ℕ) : Type 0 where
   -- 7: the start is not after the end; where it is before it, the end is within the file
   pub ordered : s ≤ e
@@ -39,7 +39,7 @@ pub record SoundFrom (spec : Sharding) (shard m : ℕ) (d : List ℕ) (s e : ℕ
 abbrev pub SoundMinishard : Sharding → ℕ → List ℕ → List ℕ → ℕ → Type 0
 SoundMinishard spec shard index d m = SoundFrom spec shard m d (entryStart index m) (entryEnd index m)
 
--- nor does 1, 5 or 6, and each minishard is sound
+-- nor does 1, 5 or 6, and each minishard is sound (RULES F14)
 pub record SoundShard (spec : Sharding) (shard : ℕ) (file : List ℕ) : Type 0 where
   pub permitted : allowed spec ≡ true
   pub numbered : shard < shardCount spec

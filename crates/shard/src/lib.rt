@@ -1,7 +1,6 @@
-// A shard: its layout, the judge of its minishards, the whole-shard check.
-pub mod check;
+// A shard: its layout, the leads of its chunks, what its judge is made of, what the whole-shard check answers.
+pub mod faults;
 pub mod inner;
-pub mod judge;
 
 // What the whole-shard check answers: 7 to 11, for a mesh also 15 to 17 and 21, come with the first faulty minishard and the byte
 // position of what is wrong there, counted from the beginning of the shard.

@@ -25,13 +25,14 @@ placesChecks spec ids shards minishards =
     ∷ room (minishardsOf spec ids) minishards
     ∷ []
 
--- how many places there are
+-- how many places there are (RULES S8)
 unfoldable pub placesAnswer : Sharding → List ℕ → List ℕ → List ℕ → Written
 placesAnswer spec ids shards minishards = answered Refused (placesChecks spec ids shards minishards) (Length (length ids))
 
--- what the lent shards then hold, and the lent minishards
+-- what the lent shards then hold, and the lent minishards (RULES S8)
 unfoldable pub shardsLeft : Sharding → List ℕ → List ℕ → List ℕ → List ℕ
 shardsLeft spec ids shards minishards = left (placesChecks spec ids shards minishards) (over (shardsOf spec ids) shards) shards
 
+-- RULES S8
 unfoldable pub minishardsLeft : Sharding → List ℕ → List ℕ → List ℕ → List ℕ
 minishardsLeft spec ids shards minishards = left (placesChecks spec ids shards minishards) (over (minishardsOf spec ids) minishards) minishards

@@ -1,5 +1,5 @@
 -- Which specifications were allowed before order 4: those with at most 12 minishard bits, of volumes, since there was no other kind. No code
--- uses this. It is kept to say that what was allowed then is allowed now and is answered as it was (02, orders 4 and 7).
+-- uses this. It is kept to say that what was allowed then is allowed now and is answered as it was (RULES S9).
 use Prim.Native.Nat.{ℕ}
 use mathlib.Core.Bool.{Bool, not, _||_}
 use lib.Dec.{ltb, eqb}
@@ -9,6 +9,7 @@ use Rattle.sharding.specs.Specification.{mostPreshift, mostShardBits, id
 abbrev pub mostMinishardBitsBefore : ℕ
 mostMinishardBitsBefore = 12
 
+-- RULES S9
 unfoldable pub allowedBefore : Sharding → Bool
 allowedBefore spec =
     not

@@ -1,4 +1,4 @@
--- The sharding specification, by the numbers of a card, in which the kind of a volume has no field, and which ones are allowed (01, 'Refusal numbers', 1).
+-- The sharding specification, by the numbers of a card, in which the kind of a volume has no field, and which ones are allowed (RULES S1).
 use Prim.Native.Nat.{ℕ, _^_, _≤_}
 use mathlib.Core.Path.{_≡_}
 use mathlib.Core.Bool.{Bool, not, _||_}
@@ -10,21 +10,21 @@ use Rattle.sharding.specs.declared.Sharding.{Sharding}
 abbrev pub mostPreshift : ℕ
 mostPreshift = 63
 
--- 02, order 4; 12 before it
+-- RULES S1; 12 before order 4
 abbrev pub mostMinishardBits : ℕ
 mostMinishardBits = 16
 
 abbrev pub mostShardBits : ℕ
 mostShardBits = 32
 
--- the two hashes, by their numbers in a card (01, 'Deposit card', tag 2)
+-- the two hashes, by their numbers in a card (RULES S1)
 abbrev pub identity : ℕ
 identity = 0
 
 abbrev pub murmur : ℕ
 murmur = 1
 
--- the two kinds, by their numbers at the border (02, order 7)
+-- the two kinds, by their numbers at the border (RULES S1)
 abbrev pub volume : ℕ
 volume = 0
 
@@ -42,7 +42,7 @@ abbrev pub shardBits : Sharding → ℕ
 shardBits spec = spec .«shard_bits»
 
 -- refusal 1 does not hold: neither is the preshift too high, nor the hash another than the two, nor are there too many bits, nor is the kind
--- another than the two
+-- another than the two (RULES S1)
 unfoldable pub allowed : Sharding → Bool
 allowed spec =
     not
@@ -66,6 +66,6 @@ minishardCount spec = 2 ^ minishardBits spec
 abbrev pub shardCount : Sharding → ℕ
 shardCount spec = 2 ^ shardBits spec
 
--- refusal 5 of a shard number: it "is not below 2^shard_bits"
+-- refusal 5 of a shard number: it "is not below 2^shard_bits" (RULES S7)
 abbrev pub noSuchShard : Sharding → ℕ → Bool
 noSuchShard spec shard = leb (shardCount spec) shard

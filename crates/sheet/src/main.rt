@@ -1,15 +1,13 @@
 // Reads shards from standard input and prints the holdings sheet over them: docs/SHEET.md fixes the input and the lines.
-mod turns;
-
 ghost use mathlib.Core.Path.{_≡_};
 ghost use Prim.Native.Nat.{_≤_};
 ghost use lib.ListN.{length};
 ghost use Rattle.holdings.specs.Sheet.{empty};
-ghost use Rattle.sheet.specs.Turns.{headerBytes, mostBytes, TurnedBy, Turned, Told, Next, Finished};
-use crate::turns::Turn;
+ghost use Rattle.turns.specs.Turns.{headerBytes, mostBytes, TurnedBy, Turned, Told, Next, Finished};
 use holdings::Sheet;
 use libc::STDIN_FILENO;
 use libc::STDOUT_FILENO;
+use turns::Turn;
 
 // ---- reading
 

@@ -1,4 +1,4 @@
--- Nothing is shorter than the settled form (02, order 12).
+-- Nothing is shorter than the settled form (RULES U9).
 use Prim.Native.Nat.{ℕ, _+_, _≤_}
 use mathlib.Core.Path.{_≡_, ap}
 use mathlib.Core.Logic.{_↔_}

@@ -1,4 +1,4 @@
--- Shards whose ranges share no byte (02, order 12).
+-- Shards whose ranges share no byte (RULES U9).
 use Prim.Native.Nat.{ℕ}
 use mathlib.Core.Path.{_≡_}
 use mathlib.Core.List.{List}
@@ -11,6 +11,6 @@ use Rattle.ranges.specs.Ranges.{Range, LiesIn}
 pub record RangesApart (spec : Sharding) (index d : List ℕ) : Type 0 where
   pub never : (one other : Range) → (one ≡ other → ⊥) → (p : ℕ) → LiesIn spec index d one p → LiesIn spec index d other p → ⊥
 
--- those of a file
+-- those of a file (RULES U9)
 abbrev pub SharesNone : Sharding → List ℕ → Type 0
 SharesNone spec file = RangesApart spec (indexPart spec file) (dataPart spec file)

@@ -9,7 +9,7 @@ use Rattle.sharding.specs.Specification.{identity}
 abbrev pub oneBit : ℕ → Sharding
 oneBit kind = record { preshift = 0; hash = identity; «minishard_bits» = 1; «shard_bits» = 0; kind = kind }
 
--- of a volume: the chunk `ab`, and two minishard indexes, whose only entries, of ids 4 and 5, both are that chunk
+-- of a volume: the chunk `ab`, and two minishard indexes, whose only entries, of ids 4 and 5, both are that chunk (RULES F6)
 abbrev pub twins : List ℕ
 twins = row (2 ∷ 26 ∷ 26 ∷ 50 ∷ []) ++ (97 ∷ 98 ∷ [] ++ row (4 ∷ 0 ∷ 2 ∷ 5 ∷ 0 ∷ 2 ∷ []))
 

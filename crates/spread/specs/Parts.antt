@@ -8,7 +8,7 @@ use Rattle.grid.specs.Key.{keyBits, keyOf}
 use Rattle.spread.specs.declared.Plan.{Plan}
 use Rattle.spread.specs.Spread.{spread}
 
--- the turns below n, where all three axes are used: x, y, z of each in turn
+-- the turns below n, where all three axes are used: x, y, z of each in turn (RULES G10)
 unfoldable pub lowKey : ℕ → Cell → ℕ
 lowKey n c = spread n (c .x) + 2 * spread n (c .y) + 4 * spread n (c .z)
 
@@ -19,7 +19,7 @@ coarseGrid n grid = record { x = gridSize (grid .x) (2 ^ n); y = gridSize (grid 
 abbrev pub coarseCell : ℕ → Cell → Cell
 coarseCell n c = record { x = c .x / 2 ^ n; y = c .y / 2 ^ n; z = c .z / 2 ^ n }
 
--- the turns from n on: the key of the coarse cell, above the 3 × n bits of those before
+-- the turns from n on: the key of the coarse cell, above the 3 × n bits of those before (RULES G10)
 unfoldable pub restKey : ℕ → Extents → Cell → ℕ
 restKey n grid c = keyOf (coarseGrid n grid) (coarseCell n c) * 2 ^ (3 * n)
 

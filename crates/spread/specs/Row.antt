@@ -8,6 +8,6 @@ unfoldable pub cellsFrom : ℕ → ℕ → ℕ → ℕ → List Cell
 cellsFrom zero x y z = []
 cellsFrom (suc n) x y z = record { x = x; y = y; z = z } ∷ cellsFrom n (suc x) y z
 
--- a row whose end is not past its begin has no cell
+-- a row whose end is not past its begin has no cell (RULES G9)
 abbrev pub rowOf : ℕ → ℕ → ℕ → ℕ → List Cell
 rowOf from to y z = cellsFrom (to - from) from y z

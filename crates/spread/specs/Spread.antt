@@ -1,4 +1,4 @@
--- Spread bits, and a table of them (02, order 9: "a table of 256 spread bytes, entry b having bit k of b at place 3k").
+-- Spread bits, and a table of them (RULES G10: "a table of 256 spread bytes, entry b having bit k of b at place 3k").
 use Prim.Native.Nat.{ℕ, zero, suc, _+_, _*_, _^_, _<_}
 use mathlib.Core.Path.{_≡_}
 use mathlib.Core.List.{List}
@@ -10,7 +10,7 @@ unfoldable pub spread : ℕ → ℕ → ℕ
 spread zero v = 0
 spread (suc n) v = spread n v + bitOf v n * 2 ^ (3 * n)
 
--- a table of the 256 spread bytes
+-- a table of the 256 spread bytes (RULES G10)
 pub record Spreads (t : List ℕ) : Type 0 where
   pub size : length t ≡ 256
   pub entry : (b : ℕ) → b < 256 → getD t b 0 ≡ spread 8 b

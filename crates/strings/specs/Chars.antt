@@ -32,7 +32,7 @@ isSecond b c =
     inside 0x80 0xBF c && ((not (same b 0xE0) || leb 0xA0 c) && ((not (same b 0xED) || leb c 0x9F)
     && ((not (same b 0xF0) || leb 0x90 c) && (not (same b 0xF4) || leb c 0x8F))))
 
--- how many bytes the UTF-8 sequence that begins b c d e has; 0: it is none
+-- how many bytes the UTF-8 sequence that begins b c d e has; 0: it is none (RULES I3)
 unfoldable pub utf8Len : ℕ → ℕ → ℕ → ℕ → ℕ
 utf8Len b c d e =
     choose (under b 0x80) 1
@@ -81,6 +81,7 @@ pub data String (s : List ℕ) : ℕ → ℕ → Type 0 where
 unfoldable pub utf8At : List ℕ → ℕ → ℕ
 utf8At s i = utf8Len (byteAt s i) (byteAt s (i + 1)) (byteAt s (i + 2)) (byteAt s (i + 3))
 
+-- RULES I3
 pub data Utf8 (s : List ℕ) : ℕ → ℕ → Type 0 where
   done : {i : ℕ} → Utf8 s i i
   one : {i e : ℕ} → (utf8At s i ≡ 0 → ⊥) → Utf8 s (i + utf8At s i) e → Utf8 s i e

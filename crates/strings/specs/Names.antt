@@ -50,7 +50,7 @@ charBytes s i =
     (choose (same (byteAt s (i + 1)) 0x75) (unitBytes s i) (shortByte (byteAt s (i + 1)) ∷ []))
     (take (charLen s i) (drop i s))
 
--- the text from i on to where no character stands, of at most n characters
+-- the text from i on to where no character stands, of at most n characters (RULES I4)
 unfoldable pub unescaped : List ℕ → ℕ → ℕ → List ℕ
 unescaped s zero i = []
 unescaped s (suc n) i =

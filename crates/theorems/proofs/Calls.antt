@@ -22,7 +22,7 @@ use Rattle.sharding.specs.declared.Sharding.{Sharding}
 use Rattle.sharding.specs.declared.PlaceAnswer.the-variants as P
 use Rattle.sharding.specs.Place.{placeChecks, placeAnswer}
 use Rattle.sharding.specs.Batch.{placesChecks, placesAnswer, shardsLeft, minishardsLeft}
-use Rattle.names.specs.Chunks.{chunkNameChecks, chunkNameAnswer, chunkNameLeft}
+use Rattle.chunknames.specs.Chunks.{chunkNameChecks, chunkNameAnswer, chunkNameLeft}
 use Rattle.names.specs.Shards.{fileNameChecks, fileNameAnswer, fileNameLeft}
 use Rattle.names.specs.declared.FileKind.{FileKind}
 use Rattle.card.specs.declared.Card.{Card}

@@ -20,10 +20,10 @@ use Rattle.segmentation.specs.declared.LabelAnswer.the-variants.{Refused as Unl
 use Rattle.segmentation.specs.Words.{word, whole}
 use Rattle.segmentation.specs.Layout.{noVoxels, outside, blockNumber, placeNumber, isWidth}
 use Rattle.segmentation.specs.Labels.{valueIn, labelAt, otherWidth, cutOff, labelChecks, labelAnswer}
-use Rattle.readable.specs.Voxels.{someRefused}
-use Rattle.unpack.specs.Raw.{joined, rawVoxel, rawRow, rawLayer, rawChannel, rawForm, unpackChecks, unpackAnswer, unpackLeft, unpackedBytes, lengthChecks, lengthAnswer}
+use Rattle.packed.specs.Voxels.{someRefused}
+use Rattle.rawform.specs.Raw.{joined, rawVoxel, rawRow, rawLayer, rawChannel, rawForm, unpackChecks, unpackAnswer, unpackLeft, unpackedBytes, lengthChecks, lengthAnswer}
 use Rattle.unpack.proofs.Laws.{equals-asking, refuses-by-voxels, length-none, refused-number}
-use Rattle.unpack.proofs.Lengths.{form-bytes}
+use Rattle.rawform.proofs.Lengths.{form-bytes}
 use Rattle.theorems.specs.Labels.{workedShape, workedChunk, zeros, workedRaw, Order14}
 
 label-refuses : (s : List ℕ) (sh : Shape) (x y z c : ℕ) → Refuses (labelAnswer s sh x y z c) Unlabelled (labelChecks s sh x y z c)

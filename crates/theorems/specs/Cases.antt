@@ -1,4 +1,4 @@
--- The cases that 01, 'Cases on each side', marks P, as one table: what is asked, and the answer that 01 gives.
+-- The cases of RULES W1, as one table: what is asked, and the answer that is given there.
 use Prim.Native.Nat.{ℕ, zero, suc, _-_, _^_}
 use mathlib.Core.Bool.{Bool, true, false}
 use mathlib.Core.List.{List, [], _∷_, _++_}
@@ -158,6 +158,7 @@ corner n = record { x = real n; y = real n; z = real n }
 abbrev pub dotShard : List ℕ → List ℕ
 dotShard rest = 46 ∷ 115 ∷ 104 ∷ 97 ∷ 114 ∷ 100 ∷ rest
 
+-- RULES W1
 unfoldable pub table : List Case
 table =
     -- grid 1,1,1: only key 0

@@ -28,7 +28,7 @@ use Rattle.sharding.specs.declared.PlaceAnswer.the-variants as P
 use Rattle.sharding.specs.Specification.{isMesh, noSuchShard}
 use Rattle.sharding.specs.Place.{minishardOf, placeChecks, placeAnswer}
 use Rattle.sharding.specs.Batch.{placesChecks, placesAnswer, shardsLeft, minishardsLeft}
-use Rattle.names.specs.Chunks.{chunkNameChecks, chunkNameAnswer, chunkNameLeft}
+use Rattle.chunknames.specs.Chunks.{chunkNameChecks, chunkNameAnswer, chunkNameLeft}
 use Rattle.names.specs.Shards.{fileNameChecks, fileNameAnswer, fileNameLeft}
 use Rattle.names.specs.declared.FileKind.{FileKind}
 use Rattle.shard.specs.declared.CheckAnswer.the-variants.{Sound, Faulty, Refused as CheckRefused}
@@ -103,6 +103,7 @@ abbrev pub joinChecks : Sheet → Sheet → List Check
 joinChecks a b = check 27 (anyPasses (rows (both a b))) ∷ []
 
 -- That every entry point takes any numbers and bytes and ends is the checker's own: no entry point's contract has a `requires`, and each function is proved to end.
+-- (RULES D1, R5)
 pub record Demand1 : Type 0 where
   -- A refusal gives one number of the table: that of the first check, in the call's fixed order, that holds. 7 to 11, and 15 to 17 and 21 of a
   -- listed manifest, carry a position, that of the same check; the others carry none (orders 6 and 7). Of each call:
@@ -196,6 +197,7 @@ abbrev pub ChosenListsItem : Sharding → List ℕ → Item → Type 0
 ChosenListsItem spec file item = ListsItem spec (indexPart spec file) (dataPart spec file) (minishardOf spec (item .id)) item
 
 -- The first sentence, that keys, places, names, byte ranges and fields are the published ones, is what the contracts' equations say with these definitions.
+-- (RULES D2, G7, L3)
 pub record Demand2 : Type 0 where
   -- Where a grid has at most 64 key bits, a cell of it is answered with its key, and that key is answered with the cell.
   pub keyed : (v : Volume) (c : Cell) → InU32 (v .size) → noCell v c ≡ false → keyBits (gridOf v) ≤ 64
@@ -256,10 +258,11 @@ TooLong spec a out = (length out < length (fileForm spec a)) ⊎ (mostShardBytes
 abbrev pub Settles : Sharding → ℕ → List ℕ → Bool → List ℕ → List ℕ → Type 0
 Settles spec shard a dropping form out = (settleAnswer spec shard a dropping out ≡ S.Length (length form)) × (settleLeft spec shard a dropping out ≡ over form out)
 
--- "Demand 3 holds as before when dropping is asked, and otherwise for shards with no unlisted byte." (order 8)
+-- "Demand 3 holds as before when dropping is asked, and otherwise for shards with no unlisted byte." (order 8) (RULES D3)
 abbrev pub Ready : Sharding → List ℕ → Bool → Type 0
 Ready spec a dropping = (dropping ≡ true) ⊎ ((p : ℕ) → Unlisted spec (indexPart spec a) (dataPart spec a) p → ⊥)
 
+-- RULES D3
 pub record Demand3 : Type 0 where
   -- To pass the check is to be sound.
   pub sound : (spec : Sharding) (shard : ℕ) (a : List ℕ) → Passes spec shard a ↔ SoundShard spec shard a

@@ -1,4 +1,4 @@
--- What order 13 promises (02): the yearly holdings sheet counts, and the order in which shards are added makes no difference.
+-- What order 13 promises (RULES H4): the yearly holdings sheet counts, and the order in which shards are added makes no difference.
 use Prim.Native.Nat.{ℕ, _+_}
 use mathlib.Core.Path.{_≡_}
 use mathlib.Core.Bool.{Bool, true, false}
@@ -77,7 +77,7 @@ unfoldable pub sumOver : (CheckAnswer → Bool) → (Counts → ℕ) → List Ho
 sumOver test count [] = 0
 sumOver test count (h ∷ hs) = pick (test (verdictOn h)) (count (countsOf h)) 0 + sumOver test count hs
 
--- "shards sound, shards the check refuses for each number and, over sound shards, chunks listed, sum of chunk sizes, and unlisted bytes"
+-- "shards sound, shards the check refuses for each number and, over sound shards, chunks listed, sum of chunk sizes, and unlisted bytes" (RULES H4)
 unfoldable pub sheetOver : List Holding → Sheet
 sheetOver hs =
     record {
@@ -120,6 +120,7 @@ pub data Reordered : List Holding → List Holding → Type 0 where
 unfoldable pub shardsOn : Sheet → ℕ
 shardsOn s = s .sound + s .refused1 + s .refused5 + s .refused6 + s .refused7 + s .refused8 + s .refused9 + s .refused10 + s .refused11 + s .refused15 + s .refused16 + s .refused17 + s .refused21 + s .refused23
 
+-- RULES H4
 pub record Order13 : Type 0 where
   -- "Where the sheet began empty and no total over all of them passes 2^64-1, the same shards in another order give the same sheet."
   pub order : (hs gs : List Holding) → Reordered hs gs → Within hs → addAll empty hs ≡ addAll empty gs

@@ -1,4 +1,4 @@
--- What order 11 promises (02): intake from the scanner. What the four calls refuse, and that a refusal changes no buffer, is in Demand1.
+-- What order 11 promises (RULES N6, N7): intake from the scanner. What the four calls refuse, and that a refusal changes no buffer, is in Demand1.
 use Prim.Native.Nat.{ℕ}
 use mathlib.Core.Path.{_≡_}
 use mathlib.Core.List.{List, []}
@@ -25,7 +25,7 @@ Closes d n = closeAnswer (d .state) (d .output) (d .waiting) ≡ Closed (closed 
 abbrev pub front : Desk → ℕ → List ℕ
 front d n = take n (closeLeft (d .state) (d .output) (d .waiting))
 
--- Order 11: "If each call gets the last call's state and both buffers as it left them,
+-- Order 11: "If each call gets the last call's state and both buffers as it left them, (RULES N6)
 pub record Order11 : Type 0 where
   -- the close reports the length of the settled form of what was delivered, and the output begins with it, and past it is as it was lent to the opening,
   pub settled : (spec : Sharding) (shard : ℕ) (out waiting : List ℕ) (xs : List Delivery) (d : Desk) (n : ℕ) → Takes spec shard out waiting xs d → Closes d n

@@ -1,4 +1,4 @@
--- What order 14 promises (02): the labels inside a chunk, in the compressed segmentation encoding.
+-- What order 14 promises (RULES E10): the labels inside a chunk, in the compressed segmentation encoding.
 use Prim.Native.Nat.{ℕ, zero, suc, _^_, _≤_, _<_}
 use mathlib.Core.Path.{_≡_}
 use mathlib.Core.Bool.{false}
@@ -10,7 +10,7 @@ use Rattle.grid.specs.declared.Extents.{Extents}
 use Rattle.segmentation.specs.declared.Shape.{Shape}
 use Rattle.segmentation.specs.declared.LabelAnswer.the-variants.{Refused as Unlabelled}
 use Rattle.segmentation.specs.Labels.{labelChecks, labelAnswer}
-use Rattle.unpack.specs.Raw.{unpackChecks, unpackAnswer, unpackLeft, lengthChecks, lengthAnswer}
+use Rattle.rawform.specs.Raw.{unpackChecks, unpackAnswer, unpackLeft, lengthChecks, lengthAnswer}
 use Rattle.unpack.specs.Meaning.{EqualsAsking, RefusesByVoxels}
 
 -- ---- the chunk that the format's description works by hand
@@ -39,7 +39,7 @@ abbrev pub workedRaw : List ℕ → List ℕ
 workedRaw rest = label32 9 (label32 7 (label32 9 (label32 7 (label32 7 (label32 9 (label32 7 (label32 9 rest)))))))
 
 -- Order 14: "Given extents, block size, channel count and 32- or 64-bit labels, return the label of any voxel, or unpack a whole chunk to the raw form
--- of source document 000."
+-- of source document 000." (RULES E10)
 pub record Order14 : Type 0 where
   -- "Unpacking equals asking for each voxel, proved once over the label width": of every shape, whose labels have either width;
   pub asking : (s : List ℕ) (sh : Shape) (out : List ℕ) → EqualsAsking s sh out

@@ -1,4 +1,4 @@
--- Worked cases of mesh shards (02, order 7), in one table.
+-- Worked cases of mesh shards (RULES W2), in one table.
 use Prim.Native.Nat.{ℕ, _-_, _^_}
 use mathlib.Core.Bool.{true}
 use mathlib.Core.List.{List, [], _∷_, _++_}
@@ -85,6 +85,7 @@ shortMesh = row (0 ∷ 0 ∷ 65 ∷ 89 ∷ []) ++ (98 ∷ oneNode ++ row (5 ∷ 
 
 -- ---- the table
 
+-- RULES W2
 unfoldable pub meshTable : List MeshCase
 meshTable =
     listing (ofKind mesh) otherMesh meshContent

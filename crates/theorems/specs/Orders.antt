@@ -1,4 +1,4 @@
--- What the orders promise (02), beyond the demands, which hold of volumes as they did, and since order 7 of meshes too.
+-- What the orders promise (RULES R4, G10, S9, C6, F16, U7, U8), beyond the demands, which hold of volumes as they did, and since order 7 of meshes too.
 use Prim.Native.Nat.{ℕ, _<_, _≤_, _+_, _-_, _^_}
 use mathlib.Core.Path.{_≡_}
 use mathlib.Core.Bool.{Bool, true, false, not}
@@ -60,7 +60,7 @@ use Rattle.card.specs.Answers.{recordChecks, readAnswer, writeAnswer, writeLeft
 use Rattle.card.specs.Before.{cardBytesBeforeMesh, readAnswerBeforeMesh, MeshCard, recordChecksBefore, readAnswerBefore, NewCard}
 use Rattle.info.specs.Answers.{infoAnswer}
 
--- Order 2: "a shard that passed before settles to the bytes it did before".
+-- Order 2: "a shard that passed before settles to the bytes it did before". (RULES F16, U8)
 pub record Order2 : Type 0 where
   -- a shard that passed before passes now,
   pub passes : (spec : Sharding) (shard : ℕ) (a : List ℕ) → PassedBefore spec shard a → checkAnswer spec shard a ≡ Sound
@@ -70,7 +70,7 @@ pub record Order2 : Type 0 where
   pub settles : (spec : Sharding) (shard : ℕ) (a out : List ℕ) → PassedBefore spec shard a → length (fileFormBefore spec a) ≤ length out → length (fileFormBefore spec a) ≤ mostShardBytes
       → (settleAnswer spec shard a true out ≡ S.Length (length (fileFormBefore spec a))) × (settleLeft spec shard a true out ≡ over (fileFormBefore spec a) out)
 
--- Order 4: "Existing shards and cards keep their bytes and meaning." Since order 7 it "speaks of volume cards".
+-- Order 4: "Existing shards and cards keep their bytes and meaning." Since order 7 it "speaks of volume cards". (RULES S9, C6)
 pub record Order4 : Type 0 where
   -- What was allowed before is allowed now. Of all that answers are said with, `allowed` alone knows the limit, and it stands in these
   -- lists of checks: of a place, of places, of a shard's name, of every call on a shard and of a card's record. They are what they
@@ -133,7 +133,7 @@ pub record Order6 : Type 0 where
 
 -- Order 7: "In a mesh shard each chunk must be a sound manifest, and its fragments are the bytes before it, as many as the sum of its sizes." The
 -- demands say it of both kinds. "card tag 8, one byte of 1, means mesh and is absent for volume, so a mesh card has 50 or 65 bytes. Readers from before answer it
--- with 14, so order 4 now speaks of volume cards; the info reader yields volume."
+-- with 14, so order 4 now speaks of volume cards; the info reader yields volume." (RULES C6, U8)
 pub record Order7 : Type 0 where
   -- A minishard of a volume is tested as it was, and nothing goes with its chunks;
   pub volumes : (spec : Sharding) (shard m : ℕ) (d : List ℕ) (s n : ℕ) → isMesh spec ≡ false → entryTests spec shard m d s n ≡ idTest d s ∷ placeTest spec shard m d s ∷ endTest d s n ∷ []
@@ -161,14 +161,14 @@ pub record Order7 : Type 0 where
   -- "the info reader yields volume".
   pub info : (s : List ℕ) (k : ℕ) (c : Card) → infoAnswer s k ≡ Says c → c .sharding .kind ≡ volume
 
--- the checks of settling and of its length before order 8: those of the check, then 13
+-- the checks of settling and of its length before order 8: those of the check, then 13 (RULES U7)
 unfoldable pub settleChecksBefore : Sharding → ℕ → List ℕ → List ℕ → List Check
 settleChecksBefore spec shard file out = shardChecks spec shard file ++ (settleCheck spec (indexPart spec file) (dataPart spec file) out ∷ [])
 
 unfoldable pub lengthChecksBefore : Sharding → ℕ → List ℕ → List Check
 lengthChecksBefore spec shard file = shardChecks spec shard file ++ (lengthCheck spec (indexPart spec file) (dataPart spec file) ∷ [])
 
--- Order 8: "Settling now refuses such a shard unless the caller asks to drop them."
+-- Order 8: "Settling now refuses such a shard unless the caller asks to drop them." (RULES U7)
 pub record Order8 : Type 0 where
   -- "An unlisted byte lies past the shard index in no listed chunk, no fragment and no nonempty minishard index." Their number, which a sound
   -- shard is answered with, is that of the positions of the data that the test misses, and these are the unlisted ones; it is 0 exactly when there
@@ -197,7 +197,7 @@ pub record Order9 : Type 0 where
   -- What is asked of the table: bit k of b is at place 3 × k of entry b, the two places after it are empty, and no bit is above these.
   pub entries : (t : List ℕ) → Spreads t → (b : ℕ) → b < 256 → (k : ℕ) → k < 8 → Placed (getD t b 0) b k
   pub ends : (t : List ℕ) → Spreads t → (b : ℕ) → b < 256 → getD t b 0 < 2 ^ 24
-  -- "Agreement with the steps of document 01 is proved for each grid and cell": however many of the turns that all three axes share are
+  -- RULES G10, agreement with the steps of G5 in each grid and of each cell: however many of the turns that all three axes share are
   -- spread, with the rest by the steps it is the key.
   pub agrees : (g : Extents) (c : Cell) (n : ℕ) → InU32 g → ((i : ℕ) → i < n → Shared g i) → lowKey n c + restKey n g c ≡ keyOf g c
   -- Many cells in a call, where nothing is refused: the keys by the steps stand at the front of the output, in the cells' order, and the

@@ -1,4 +1,4 @@
--- What order 10 promises (02): a pair of files is answered as the file that they make joined.
+-- What order 10 promises (RULES P2): a pair of files is answered as the file that they make joined.
 use Prim.Native.Nat.{ℕ, _-_, _<_, _≤_}
 use mathlib.Core.Path.{_≡_}
 use mathlib.Core.Bool.{Bool}
@@ -18,7 +18,7 @@ use Rattle.seam.specs.Range.{rangeChecks, rangeAnswer, rangeBytes}
 use Rattle.pair.specs.Answers.{pairCheck, pairLookup, pairFragment}
 use Rattle.pairform.specs.Answers.{pairCount, pairListing, pairListingLeft, pairUnlisted, pairLength, pairSettle, pairSettleLeft}
 
--- Order 10: "Treat the pair as their concatenation, without joining them."
+-- Order 10: "Treat the pair as their concatenation, without joining them." (RULES P2)
 pub record Order10 : Type 0 where
   -- "But for 23, which makes a pair unsound, check, lookup and settling answer as for the joined file", and the other calls too, and they leave what is
   -- lent as that does:

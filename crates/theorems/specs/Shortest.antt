@@ -1,4 +1,4 @@
--- What order 12 promises (02): nothing is shorter than the settled form.
+-- What order 12 promises (RULES U9): nothing is shorter than the settled form.
 use Prim.Native.Nat.{ℕ, _+_, _<_, _≤_}
 use mathlib.Core.Path.{_≡_}
 use mathlib.Core.Logic.{_↔_}
@@ -15,7 +15,7 @@ use Rattle.shortest.specs.Shares.{SharesNone}
 use Rattle.shortest.specs.Worked.{oneBit, twins, nested}
 
 -- Order 12: "Show that among all sound shards with the same specification, number and content, whose listed chunks, fragments and nonempty minishard
--- indexes share no byte, none is shorter than the settled form."
+-- indexes share no byte, none is shorter than the settled form." (RULES U9)
 pub record Order12 : Type 0 where
   pub shortest : (spec : Sharding) (shard : ℕ) (a b : List ℕ) → SoundShard spec shard a → SoundShard spec shard b → SameListing spec a b → SharesNone spec b
       → length (fileForm spec a) ≤ length b

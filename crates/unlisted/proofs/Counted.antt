@@ -26,17 +26,17 @@ use Rattle.shard.proofs.Split.{restOf, rest-whole}
 use Rattle.shard.proofs.Whole.{sound-passes-check}
 use Rattle.shard.proofs.WholeAnswers.{check-disallowed, check-shard, check-short, check-long, check-sound, check-fault}
 use Rattle.unlisted.specs.declared.UnlistedAnswer.the-variants.{Count, Refused, Faulty}
-use Rattle.unlisted.specs.declared.order.Run.{Run}
+use Rattle.rising.specs.declared.inner.Run.{Run}
 use Rattle.ranges.specs.Ranges.{Range, chunkRange, leadRange, indexRange, countIn, begin, finish, Has, LiesIn}
 use Rattle.ranges.specs.Covered.{coveredAt, unlistedBytes, fileUnlisted}
 use Rattle.unlisted.specs.declared.judged.Judged.{Judged}
 use Rattle.unlisted.specs.declared.inner.Counted.{Counted}
 use Rattle.unlisted.specs.Judging.{JudgedAs, Counts}
-use Rattle.unlisted.specs.Reading.{RangedShard}
-use Rattle.unlisted.specs.Order.{broken, Tells}
+use Rattle.stretch.specs.Reading.{RangedShard}
+use Rattle.rising.specs.Order.{broken, Tells}
 use Rattle.unlisted.specs.Answers.{unlistedAnswer}
 use Rattle.shard.proofs.AfterCheck.{afterCheck, by-check}
-use Rattle.unlisted.proofs.Covering.{ranged-in}
+use Rattle.stretch.proofs.Covering.{ranged-in}
 use Rattle.ranges.proofs.Meaning.{covered-listed}
 
 -- ---- all ranges lie within the data

@@ -15,20 +15,20 @@ use Rattle.sharding.specs.Specification.{minishardCount}
 use Rattle.index.specs.declared.Fault.{Fault}
 use Rattle.index.specs.Index.{entryStart, entryEnd, mostShardBytes}
 use Rattle.index.specs.Tests.{fault}
-use Rattle.shard.specs.declared.judge.ShardFault.{ShardFault}
+use Rattle.shard.specs.declared.faults.ShardFault.{ShardFault}
 use Rattle.shard.specs.Faults.{faultOf, orLater, firstFault, shardFault}
 use Rattle.shard.specs.File.{indexLength}
 use Rattle.shard.specs.Sound.{SoundMinishard}
 use Rattle.shard.proofs.Faulted.{fault-empty, fault-entry}
 use Rattle.shard.proofs.Judged.{passes-minishard}
-use Rattle.unlisted.specs.declared.order.Run.{Run}
+use Rattle.rising.specs.declared.inner.Run.{Run}
 use Rattle.unlisted.specs.declared.judged.Judged.{Judged}
-use Rattle.unlisted.specs.Reading.{Ranged}
-use Rattle.unlisted.specs.Order.{Extends, inPart, partAt}
+use Rattle.stretch.specs.Reading.{Ranged}
+use Rattle.rising.specs.Order.{Extends, inPart, partAt}
 use Rattle.unlisted.specs.Judging.{Steps, Skips, JudgedAs}
-use Rattle.unlisted.proofs.Covering.{ranged-in, read-ranged}
-use Rattle.unlisted.proofs.Runs.{extends-none}
-use Rattle.unlisted.proofs.Parts.{over-none, all-next, tells-each}
+use Rattle.stretch.proofs.Covering.{ranged-in, read-ranged}
+use Rattle.rising.proofs.Runs.{extends-none}
+use Rattle.rising.proofs.Parts.{over-none, all-next, tells-each}
 
 -- ---- one minishard
 

@@ -1,4 +1,4 @@
--- What the count of unlisted bytes answers: the refusals of the check, those of a minishard with their position, or the count (02, orders 8 and 13).
+-- What the count of unlisted bytes answers: the refusals of the check, those of a minishard with their position, or the count (RULES U4).
 use Prim.Native.Nat.{ℕ}
 use mathlib.Core.List.{List}
 use Rattle.refusal.specs.Checks.{answeredAt}

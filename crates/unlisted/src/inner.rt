@@ -7,16 +7,16 @@ ghost use Rattle.sharding.specs.Specification.{allowed};
 ghost use Rattle.index.specs.Index.{mostShardBytes};
 ghost use Rattle.shard.specs.File.{indexLength};
 ghost use Rattle.ranges.specs.Covered.{coveredAt, unlistedBytes};
-ghost use Rattle.unlisted.specs.Reading.{RangedShard};
-ghost use Rattle.unlisted.specs.Order.{Tells};
+ghost use Rattle.stretch.specs.Reading.{RangedShard};
+ghost use Rattle.rising.specs.Order.{Tells};
 ghost use Rattle.unlisted.specs.Judging.{Counts};
 use crate::judged::judge_all;
-use crate::order::BROKEN;
-use crate::order::Run;
-use crate::order::in_order;
-use crate::order::in_turn;
-use crate::windows::count_from;
+use rising::inner::BROKEN;
+use rising::inner::Run;
+use rising::inner::in_order;
+use rising::inner::in_turn;
 use sharding::Sharding;
+use windows::inner::count_from;
 
 // How many are unlisted, behind a walk in turn: by that or another walk where the ranges come in rising order, else by windows.
 fn count_after(run: Run, spec: Sharding, index: &[u8], data: &[u8]) -> u64

@@ -1,9 +1,6 @@
 // How many bytes of a shard lie in none of its ranges.
 pub mod inner;
-mod items;
 mod judged;
-mod order;
-mod windows;
 
 ghost use mathlib.Core.Path.{_≡_};
 ghost use mathlib.Core.Bool.{true};

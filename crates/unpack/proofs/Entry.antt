@@ -15,11 +15,11 @@ use Rattle.endian.specs.Place.{paste}
 use Rattle.endian.proofs.Paste.{paste-front}
 use Rattle.segmentation.specs.declared.Shape.{Shape}
 use Rattle.segmentation.specs.Layout.{noVoxels}
-use Rattle.readable.specs.Voxels.{someRefused, chunkRefusal, AllReadable}
+use Rattle.packed.specs.Voxels.{someRefused, chunkRefusal, AllReadable}
 use Rattle.readable.proofs.Verdict.{all-readable}
-use Rattle.unpack.specs.Raw.{rawForm, unpackChecks, unpackAnswer, unpackLeft}
-use Rattle.unpack.specs.Writing.{allBytes}
-use Rattle.unpack.proofs.Wholes.{form-length}
+use Rattle.rawform.specs.Raw.{rawForm, unpackChecks, unpackAnswer, unpackLeft}
+use Rattle.rawform.specs.Writing.{allBytes}
+use Rattle.rawform.proofs.Wholes.{form-length}
 
 -- 29 and 28 together are the chunk's refusal, before the number of what is checked after them
 abbrev before : Bool → Bool → ℕ → ℕ

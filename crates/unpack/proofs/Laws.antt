@@ -20,9 +20,9 @@ use Rattle.segmentation.specs.declared.LabelAnswer.{LabelAnswer}
 use Rattle.segmentation.specs.declared.LabelAnswer.the-variants.{Label, Refused as Unlabelled}
 use Rattle.segmentation.specs.Layout.{noVoxels, blockNumber, placeNumber}
 use Rattle.segmentation.specs.Labels.{labelWords, labelAt, labelAnswer}
-use Rattle.readable.specs.Voxels.{refusalIn, Within, someRefused, chunkRefusal}
+use Rattle.packed.specs.Voxels.{refusalIn, Within, someRefused, chunkRefusal}
 use Rattle.readable.proofs.Verdict.{some-yes, all-readable}
-use Rattle.unpack.specs.Raw.{rawForm, unpackChecks, unpackAnswer, unpackLeft}
+use Rattle.rawform.specs.Raw.{rawForm, unpackChecks, unpackAnswer, unpackLeft}
 use Rattle.unpack.specs.Meaning.{EqualsAsking, SomeRefused, RefusesByVoxels}
 use Rattle.unpack.proofs.Places.{label-place}
 

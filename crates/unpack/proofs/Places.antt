@@ -10,12 +10,12 @@ use Rattle.endian.specs.Place.{Holds}
 use Rattle.endian.proofs.Holds.{holds-left, holds-right, holds-move}
 use Rattle.segmentation.specs.declared.Shape.{Shape}
 use Rattle.segmentation.specs.Labels.{labelAnswer}
-use Rattle.readable.specs.Voxels.{Within}
-use Rattle.unpack.specs.Raw.{joined, labelIn, labelBytes, rawVoxel, rawRow, rawLayer, rawChannel, rawForm}
+use Rattle.packed.specs.Voxels.{Within}
+use Rattle.rawform.specs.Raw.{joined, labelIn, labelBytes, rawVoxel, rawRow, rawLayer, rawChannel, rawForm}
 use Rattle.unpack.specs.Meaning.{before}
-use Rattle.unpack.specs.Writing.{rowBytes, layerBytes, channelBytes}
-use Rattle.unpack.proofs.Filled.{length-joined, joined-add}
-use Rattle.unpack.proofs.Wholes.{voxel-length, row-length, layer-length, channel-length}
+use Rattle.rawform.specs.Writing.{rowBytes, layerBytes, channelBytes}
+use Rattle.rawform.proofs.Filled.{length-joined, joined-add}
+use Rattle.rawform.proofs.Wholes.{voxel-length, row-length, layer-length, channel-length}
 
 joined-parts : (f : ℕ → List ℕ) (n i : ℕ) → i < n → joined f n ≡ joined f i ++ (f i ++ joined (λ u. f (i + (1 + u))) (n - (i + 1)))
 unfolding joined

@@ -20,14 +20,14 @@ use Rattle.segmentation.specs.Words.{word}
 use Rattle.segmentation.specs.Layout.{noVoxels, across, blockNumber, placeNumber, widthIn, isWidth}
 use Rattle.segmentation.specs.Labels.{labelWords, labelAnswer}
 use Rattle.segmentation.specs.Steps.{valueAnswer, channelAnswer}
-use Rattle.unpack.specs.Raw.{joined, labelIn, labelBytes, rawVoxel, rawRow}
-use Rattle.readable.specs.Voxels.{refusalIn, Within}
-use Rattle.readable.specs.Checks.{span}
-use Rattle.unpack.specs.Writing.{Row, HeadersAt, rawRun, runVoxel, Readable, blockRow, placeRow, rowBytes}
+use Rattle.rawform.specs.Raw.{joined, labelIn, labelBytes, rawVoxel, rawRow}
+use Rattle.packed.specs.Voxels.{refusalIn, Within}
+use Rattle.packed.specs.Checks.{span}
+use Rattle.rawform.specs.Writing.{Row, HeadersAt, rawRun, runVoxel, Readable, blockRow, placeRow, rowBytes}
 use Rattle.segmentation.proofs.Asked.{some-voxels}
-use Rattle.readable.proofs.Inside.{span-some, voxel-in, voxel-block, voxel-place, across-some}
+use Rattle.packed.proofs.Inside.{span-some, voxel-in, voxel-block, voxel-place, across-some}
 use Rattle.readable.proofs.Verdict.{answer-block, channel-whole-at, header-whole-at, header-width-at, value-at}
-use Rattle.unpack.proofs.Filled.{Filled, filled-start, filled-by, filled-room, filled-place, filled-end, joined-same}
+use Rattle.rawform.proofs.Filled.{Filled, filled-start, filled-by, filled-room, filled-place, filled-end, joined-same}
 
 module _ (s : List ℕ) (sh : Shape) (c z y : ℕ) (row : Row s sh c z y) where
   h : noVoxels sh ≡ false

@@ -16,15 +16,15 @@ use Rattle.segmentation.specs.Words.{word}
 use Rattle.segmentation.specs.Layout.{widthIn, tableIn, isWidth}
 use Rattle.segmentation.specs.Labels.{labelWords, valueIn}
 use Rattle.segmentation.specs.Steps.{entryAnswer, valueAnswer}
-use Rattle.readable.specs.Voxels.{refusalIn}
-use Rattle.readable.specs.Checks.{Packed}
-use Rattle.unpack.specs.Raw.{labelIn}
-use Rattle.unpack.specs.Writing.{runVoxel, Readable}
+use Rattle.packed.specs.Voxels.{refusalIn}
+use Rattle.packed.specs.Checks.{Packed}
+use Rattle.rawform.specs.Raw.{labelIn}
+use Rattle.rawform.specs.Writing.{runVoxel, Readable}
 use Rattle.segmentation.proofs.Asked.{whole-yes, whole-no, no-bits}
-use Rattle.readable.proofs.Greatest.{within-or-past}
-use Rattle.readable.proofs.Runs as R
+use Rattle.packed.proofs.Greatest.{within-or-past}
+use Rattle.packed.proofs.Runs as R
 use mathlib.Core.Logic.{⊎-elim}
-use Rattle.unpack.proofs.Filled.{Filled, filled-on}
+use Rattle.rawform.proofs.Filled.{Filled, filled-on}
 
 -- ---- one label
 

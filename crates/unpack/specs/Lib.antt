@@ -1,3 +1,1 @@
-pub mod Raw
-pub mod Writing
 pub mod Meaning

@@ -1,6 +1,8 @@
 // The labels inside a chunk, in the compressed segmentation encoding: a whole chunk unpacked to the raw form.
 ghost use mathlib.Core.Path.{_≡_};
-ghost use Rattle.unpack.specs.Raw.{lengthAnswer, unpackAnswer, unpackLeft};
+ghost use Rattle.rawform.specs.Raw.{lengthAnswer, unpackAnswer, unpackLeft};
+use rawform::inner::all_bytes;
+use rawform::inner::has_room;
 use readable::inner::chunk_refusal;
 use refusal::Written;
 use segmentation::Shape;
@@ -21,7 +23,7 @@ pub fn unpack(chunk: &[u8], shape: Shape, out: &mut [u8]) -> Written
     if 0 < k {
         return Written::Refused(k);
     }
-    if !raw::has_room(shape, out.len()) {
+    if !has_room(shape, out.len()) {
         return Written::Refused(13);
     }
     Written::Length(raw::put_all(chunk, shape, out))
@@ -34,8 +36,8 @@ pub fn unpacked_length(shape: Shape) -> Written
     if has_none(shape) {
         return Written::Refused(2);
     }
-    if !raw::has_room(shape, 18446744073709551615) {
+    if !has_room(shape, 18446744073709551615) {
         return Written::Refused(13);
     }
-    Written::Length(raw::all_bytes(shape))
+    Written::Length(all_bytes(shape))
 }

@@ -2,16 +2,15 @@
 ghost use mathlib.Core.Path.{_≡_};
 ghost use mathlib.Core.Bool.{false};
 ghost use Prim.Native.Nat.{_+_, _*_, _/_, _<_, _≤_, _^_};
-ghost use lib.Dec.{leb};
 ghost use lib.ListN.{length};
 ghost use Rattle.endian.specs.Little.{le, leAt};
 ghost use Rattle.endian.specs.Place.{paste};
 ghost use Rattle.segmentation.specs.Layout.{noVoxels, across, widthIn};
 ghost use Rattle.segmentation.specs.Labels.{labelWords};
-ghost use Rattle.unpack.specs.Raw.{joined, labelBytes, rawRow, rawLayer, rawChannel, rawForm};
-ghost use Rattle.readable.specs.Checks.{Header, span};
-ghost use Rattle.unpack.specs.Writing.{Channel, Layer, Row, HeadersAt, rawRun, runVoxel, Readable, rowBytes, layerBytes, channelBytes, allBytes, placeRow};
-ghost use Rattle.readable.specs.Voxels.{AllReadable};
+ghost use Rattle.rawform.specs.Raw.{joined, labelBytes, rawRow, rawLayer, rawChannel, rawForm};
+ghost use Rattle.packed.specs.Checks.{Header, span};
+ghost use Rattle.rawform.specs.Writing.{Channel, Layer, Row, HeadersAt, rawRun, runVoxel, Readable, rowBytes, layerBytes, channelBytes, allBytes, placeRow};
+ghost use Rattle.packed.specs.Voxels.{AllReadable};
 use endian::inner::put_u32;
 use endian::inner::put_u64;
 use endian::inner::read_u32;
@@ -271,34 +270,4 @@ pub fn put_all(chunk: &[u8], shape: Shape, out: &mut [u8]) -> usize
         c += 1;
     }
     p
-}
-
-fn label_bytes(wide: bool) -> u64
-    ensures { λ r. ⌜ (r ≡ 4 * labelWords wide) × (0 < r) ⌝ }
-{
-    if wide { 8 } else { 4 }
-}
-
-// The raw form has at most len bytes. Its length may pass 64 bits: the voxels of a layer are held against the labels for which there is room.
-pub fn has_room(shape: Shape, len: usize) -> bool
-    requires { ⌜ noVoxels shape ≡ false ⌝ }
-    ensures { λ r. ⌜ r ≡ leb (allBytes shape) len ⌝ }
-{
-    let extents = shape.extents;
-    let room = len as u64 / label_bytes(shape.wide);
-    let layer = linear(0, extents.x, extents.y);
-    let layers = linear(0, extents.z, shape.channels);
-    layers <= room / layer
-}
-
-// How many bytes the raw form has, where that is a number of 64 bits.
-pub fn all_bytes(shape: Shape) -> usize
-    requires { ⌜ noVoxels shape ≡ false ⌝ }
-    requires { ⌜ allBytes shape < 2 ^ 64 ⌝ }
-    ensures { λ r. ⌜ r ≡ allBytes shape ⌝ }
-{
-    let extents = shape.extents;
-    let layer = linear(0, extents.x, extents.y);
-    let layers = linear(0, extents.z, shape.channels);
-    (label_bytes(shape.wide) * (layer * layers)) as usize
 }

@@ -1,5 +1,5 @@
--- The second buffer of an intake: "the open minishard's ids and sizes wait in a second lent buffer of 16 bytes per chunk" (02, order 11); and the
--- minishard index that its pairs make (01, 'Settled form').
+-- The second buffer of an intake: "the open minishard's ids and sizes wait in a second lent buffer of 16 bytes per chunk" (RULES N1); and the
+-- minishard index that its pairs make (RULES U1).
 use Prim.Native.Nat.{ℕ, zero, suc, _+_, _*_, _-_}
 use mathlib.Core.List.{List, [], _∷_, _++_}
 use lib.ListN.{replicate}
@@ -29,6 +29,6 @@ sizesHeld w i (suc k) = sizeHeld w i ∷ sizesHeld w (suc i) k
 unfoldable pub startsFrom : ℕ → ℕ → List ℕ
 startsFrom p n = p ∷ replicate (n - 1) 0
 
--- the minishard index of the first n pairs, whose chunks stand so
+-- the minishard index of the first n pairs, whose chunks stand so (RULES N1)
 unfoldable pub indexHeld : ℕ → List ℕ → ℕ → List ℕ
 indexHeld p w n = row (stepsHeld 0 w 0 n) ++ (row (startsFrom p n) ++ row (sizesHeld w 0 n))

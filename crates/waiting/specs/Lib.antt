@@ -1,2 +1,2 @@
--- The second buffer of an intake (02, order 11).
+-- The second buffer of an intake (RULES N1).
 pub mod Held

@@ -1,4 +1,4 @@
--- The Z-curve order of two nodes (01, "Manifest"): "the highest differing bit decides; at equal height z outranks y, y outranks x".
+-- The Z-curve order of two nodes (RULES M4): "the highest differing bit decides; at equal height z outranks y, y outranks x".
 use Prim.Native.Nat.{ℕ, zero, suc, _+_, _*_, _/_, _%_, _^_}
 use mathlib.Core.Bool.{Bool, false}
 use lib.Dec.{ltb, eqb}
@@ -8,7 +8,7 @@ use Rattle.refusal.specs.Choice.{pick}
 unfoldable pub zDigit : ℕ → ℕ → ℕ → ℕ → ℕ
 zDigit k x y z = 4 * (z / 2 ^ k % 2) + 2 * (y / 2 ^ k % 2) + x / 2 ^ k % 2
 
--- the order of positions a and b by the bits below height k: the highest height where they differ decides
+-- the order of positions a and b by the bits below height k: the highest height where they differ decides (RULES M4)
 unfoldable pub zFrom : ℕ → ℕ → ℕ → ℕ → ℕ → ℕ → ℕ → Bool
 zFrom zero ax ay az bx by bz = false
 zFrom (suc k) ax ay az bx by bz =

@@ -1,6 +1,6 @@
 -- `unpack::unpacked_length` meets its contract.
 use borrow.Author.Needs.{needs}
-use Rattle.unpack.proofs.Lengths.{length-refused, length-2, length-tested, length-13, length-few, length-told}
+use Rattle.rawform.proofs.Lengths.{length-refused, length-2, length-tested, length-13, length-few, length-told}
 use Rattle.unpack.proofs.unpacked_length.Statement.{statement}
 use Rattle.unpack.proofs.unpacked_length.Tie as tie
 

@@ -26,7 +26,7 @@ const NETS: Sharding = Sharding {
     ..SHARDING
 };
 
-/// The numbers of document 01's table that the check gives, and order 10's.
+/// The numbers of the table of refusals that the check gives, and order 10's.
 const NUMBERS: [u8; 13] = [1, 5, 6, 7, 8, 9, 10, 11, 15, 16, 17, 21, 23];
 
 /// A sheet by the names of its rows.

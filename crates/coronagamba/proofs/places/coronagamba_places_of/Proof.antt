@@ -1,5 +1,5 @@
 use borrow.Author.Needs.{needs}
-use Rattle.coronagamba.specs.Word.{writtenWord, lengthAfter}
+use Rattle.word.specs.Word.{writtenWord, lengthAfter}
 use Rattle.coronagamba.proofs.Told.{told, after}
 use Rattle.coronagamba.proofs.places.coronagamba_places_of.Statement.{statement}
 use Rattle.coronagamba.proofs.places.coronagamba_places_of.Tie as tie

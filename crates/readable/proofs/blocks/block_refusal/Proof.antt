@@ -1,9 +1,9 @@
 use borrow.Author.Needs.{needs}
 use native.Mathlib.Omega.{arith}
 use Rattle.segmentation.proofs.Asked.{block-x}
-use Rattle.readable.proofs.Mild.{block-flat}
-use Rattle.readable.specs.Checks.{blockRefusal}
-use Rattle.readable.proofs.Inside.{inside-x-at, inside-y-at, inside-z-at}
+use Rattle.packed.proofs.Mild.{block-flat}
+use Rattle.packed.specs.Checks.{blockRefusal}
+use Rattle.packed.proofs.Inside.{inside-x-at, inside-y-at, inside-z-at}
 use Rattle.readable.proofs.blocks.block_refusal.Statement.{statement}
 use Rattle.readable.proofs.blocks.block_refusal.Tie as tie
 

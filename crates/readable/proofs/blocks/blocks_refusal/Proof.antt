@@ -3,9 +3,9 @@ use mathlib.Core.Path.{_≡_, refl}
 use native.Mathlib.Omega.{arith}
 use lib.ListN.{length}
 use Rattle.segmentation.proofs.Asked.{channels-some}
-use Rattle.readable.proofs.Noted.{sees-same}
+use Rattle.seen.proofs.Noted.{sees-same}
 use Rattle.readable.proofs.Offsets.{offset-whole, headers-none-at, count-whole}
-use Rattle.readable.proofs.Mild.{Passed, passed-start, passed-count, passed-known, passed-end, passed-hit, passed-on}
+use Rattle.packed.proofs.Mild.{Passed, passed-start, passed-count, passed-known, passed-end, passed-hit, passed-on}
 use borrow.Author.Needs.{needs}
 use Rattle.readable.proofs.blocks.blocks_refusal.Statement.{statement}
 use Rattle.readable.proofs.blocks.blocks_refusal.Tie as tie

@@ -1,9 +1,9 @@
 use Prim.Native.Nat.{_-_, _≤_}
 use mathlib.Core.Path.{_≡_}
 use native.Mathlib.Omega.{arith}
-use Rattle.readable.specs.Checks.{greatest, blockRefusal}
-use Rattle.readable.proofs.Greatest.{greatest-none, greatest-still, greatest-all}
-use Rattle.readable.proofs.Mild.{blocks-hit}
+use Rattle.packed.specs.Checks.{greatest, blockRefusal}
+use Rattle.packed.proofs.Greatest.{greatest-none, greatest-still, greatest-all}
+use Rattle.packed.proofs.Mild.{blocks-hit}
 use Rattle.readable.proofs.Offsets.{each-whole, each-width}
 use borrow.Author.Needs.{needs}
 use Rattle.readable.proofs.blocks.channel_refusal.Statement.{statement}

@@ -1,7 +1,7 @@
 use borrow.Author.Needs.{needs}
 use Rattle.segmentation.proofs.Asked.{block-x, block-y, some-blocks}
-use Rattle.readable.proofs.Inside.{some-rows, rest-of-fits, layer-fits}
-use Rattle.readable.specs.Checks.{insideOf}
+use Rattle.packed.proofs.Inside.{some-rows, rest-of-fits, layer-fits}
+use Rattle.packed.specs.Checks.{insideOf}
 use Rattle.readable.proofs.blocks.inside_of.Statement.{statement}
 use Rattle.readable.proofs.blocks.inside_of.Tie as tie
 

@@ -1,6 +1,6 @@
 use native.Mathlib.Omega.{arith}
 use borrow.Author.Needs.{needs}
-use Rattle.readable.proofs.Mild.{block-none}
+use Rattle.packed.proofs.Mild.{block-none}
 use Rattle.readable.proofs.blocks.next_refusal.Statement.{statement}
 use Rattle.readable.proofs.blocks.next_refusal.Tie as tie
 

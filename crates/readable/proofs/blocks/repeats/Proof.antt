@@ -2,7 +2,7 @@ use mathlib.Core.Path.{sym}
 use mathlib.Core.Bool.{true≢false}
 use borrow.Author.Needs.{needs}
 use borrow.Author.Tests.{not-false}
-use Rattle.readable.proofs.Mild.{block-like}
+use Rattle.packed.proofs.Mild.{block-like}
 use Rattle.readable.proofs.blocks.repeats.Statement.{statement}
 use Rattle.readable.proofs.blocks.repeats.Tie as tie
 

@@ -1,4 +1,4 @@
-use Rattle.readable.proofs.Mild.{same-extents}
+use Rattle.packed.proofs.Mild.{same-extents}
 use Rattle.readable.proofs.blocks.same.Statement.{statement}
 use Rattle.readable.proofs.blocks.same.Tie as tie
 

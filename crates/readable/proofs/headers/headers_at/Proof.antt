@@ -1,8 +1,8 @@
 use Prim.Native.Nat.{_-_, _≤_}
 use mathlib.Core.Path.{_≡_}
 use native.Mathlib.Omega.{arith}
-use Rattle.readable.specs.Checks.{greatest, headerRefusal}
-use Rattle.readable.proofs.Greatest.{greatest-none, greatest-still, greatest-all}
+use Rattle.packed.specs.Checks.{greatest, headerRefusal}
+use Rattle.packed.proofs.Greatest.{greatest-none, greatest-still, greatest-all}
 use Rattle.readable.proofs.Offsets.{headers-hit}
 use Rattle.readable.proofs.headers.headers_at.Statement.{statement}
 use Rattle.readable.proofs.headers.headers_at.Tie as tie

@@ -2,7 +2,7 @@ use Prim.Native.Nat.{_-_}
 use mathlib.Core.Path.{_≡_, refl}
 use native.Mathlib.Omega.{arith}
 use lib.ListN.{length}
-use Rattle.readable.proofs.Noted.{sees-same}
+use Rattle.seen.proofs.Noted.{sees-same}
 use Rattle.readable.proofs.Offsets.{Walked, walked-start, walked-known, walked-29, walked-on, walked-end}
 use borrow.Author.Needs.{needs}
 use Rattle.readable.proofs.headers.headers_of.Statement.{statement}

@@ -1,5 +1,5 @@
 use borrow.Author.Needs.{needs}
-use Rattle.readable.proofs.Noted.{blank-zeros}
+use Rattle.seen.proofs.Noted.{blank-zeros}
 use Rattle.readable.proofs.inner.chunk_refusal.Statement.{statement}
 use Rattle.readable.proofs.inner.chunk_refusal.Tie as tie
 

@@ -1,5 +1,5 @@
 use borrow.Author.Needs.{needs}
-use Rattle.readable.proofs.Inside.{span-none, span-cut, span-full}
+use Rattle.packed.proofs.Inside.{span-none, span-cut, span-full}
 use Rattle.readable.proofs.inner.span_of.Statement.{statement}
 use Rattle.readable.proofs.inner.span_of.Tie as tie
 

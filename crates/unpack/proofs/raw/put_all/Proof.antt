@@ -1,9 +1,9 @@
 use Prim.Native.Nat.{_-_}
 use native.Mathlib.Omega.{arith}
-use Rattle.unpack.specs.Raw.{rawChannel}
-use Rattle.unpack.specs.Writing.{channelBytes}
-use Rattle.unpack.proofs.Filled.{Filled, filled-start, filled-next, filled-on, filled-same, filled-length}
-use Rattle.unpack.proofs.Wholes.{channel-length, channel-of-chunk, form-done}
+use Rattle.rawform.specs.Raw.{rawChannel}
+use Rattle.rawform.specs.Writing.{channelBytes}
+use Rattle.rawform.proofs.Filled.{Filled, filled-start, filled-next, filled-on, filled-same, filled-length}
+use Rattle.rawform.proofs.Wholes.{channel-length, channel-of-chunk, form-done}
 use borrow.Author.Needs.{needs}
 use Rattle.unpack.proofs.raw.put_all.Statement.{statement}
 use Rattle.unpack.proofs.raw.put_all.Tie as tie

@@ -1,9 +1,9 @@
 use Prim.Native.Nat.{_-_}
 use native.Mathlib.Omega.{arith}
-use Rattle.unpack.specs.Raw.{rawLayer}
-use Rattle.unpack.specs.Writing.{layerBytes}
-use Rattle.unpack.proofs.Filled.{Filled, filled-start, filled-next, filled-on, filled-same, filled-place}
-use Rattle.unpack.proofs.Wholes.{layer-length, layer-of-channel, channel-done}
+use Rattle.rawform.specs.Raw.{rawLayer}
+use Rattle.rawform.specs.Writing.{layerBytes}
+use Rattle.rawform.proofs.Filled.{Filled, filled-start, filled-next, filled-on, filled-same, filled-place}
+use Rattle.rawform.proofs.Wholes.{layer-length, layer-of-channel, channel-done}
 use borrow.Author.Needs.{needs}
 use Rattle.unpack.proofs.raw.put_channel.Statement.{statement}
 use Rattle.unpack.proofs.raw.put_channel.Tie as tie

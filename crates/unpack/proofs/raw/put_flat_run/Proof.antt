@@ -1,8 +1,8 @@
 use Prim.Native.Nat.{_*_, _-_}
 use native.Mathlib.Omega.{arith}
 use Rattle.segmentation.specs.Labels.{labelWords}
-use Rattle.unpack.specs.Writing.{runVoxel}
-use Rattle.unpack.proofs.Filled.{Filled, filled-start, filled-next, filled-same, filled-place, filled-end}
+use Rattle.rawform.specs.Writing.{runVoxel}
+use Rattle.rawform.proofs.Filled.{Filled, filled-start, filled-next, filled-same, filled-place, filled-end}
 use Rattle.unpack.proofs.Runs.{run-each, flat-in, flat-on}
 use borrow.Author.Needs.{needs}
 use Rattle.unpack.proofs.raw.put_flat_run.Statement.{statement}

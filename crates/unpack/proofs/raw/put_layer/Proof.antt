@@ -1,9 +1,9 @@
 use Prim.Native.Nat.{_-_}
 use native.Mathlib.Omega.{arith}
-use Rattle.unpack.specs.Raw.{rawRow}
-use Rattle.unpack.specs.Writing.{rowBytes}
-use Rattle.unpack.proofs.Filled.{Filled, filled-start, filled-next, filled-on, filled-same, filled-place}
-use Rattle.unpack.proofs.Wholes.{row-length, row-of-layer, layer-done}
+use Rattle.rawform.specs.Raw.{rawRow}
+use Rattle.rawform.specs.Writing.{rowBytes}
+use Rattle.rawform.proofs.Filled.{Filled, filled-start, filled-next, filled-on, filled-same, filled-place}
+use Rattle.rawform.proofs.Wholes.{row-length, row-of-layer, layer-done}
 use borrow.Author.Needs.{needs}
 use Rattle.unpack.proofs.raw.put_layer.Statement.{statement}
 use Rattle.unpack.proofs.raw.put_layer.Tie as tie

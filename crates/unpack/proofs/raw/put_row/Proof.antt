@@ -1,8 +1,8 @@
 use Prim.Native.Nat.{min}
 use Prim.Native.Nat.{_*_, _-_, _≤_}
 use native.Mathlib.Omega.{arith}
-use Rattle.unpack.specs.Raw.{rawVoxel, labelBytes}
-use Rattle.unpack.proofs.Filled.{Filled}
+use Rattle.rawform.specs.Raw.{rawVoxel, labelBytes}
+use Rattle.rawform.proofs.Filled.{Filled}
 use Rattle.unpack.proofs.Rows.{row-some, row-room, row-on, row-start, row-place, row-done, row-same}
 use borrow.Author.Needs.{needs}
 use Rattle.unpack.proofs.raw.put_row.Statement.{statement}

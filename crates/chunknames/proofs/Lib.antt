@@ -1,0 +1,3 @@
+pub mod Chunked
+pub mod Apart
+pub mod Cases

@@ -1,0 +1,5 @@
+pub mod Greatest
+pub mod Mild
+pub mod Inside
+pub mod Runs
+pub mod Sure

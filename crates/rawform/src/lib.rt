@@ -1,0 +1,2 @@
+// The raw form of a chunk of labels: its length.
+pub mod inner;

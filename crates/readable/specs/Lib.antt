@@ -1,3 +1,0 @@
-pub mod Voxels
-pub mod Checks
-pub mod Seen

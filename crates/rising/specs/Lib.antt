@@ -1,0 +1,2 @@
+-- Ranges in rising order (RULES U4).
+pub mod Order

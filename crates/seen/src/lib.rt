@@ -1,0 +1,2 @@
+// Places that were looked at, in a map.
+pub mod inner;

@@ -1,0 +1,3 @@
+-- Laws of writing one minishard as it stands.
+pub mod StoredRows
+pub mod StoredChunks

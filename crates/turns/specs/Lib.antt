@@ -1,0 +1,2 @@
+-- The program `sheet` (RULES H5).
+pub mod Turns

@@ -1,0 +1,2 @@
+-- Windows of the data (RULES U4).
+pub mod Windows

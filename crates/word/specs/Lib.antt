@@ -1,0 +1,2 @@
+-- The border to C.
+pub mod Word

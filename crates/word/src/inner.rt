@@ -1,0 +1,21 @@
+// The answer word of the C interface, of a refusal that comes with a place.
+ghost use mathlib.Core.Path.{_≡_};
+ghost use Prim.Native.Nat.{_+_, _<_};
+ghost use mathlib.Core.Option.{none, some};
+ghost use Rattle.word.specs.Word.{word};
+
+// The word has 32 bits for the position and one.
+pub fn position_word(refusal: u8, position: u64) -> u64
+    requires { ⌜ position + 1 < 4294967296 ⌝ }
+    ensures { λ r. ⌜ r ≡ word refusal none (some position) ⌝ }
+{
+    refusal as u64 + 4294967296 * (position + 1)
+}
+
+// It has 24 bits for the minishard and one.
+pub fn fault_word(refusal: u8, minishard: u64, position: u64) -> u64
+    requires { ⌜ (minishard + 1 < 16777216) × (position + 1 < 4294967296) ⌝ }
+    ensures { λ r. ⌜ r ≡ word refusal (some minishard) (some position) ⌝ }
+{
+    refusal as u64 + 256 * (minishard + 1) + 4294967296 * (position + 1)
+}
