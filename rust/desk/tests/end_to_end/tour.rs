@@ -1,8 +1,9 @@
-//! The README's tour and the dumps of docs/POSITIONS.md, run word for word.
+//! The tour of the README, its rest in docs/TOUR.md and the dumps of
+//! docs/POSITIONS.md, run word for word.
 //!
-//! The tour stands between two marker comments. In its blocks a line that
-//! begins with `$ ` is a command; the lines behind it are what a terminal
-//! shows, and `[status N]` closes them where the exit status is not 0.
+//! Every fenced block is run. A line that begins with `$ ` is a command; the
+//! lines behind it are what a terminal shows, and `[status N]` closes them where
+//! the exit status is not 0.
 
 use crate::support::{Folder, PROGRAM};
 use std::fs;
@@ -10,6 +11,7 @@ use std::os::unix::fs::symlink;
 use std::process::Command;
 
 const README: &str = concat!(env!("CARGO_MANIFEST_DIR"), "/../../README.md");
+const TOUR: &str = concat!(env!("CARGO_MANIFEST_DIR"), "/../../docs/TOUR.md");
 const POSITIONS: &str = concat!(env!("CARGO_MANIFEST_DIR"), "/../../docs/POSITIONS.md");
 
 /// A command of a document and what is shown behind it.
@@ -18,20 +20,11 @@ struct Step {
     shown: String,
 }
 
-/// The text between the markers.
-fn tour(readme: &str) -> &str {
-    let (_, rest) = readme.split_once("<!-- tour -->").expect("the tour begins");
-    let (tour, _) = rest
-        .split_once("<!-- end of tour -->")
-        .expect("the tour ends");
-    tour
-}
-
 /// The commands of all blocks, in order.
-fn steps(tour: &str) -> Vec<Step> {
+fn steps(text: &str) -> Vec<Step> {
     let mut steps: Vec<Step> = Vec::new();
     // Every second part is what stands between two fences.
-    for block in tour.split("```").skip(1).step_by(2) {
+    for block in text.split("```").skip(1).step_by(2) {
         let lines = block
             .strip_prefix("console\n")
             .expect("a block of console text");
@@ -57,7 +50,7 @@ fn shown(folder: &Folder, command: &str) -> String {
         .current_dir(folder.path())
         .output()
         .expect("sh starts");
-    let mut shown = String::from_utf8(output.stdout).expect("the tour shows text");
+    let mut shown = String::from_utf8(output.stdout).expect("a command shows text");
     if output.status.code() != Some(0) {
         let status = output.status.code().expect("an exit status");
         shown += &format!("[status {status}]\n");
@@ -78,20 +71,51 @@ fn run(steps: &[Step], programs: &[&str]) {
     }
 }
 
+/// The commands of a document.
+fn read(path: &str) -> Vec<Step> {
+    let text = fs::read_to_string(path).unwrap_or_else(|error| panic!("{path}: {error}"));
+    steps(&text)
+}
+
+/// The commands of the tool that its help lists: two spaces, a name, what it does.
+fn commands() -> Vec<String> {
+    let folder = Folder::new();
+    let help = folder.run(["help"]);
+    let text = help.expect_status(0).text();
+    let (lists, _) = text.split_once("\nOptions may").expect("options behind");
+    let named = |line: &str| -> Option<String> {
+        let name = line.strip_prefix("  ")?.split(' ').next()?;
+        (!name.is_empty()).then(|| name.to_string())
+    };
+    lists.lines().filter_map(named).collect()
+}
+
+/// As a reader goes: the README's tour and then the rest, in one folder. Neither
+/// has lost a block, the README's stays short, and no command is left out.
 #[test]
-fn the_tour_shows_what_it_says() {
-    let readme = fs::read_to_string(README).expect("the README");
-    let steps = steps(tour(&readme));
-    assert!(steps.len() >= 10, "{} commands", steps.len());
-    run(&steps, &["./coronagamba"]);
+fn the_tours_show_what_they_say() {
+    let (first, rest) = (read(README), read(TOUR));
+    assert!(first.len() >= 6, "README: {} commands", first.len());
+    assert!(rest.len() >= 47, "docs/TOUR.md: {} commands", rest.len());
+    let lines = |step: &Step| 1 + step.shown.lines().count();
+    let length: usize = first.iter().map(lines).sum();
+    assert!((30..=45).contains(&length), "README: {length} lines");
+    let steps: Vec<Step> = first.into_iter().chain(rest).collect();
+    let commands = commands();
+    assert!(commands.len() >= 18, "{commands:?}");
+    for command in commands {
+        let begin = format!("./coronagamba {command} ");
+        let shown = steps.iter().any(|step| step.command.starts_with(&begin));
+        assert!(shown, "no tour has {command}");
+    }
+    run(&steps, &["./coronagamba", "cat"]);
 }
 
 /// Each of 7 to 11, 15 to 17 and 21 is met by a check, and the next dump begins at
 /// the byte that it tells, with as many bytes as the rules give the position.
 #[test]
 fn the_dumps_show_what_they_say() {
-    let text = fs::read_to_string(POSITIONS).expect("docs/POSITIONS.md");
-    let steps = steps(&text);
+    let steps = read(POSITIONS);
     run(&steps, &["./coronagamba", "cp", "printf", "od"]);
     for number in (7..=11).chain(15..=17).chain([21]) {
         let refused = format!(": refused {number} in minishard ");
