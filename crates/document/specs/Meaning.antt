@@ -1,4 +1,4 @@
--- What the answer means (order 'read the settings from the info file').
+-- What the answer means (order 1).
 use Prim.Native.Nat.{ℕ, _+_, _≤_}
 use mathlib.Core.Path.{_≡_}
 use mathlib.Core.Logic.{_↔_}

@@ -1,4 +1,4 @@
--- The settings that a document says: what a reader believes of an info file (order 'read the settings from the info file'; sources 000 and 002).
+-- The settings that a document says: what a reader believes of an info file (order 1; sources 000 and 002).
 use Prim.Native.Nat.{ℕ}
 use mathlib.Core.Bool.{Bool, true, false, _&&_}
 use mathlib.Core.List.{List, _∷_}

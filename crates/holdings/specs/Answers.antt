@@ -24,7 +24,7 @@ joinAnswer a b = answered Refused (check 27 (anyPasses (rows (both a b))) ∷ []
 unfoldable pub sheetOf : Sharding → ℕ → List ℕ → Sheet
 sheetOf spec shard file = shardSheet (checkAnswer spec shard file) (fileMeasure spec file)
 
--- RULES H2
+-- RULES H2, H3
 unfoldable pub addAnswer : Sheet → Sharding → ℕ → List ℕ → SheetAnswer
 addAnswer sheet spec shard file = joinAnswer sheet (sheetOf spec shard file)
 

@@ -1,4 +1,4 @@
--- The settings that an info file says, as the record of a card (order 'read the settings from the info file').
+-- The settings that an info file says, as the record of a card (order 1).
 use Prim.Native.Nat.{ℕ}
 use mathlib.Core.Bool.{Bool, true, false, _&&_}
 use mathlib.Core.List.{List}

@@ -17,7 +17,7 @@ numbersOf s =
     ∷ s .shard ∷ s .output ∷ s .waiting
     ∷ s .minishard ∷ s .count ∷ s .last ∷ s .begin ∷ s .next ∷ s .owed ∷ s .phase ∷ []
 
--- the specification and the state that any 15 numbers are (RULES N9)
+-- the specification that any 15 numbers are (RULES N9)
 unfoldable pub specOf : List ℕ → Sharding
 specOf xs = record {
   preshift = narrow (getD xs 0 0);
@@ -27,6 +27,7 @@ specOf xs = record {
   kind = narrow (getD xs 4 0);
 }
 
+-- the state that they are (RULES N9)
 unfoldable pub stateOf : List ℕ → Intake
 stateOf xs = record {
   spec = specOf xs;

@@ -10,7 +10,7 @@ use Rattle.text.specs.declared.Found.{Found}
 use Rattle.text.specs.declared.Found.the-variants.{At, Nothing}
 use Rattle.strings.specs.Chars.{stringAt}
 
--- "to a depth of 32" (order 'read the settings from the info file') (RULES I2)
+-- "to a depth of 32" (order 1) (RULES I2)
 abbrev pub deepest : ℕ
 deepest = 32
 

@@ -47,6 +47,7 @@ countChecks spec shard file m =
     fileChecks spec (noSuchShard spec shard || leb (minishardCount spec) m) file
     ++ minishardChecks spec shard (indexPart spec file) (dataPart spec file) m
 
+-- how many entries there are (RULES L5)
 unfoldable pub countAnswer : Sharding → ℕ → List ℕ → ℕ → CountAnswer
 countAnswer spec shard file m = answeredAt Refused Faulty (countChecks spec shard file m) (Count (listedCount spec file m))
 

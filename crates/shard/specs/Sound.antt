@@ -50,6 +50,7 @@ pub record SoundShard (spec : Sharding) (shard : ℕ) (file : List ℕ) : Type 0
 -- ---- which are not
 
 -- none of 1, 5 and 6 holds; minishard m is the first, in number order, with a fault, k is the first number that holds of it, and p its position
+-- (RULES F13)
 pub record FirstFaultIs (spec : Sharding) (shard : ℕ) (file : List ℕ) (k m p : ℕ) : Type 0 where
   pub called : firstNumber (fileChecks spec (noSuchShard spec shard) file) ≡ 0
   pub below : m < minishardCount spec

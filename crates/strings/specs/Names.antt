@@ -1,4 +1,4 @@
--- The text of a string with its escapes undone, as bytes of UTF-8: "strings compare unescaped" (order 'read the settings from the info file').
+-- The text of a string with its escapes undone, as bytes of UTF-8: "strings compare unescaped" (order 1).
 use Prim.Native.Nat.{ℕ, zero, suc, _+_, _-_, _*_, _/_, _%_}
 use mathlib.Core.List.{List, [], _∷_, _++_}
 use mathlib.Core.Bool.{Bool, true, false, not, _&&_}

@@ -1,4 +1,4 @@
--- What the program `sheet` makes of its input, shard by shard (RULES H5docs/SHEET.md fixes the input).
+-- What the program `sheet` makes of its input, shard by shard (RULES H5; docs/SHEET.md fixes the input).
 use Prim.Native.Nat.{ℕ, suc, _-_, _^_, _≤_}
 use mathlib.Core.Path.{_≡_}
 use mathlib.Core.Bool.{Bool, false, _||_}

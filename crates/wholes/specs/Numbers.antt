@@ -33,6 +33,7 @@ in32 n = pick (ltb n (2 ^ 32)) (Is n) Wrong
 unfoldable pub digitsFrom : List ℕ → ℕ → Number
 digitsFrom s p = pick (goesOn (byteAt s (digits s p))) Wrong (in32 (decimalAt s p))
 
+-- digits alone, without fraction and exponent (RULES I6)
 unfoldable pub wholeFrom : List ℕ → ℕ → Number
 wholeFrom s p = pick (isDigit (byteAt s p)) (digitsFrom s p) Wrong
 

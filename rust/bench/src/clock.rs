@@ -1,6 +1,8 @@
-//! The processor time of this thread, and of programs that it ran.
+//! The processor time of this thread, and of programs that it ran; the time on the wall
+//! and the memory of programs.
 
-use std::time::Duration;
+use std::process::{Child, Command, Stdio};
+use std::time::{Duration, Instant};
 
 /// Linux's number for the thread's processor clock.
 const THREAD_CLOCK: i32 = 3;
@@ -39,11 +41,14 @@ const CHILDREN: i32 = -1;
 struct Usage {
     user: [i64; 2],
     system: [i64; 2],
-    other: [i64; 14],
+    /// The greatest resident memory, in KiB.
+    resident: i64,
+    other: [i64; 13],
 }
 
 extern "C" {
     fn getrusage(who: i32, usage: *mut Usage) -> i32;
+    fn wait4(process: i32, status: *mut i32, options: i32, usage: *mut Usage) -> i32;
 }
 
 /// How long the programs have run that this one started and waited for.
@@ -54,4 +59,51 @@ pub fn children_time() -> Duration {
     assert_eq!(status, 0, "the children have a clock");
     let time = |[seconds, micros]: [i64; 2]| Duration::new(seconds as u64, 1000 * micros as u32);
     time(usage.user) + time(usage.system)
+}
+
+/// What programs took that ran side by side or in turn.
+#[derive(Clone, Copy, Debug, Default)]
+pub struct Used {
+    /// Their time on the wall.
+    pub seconds: f64,
+    resident: i64,
+}
+
+impl Used {
+    /// The greatest resident memory of one of them.
+    pub fn mib(&self) -> f64 {
+        self.resident as f64 / 1024.0
+    }
+
+    /// These and then others.
+    pub fn then(self, next: Used) -> Used {
+        Used {
+            seconds: self.seconds + next.seconds,
+            resident: self.resident.max(next.resident),
+        }
+    }
+}
+
+/// Runs programs side by side to their ends, which must be good ones.
+pub fn used<const N: usize>(programs: [Command; N]) -> Used {
+    let start = Instant::now();
+    let started = programs.map(|mut program| {
+        let child = program.stdout(Stdio::null()).spawn();
+        child.expect("the program starts")
+    });
+    let resident = started.map(resident).into_iter().max();
+    Used {
+        seconds: start.elapsed().as_secs_f64(),
+        resident: resident.unwrap_or_default(),
+    }
+}
+
+/// Waits for a program and gives its greatest resident memory, in KiB.
+fn resident(program: Child) -> i64 {
+    let (process, mut status, mut usage) = (program.id() as i32, 0, Usage::default());
+    // SAFETY: the results go to live values of the layout that is asked for; the process
+    // is a child that nobody else waits for.
+    let waited = unsafe { wait4(process, &mut status, 0, &mut usage) };
+    assert_eq!((waited, status), (process, 0), "the program ends well");
+    usage.resident
 }

@@ -9,7 +9,6 @@
 //! label, locate, desk.
 
 mod cards;
-mod clock;
 mod desk;
 mod infos;
 mod intakes;
@@ -22,6 +21,8 @@ mod pairs;
 mod places;
 mod runner;
 mod shards;
+
+use bench::clock;
 
 /// The groups of measures, by the word that chooses them.
 const GROUPS: [(&str, fn()); 13] = [

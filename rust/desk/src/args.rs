@@ -6,32 +6,8 @@ use std::path::Path;
 use std::str::FromStr;
 
 use crate::fault::Fault;
-use crate::report::shown;
-
-/// An option that a command knows.
-#[derive(Clone, Copy, Debug)]
-pub struct Opt {
-    /// Its name, with the two dashes.
-    pub name: &'static str,
-    /// Whether a value follows it.
-    pub takes_value: bool,
-}
-
-/// An option that stands alone.
-pub const fn flag(name: &'static str) -> Opt {
-    Opt {
-        name,
-        takes_value: false,
-    }
-}
-
-/// An option that a value follows.
-pub const fn value(name: &'static str) -> Opt {
-    Opt {
-        name,
-        takes_value: true,
-    }
-}
+use crate::options::Opt;
+use crate::text::shown;
 
 /// The words of a command, sorted out.
 #[derive(Debug, Default)]
@@ -58,54 +34,70 @@ impl Args {
             }
             let (name, joined) = split(word);
             let option = known(name, options)?;
-            let value = match (option.takes_value, joined) {
+            let value = match (option.takes_value(), joined) {
                 (false, None) => OsString::new(),
-                (false, Some(_)) => return Err(with_name(option.name, "takes no value")),
+                (false, Some(_)) => return Err(with_name(option, "takes no value")),
                 (true, Some(value)) => value.to_os_string(),
                 (true, None) => words
                     .next()
                     .filter(|next| !next.as_bytes().starts_with(b"--"))
-                    .ok_or_else(|| with_name(option.name, "needs a value"))?
+                    .ok_or_else(|| with_name(option, "needs a value"))?
                     .clone(),
             };
-            args.give(option.name, value)?;
+            args.give(option, value)?;
         }
         Ok(args)
     }
 
     /// Takes an option that may be given only once.
-    fn give(&mut self, name: &'static str, value: OsString) -> Result<(), Fault> {
-        if self.value(name).is_some() {
-            return Err(with_name(name, "is given twice"));
+    fn give(&mut self, option: Opt, value: OsString) -> Result<(), Fault> {
+        if self.flag(option) {
+            return Err(with_name(option, "is given twice"));
         }
-        self.given.push((name, value));
+        self.given.push((option.name(), value));
         Ok(())
     }
 
     /// Whether an option is given.
-    pub fn flag(&self, name: &str) -> bool {
-        self.value(name).is_some()
+    pub fn flag(&self, option: Opt) -> bool {
+        self.value(option).is_some()
     }
 
     /// The value of an option.
-    pub fn value(&self, name: &str) -> Option<&OsStr> {
+    pub fn value(&self, option: Opt) -> Option<&OsStr> {
         let mut given = self.given.iter();
         given
-            .find(|(given, _)| *given == name)
+            .find(|(given, _)| *given == option.name())
             .map(|(_, value)| value.as_os_str())
     }
 
     /// The value of an option that is a whole number, decimal or 0x hex.
-    pub fn number(&self, name: &str) -> Result<Option<u64>, Fault> {
-        self.value(name)
-            .map(|value| number(value, name))
+    pub fn number(&self, option: Opt) -> Result<Option<u64>, Fault> {
+        self.value(option)
+            .map(|value| number(value, option.name()))
             .transpose()
     }
 
     /// The value of an option that must be there.
-    pub fn needed(&self, name: &str) -> Result<&OsStr, Fault> {
-        self.value(name)
-            .ok_or_else(|| Fault::wrong_use(format!("{name} is missing")))
+    pub fn needed(&self, option: Opt) -> Result<&OsStr, Fault> {
+        self.value(option)
+            .ok_or_else(|| Fault::wrong_use(format!("{option} is missing")))
+    }
+
+    /// All words as text: the options that are `wanted`, in the order of their names,
+    /// then the arguments.
+    pub fn words(&self, wanted: impl Fn(&str) -> bool) -> Vec<String> {
+        let text = |word: &OsStr| match word.to_str() {
+            Some(text) => text.to_string(),
+            None => word.as_bytes().escape_ascii().to_string(),
+        };
+        let given = self.given.iter().filter(|(name, _)| wanted(name));
+        let mut words: Vec<String> = given
+            .map(|(name, value)| format!("{name}={}", text(value)))
+            .collect();
+        words.sort();
+        words.extend(self.arguments.iter().map(|word| text(word)));
+        words
     }
 
     /// What is not an option.
@@ -162,11 +154,11 @@ fn split(word: &OsStr) -> (&OsStr, Option<&OsStr>) {
 /// The option of a name.
 fn known(name: &OsStr, options: &[&[Opt]]) -> Result<Opt, Fault> {
     let mut all = options.iter().flat_map(|part| part.iter());
-    if let Some(option) = all.find(|option| name == option.name) {
+    if let Some(option) = all.find(|option| name == option.name()) {
         return Ok(*option);
     }
     let all = options.iter().flat_map(|part| part.iter());
-    let names = all.map(|option| option.name);
+    let names = all.map(|option| option.name());
     let hint = match nearest(name, names) {
         Some(near) => format!(" (nearest: {near})"),
         None => String::new(),
@@ -178,8 +170,8 @@ fn known(name: &OsStr, options: &[&[Opt]]) -> Result<Opt, Fault> {
 }
 
 /// Wrong use of an option.
-fn with_name(name: &str, what: &str) -> Fault {
-    Fault::wrong_use(format!("option {name} {what}"))
+fn with_name(option: Opt, what: &str) -> Fault {
+    Fault::wrong_use(format!("option {option} {what}"))
 }
 
 /// The name that needs the fewest single-character changes.
@@ -273,8 +265,9 @@ pub const U8: &str = "a number from 0 to 255";
 #[cfg(test)]
 mod tests {
     use super::*;
+    use crate::options::{FORCE, OFFSET, OUT};
 
-    const OPTIONS: &[&[Opt]] = &[&[value("--out"), value("--offset")], &[flag("--force")]];
+    const OPTIONS: &[&[Opt]] = &[&[OUT, OFFSET], &[FORCE]];
 
     fn parse(words: &[&str]) -> Result<Args, String> {
         let words: Vec<OsString> = words.iter().map(OsString::from).collect();
@@ -289,30 +282,27 @@ mod tests {
     fn options_stand_anywhere() {
         let args = parse(&["a", "--out", "b", "c", "--force", "-", "-1,0,0"]).unwrap();
         assert_eq!(args.arguments(), ["a", "c", "-", "-1,0,0"]);
-        assert_eq!(args.value("--out"), Some(OsStr::new("b")));
-        assert!(args.flag("--force"));
-        assert_eq!(args.value("--offset"), None);
+        assert_eq!(args.value(OUT), Some(OsStr::new("b")));
+        assert!(args.flag(FORCE));
+        assert_eq!(args.value(OFFSET), None);
     }
 
     #[test]
     fn values_may_be_joined_empty_negative_or_no_text() {
         let args = parse(&["--out=--x=y", "--offset", "-64,0,0"]).unwrap();
-        assert_eq!(args.value("--out"), Some(OsStr::new("--x=y")));
-        assert_eq!(args.value("--offset"), Some(OsStr::new("-64,0,0")));
-        assert_eq!(
-            parse(&["--out="]).unwrap().value("--out"),
-            Some(OsStr::new(""))
-        );
+        assert_eq!(args.value(OUT), Some(OsStr::new("--x=y")));
+        assert_eq!(args.value(OFFSET), Some(OsStr::new("-64,0,0")));
+        assert_eq!(parse(&["--out="]).unwrap().value(OUT), Some(OsStr::new("")));
         let word = OsStr::from_bytes(b"--out=\xff").to_os_string();
         let args = Args::parse(&[word], OPTIONS).unwrap();
-        assert_eq!(args.value("--out"), Some(OsStr::from_bytes(b"\xff")));
+        assert_eq!(args.value(OUT), Some(OsStr::from_bytes(b"\xff")));
     }
 
     #[test]
     fn two_dashes_end_the_options() {
         let args = parse(&["--force", "--", "--out", "-x"]).unwrap();
         assert_eq!(args.arguments(), ["--out", "-x"]);
-        assert_eq!(args.value("--out"), None);
+        assert_eq!(args.value(OUT), None);
     }
 
     #[test]

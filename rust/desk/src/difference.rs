@@ -4,8 +4,7 @@ use std::fmt;
 
 use coronagamba::{Shard, Sharding, Span};
 
-use crate::fragments::{Fragment, Fragments};
-use crate::settings::is_mesh;
+use crate::fragments::{is_mesh, Fragment, Fragments};
 
 /// One of two things that are compared.
 #[derive(Clone, Copy, Debug, PartialEq, Eq)]

@@ -2,16 +2,13 @@
 //! file and a data file. The two files of a pair are never joined: the library
 //! takes them as they are.
 
-use std::ffi::OsString;
-use std::fmt;
 use std::ops::Range;
 use std::path::{Path, PathBuf};
 
 use coronagamba::{Counts, Listed, Pair, Refusal, Shard, Sharding, Sheet, Span, Unlisted};
 
 use crate::fault::Fault;
-use crate::files::{length_to_read, read_front, read_into};
-use crate::report::shown;
+use crate::files::{length_and_change, read_front, read_into};
 
 /// The most bytes that are read of an index file: one more than a shard index may
 /// have, 16 for each of 65,536 minishards, so that the library sees that it is too
@@ -54,48 +51,24 @@ impl Source {
 
     /// How many bytes reading them will ask for at first.
     pub fn length_to_read(&self) -> u64 {
-        match &self.data {
-            None => length_to_read(&self.path),
-            Some(data) => length_to_read(&self.path).min(MOST_INDEX_BYTES) + length_to_read(data),
-        }
+        self.length_and_change().0
+    }
+
+    /// The same, and a number that another time of change makes another one.
+    pub fn length_and_change(&self) -> (u64, u64) {
+        let (length, changed) = length_and_change(&self.path);
+        let Some(data) = &self.data else {
+            return (length, changed);
+        };
+        let (data, data_changed) = length_and_change(data);
+        let changed = both_changes(changed, data_changed);
+        (length.min(MOST_INDEX_BYTES) + data, changed)
     }
 }
 
-/// Why its files do not say which bytes are a shard's. Neither is guessed.
-#[derive(Debug)]
-pub enum Unclear {
-    /// Of its pair this file is missing.
-    Half(OsString),
-    /// Both editions are there: its file, and these of its pair.
-    Both(OsString, Vec<OsString>),
-}
-
-impl Unclear {
-    /// What it is in a word, as a result in JSON.
-    pub fn result(&self) -> &'static str {
-        match self {
-            Unclear::Half(_) => "half a pair",
-            Unclear::Both(..) => "both editions",
-        }
-    }
-}
-
-impl fmt::Display for Unclear {
-    fn fmt(&self, f: &mut fmt::Formatter<'_>) -> fmt::Result {
-        let shown = |name: &OsString| shown(Path::new(name));
-        match self {
-            Unclear::Half(missing) => write!(f, "half a pair, {} is missing", shown(missing)),
-            Unclear::Both(file, pair) => {
-                let pair: Vec<String> = pair.iter().map(shown).collect();
-                write!(
-                    f,
-                    "there in both editions, {} and {}; neither is read",
-                    shown(file),
-                    pair.join(" with ")
-                )
-            }
-        }
-    }
+/// One number for the times of change of two files. They do not change places.
+pub fn both_changes(first: u64, second: u64) -> u64 {
+    first.wrapping_mul(31).wrapping_add(second)
 }
 
 /// The files of a shard in memory.

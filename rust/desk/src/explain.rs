@@ -1,21 +1,10 @@
 //! What each refusal number means, what usually causes it, and what to do.
 
+mod row;
 mod table;
 
+pub use row::Explained;
 pub use table::TABLE;
-
-/// A number of the table, explained.
-#[derive(Debug)]
-pub struct Explained {
-    /// The number.
-    pub number: u8,
-    /// When it is given, in the table's words; what goes beyond them is marked.
-    pub given: &'static str,
-    /// What usually causes it.
-    pub cause: &'static str,
-    /// What to do.
-    pub remedy: &'static str,
-}
 
 /// The explanation of a number, where the table has it.
 pub fn explained(number: u64) -> Option<&'static Explained> {

@@ -7,10 +7,10 @@ use std::path::{Path, PathBuf};
 
 use coronagamba::Refusal;
 
-use crate::diagnosis::Diagnosis;
-use crate::edition::Unclear;
-use crate::files::MOST_BYTES;
-use crate::report::shown;
+use crate::buffers::MOST_BYTES;
+use crate::diagnosis::words::Diagnosis;
+use crate::text::shown;
+use crate::unclear::Unclear;
 
 /// The exit status of the program. Over many files the greatest one counts.
 #[derive(Clone, Copy, Debug, Default, PartialEq, Eq, PartialOrd, Ord)]
@@ -26,6 +26,14 @@ pub enum Status {
     System = 3,
 }
 
+impl Status {
+    /// The status of a number.
+    pub fn of(number: u64) -> Option<Status> {
+        let all = [Status::Yes, Status::No, Status::Use, Status::System];
+        all.into_iter().find(|status| *status as u64 == number)
+    }
+}
+
 /// What a refusal is about.
 #[derive(Clone, Debug, PartialEq, Eq)]
 pub enum Subject {
@@ -33,6 +41,30 @@ pub enum Subject {
     Path(PathBuf),
     /// Something that was asked for in words: the settings, a cell, a key.
     Asked(String),
+}
+
+impl From<&PathBuf> for Subject {
+    fn from(path: &PathBuf) -> Self {
+        Subject::Path(path.clone())
+    }
+}
+
+impl From<&Path> for Subject {
+    fn from(path: &Path) -> Self {
+        Subject::Path(path.to_path_buf())
+    }
+}
+
+impl From<&str> for Subject {
+    fn from(asked: &str) -> Self {
+        Subject::Asked(asked.to_string())
+    }
+}
+
+impl From<fmt::Arguments<'_>> for Subject {
+    fn from(asked: fmt::Arguments) -> Self {
+        Subject::Asked(asked.to_string())
+    }
 }
 
 impl fmt::Display for Subject {
@@ -55,32 +87,32 @@ pub struct Refused {
     pub diagnosis: Diagnosis,
 }
 
-impl Refused {
-    /// A refusal about a file.
-    pub fn file(path: &Path, refusal: Refusal, mut diagnosis: Diagnosis) -> Self {
-        if let Some(length) = length_not_read(path, refusal) {
-            diagnosis.found = format!("a file of {length} bytes");
-        }
-        Refused {
-            subject: Subject::Path(path.to_path_buf()),
-            refusal,
-            diagnosis,
-        }
-    }
+/// An answer of the library, whose refusal is explained and becomes a fault.
+pub trait Explain<T> {
+    /// The answer, or the refusal of this subject with its diagnosis.
+    fn explain(
+        self,
+        subject: impl Into<Subject>,
+        diagnose: impl FnOnce(Refusal) -> Diagnosis,
+    ) -> Result<T, Fault>;
+}
 
-    /// A refusal about something that was asked for in words.
-    pub fn asked(asked: impl Into<String>, refusal: Refusal, diagnosis: Diagnosis) -> Self {
-        Refused {
-            subject: Subject::Asked(asked.into()),
-            refusal,
-            diagnosis,
-        }
+impl<T> Explain<T> for Result<T, Refusal> {
+    fn explain(
+        self,
+        subject: impl Into<Subject>,
+        diagnose: impl FnOnce(Refusal) -> Diagnosis,
+    ) -> Result<T, Fault> {
+        self.map_err(|refusal| Fault::refused(subject, refusal, diagnose(refusal)))
     }
 }
 
 /// The length of a shard file that is too long. It is read only as far as that
 /// shows; the system knows the rest.
-fn length_not_read(path: &Path, refusal: Refusal) -> Option<u64> {
+fn length_not_read(subject: &Subject, refusal: Refusal) -> Option<u64> {
+    let Subject::Path(path) = subject else {
+        return None;
+    };
     let about = fs::metadata(path).ok()?;
     let too_long = refusal.number == 6 && about.is_file() && about.len() >= MOST_BYTES;
     too_long.then_some(about.len())
@@ -118,6 +150,16 @@ pub enum Fault {
         /// What is the matter with it.
         fault: Box<Fault>,
     },
+    /// A file has the name of no shard under the sharding.
+    Misnamed {
+        /// The file.
+        path: PathBuf,
+        /// What is said of its name.
+        error: String,
+        /// Whether it was named by itself, so that `--shard` could have given its
+        /// number.
+        alone: bool,
+    },
     /// The files of a shard do not say which bytes are its own.
     Unclear {
         /// A file of it that is there.
@@ -144,6 +186,23 @@ pub enum Fault {
 }
 
 impl Fault {
+    /// The library's refusal of something.
+    pub fn refused(
+        subject: impl Into<Subject>,
+        refusal: Refusal,
+        mut diagnosis: Diagnosis,
+    ) -> Self {
+        let subject = subject.into();
+        if let Some(length) = length_not_read(&subject, refusal) {
+            diagnosis.found = format!("a file of {length} bytes");
+        }
+        Fault::Refused(Box::new(Refused {
+            subject,
+            refusal,
+            diagnosis,
+        }))
+    }
+
     /// Wrong use.
     pub fn wrong_use(message: impl Into<String>) -> Self {
         Fault::Use {
@@ -171,11 +230,34 @@ impl Fault {
     /// The exit status that goes with it.
     pub fn status(&self) -> Status {
         match self {
-            Fault::Refused(_) | Fault::Unclear { .. } => Status::No,
-            Fault::Use { .. } => Status::Use,
+            Fault::Use { .. } | Fault::Misnamed { alone: true, .. } => Status::Use,
+            Fault::Refused(_) | Fault::Misnamed { .. } | Fault::Unclear { .. } => Status::No,
             Fault::Settings { fault, .. } => fault.status(),
             Fault::System { .. } | Fault::ClosedPipe | Fault::Unwritten { .. } => Status::System,
         }
+    }
+
+    /// Whether it is a refusal of the library.
+    pub fn is_refused(&self) -> bool {
+        matches!(self, Fault::Refused(_))
+    }
+
+    /// Whether it is about a name.
+    pub fn is_misnamed(&self) -> bool {
+        matches!(self, Fault::Misnamed { .. })
+    }
+
+    /// Whether it is not clear which bytes are a shard's.
+    pub fn is_unclear(&self) -> bool {
+        matches!(self, Fault::Unclear { .. })
+    }
+
+    /// Whether the command line is wrong, whose help is named then.
+    pub fn is_misuse(&self) -> bool {
+        matches!(
+            self,
+            Fault::Use { .. } | Fault::Misnamed { alone: true, .. }
+        )
     }
 
     /// Whether the system had no memory to give.
@@ -189,18 +271,19 @@ impl Fault {
     }
 }
 
-impl From<Refused> for Fault {
-    fn from(refused: Refused) -> Self {
-        Fault::Refused(Box::new(refused))
-    }
-}
-
 impl fmt::Display for Fault {
     fn fmt(&self, f: &mut fmt::Formatter<'_>) -> fmt::Result {
         match self {
             Fault::Refused(refused) => refused.fmt(f),
             Fault::Use { message } => f.write_str(message),
             Fault::Settings { fault, .. } => fault.fmt(f),
+            Fault::Misnamed { path, error, alone } => {
+                let hint = match alone {
+                    true => "; give the shard's number with --shard N",
+                    false => "",
+                };
+                write!(f, "{}: {error}{hint}", shown(path))
+            }
             Fault::Unclear { path, unclear } => write!(f, "{}: {unclear}", shown(path)),
             Fault::System { path, done, error } => {
                 write!(f, "{}: cannot be {done}: {error}", shown(path))
@@ -215,14 +298,14 @@ impl fmt::Display for Fault {
 mod tests {
     use super::*;
 
-    fn refused(minishard: Option<u64>) -> Refused {
+    fn refused(minishard: Option<u64>) -> Fault {
         let diagnosis = Diagnosis::new("one", "two", "three");
         let refusal = Refusal {
             number: 11,
             minishard,
             position: Some(61),
         };
-        Refused::file(Path::new("a/0.shard"), refusal, diagnosis)
+        Fault::refused(Path::new("a/0.shard"), refusal, diagnosis)
     }
 
     #[test]
@@ -242,7 +325,7 @@ mod tests {
     fn the_greatest_status_is_the_worst() {
         assert!(Status::Yes < Status::No && Status::No < Status::Use);
         assert!(Status::Use < Status::System);
-        assert_eq!(Fault::from(refused(None)).status() as u8, 1);
+        assert_eq!(refused(None).status() as u8, 1);
         assert_eq!(Fault::wrong_use("x").status() as u8, 2);
         let error = io::Error::from_raw_os_error(2);
         let fault = Fault::system(Path::new("b"), "opened", error);

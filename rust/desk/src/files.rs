@@ -6,18 +6,21 @@ use std::io::{self, Read};
 use std::os::unix::fs::MetadataExt;
 use std::path::{Path, PathBuf};
 
+use crate::buffers::{reserve, MOST_BYTES};
 use crate::fault::Fault;
-use crate::memory::reserve;
-use crate::report::shown;
-
-/// The most bytes that are read of a file: one more than a shard may have, so
-/// that the library sees that it is too long and gives 6 (scope, refusals).
-pub const MOST_BYTES: u64 = (1 << 30) + 1;
+use crate::text::shown;
 
 /// The bytes of a file, a pipe or a device; at most `MOST_BYTES`.
 pub fn read_whole(path: &Path) -> Result<Vec<u8>, Fault> {
     let mut bytes = Vec::new();
     read_into(path, &mut bytes)?;
+    Ok(bytes)
+}
+
+/// The bytes of a file, however many.
+pub fn read_to_end(path: &Path) -> Result<Vec<u8>, Fault> {
+    let mut bytes = Vec::new();
+    read_front(path, &mut bytes, u64::MAX)?;
     Ok(bytes)
 }
 
@@ -47,10 +50,14 @@ fn fill(path: &Path, bytes: &mut Vec<u8>, most: u64) -> io::Result<()> {
     Ok(())
 }
 
-/// How many bytes reading this file will ask for at first; 0 where the system
-/// does not tell.
-pub fn length_to_read(path: &Path) -> u64 {
-    fs::metadata(path).map_or(0, |about| about.len().min(MOST_BYTES))
+/// How many bytes reading this file will ask for at first, and when it was last
+/// changed, in nanoseconds; 0 where the system does not tell.
+pub fn length_and_change(path: &Path) -> (u64, u64) {
+    fs::metadata(path).map_or((0, 0), |about| {
+        let seconds = (about.mtime() as u64).wrapping_mul(1_000_000_000);
+        let changed = seconds.wrapping_add(about.mtime_nsec() as u64);
+        (about.len().min(MOST_BYTES), changed)
+    })
 }
 
 /// Whether there is nothing under this name, not even a link that leads
@@ -132,7 +139,7 @@ mod tests {
             let bytes: Vec<u8> = (0..length).map(|i| (i % 251) as u8).collect();
             let path = folder.write("a", &bytes);
             assert_eq!(read_whole(&path).unwrap(), bytes);
-            assert_eq!(length_to_read(&path), length as u64);
+            assert_eq!(length_and_change(&path).0, length as u64);
         }
     }
 
@@ -167,6 +174,19 @@ mod tests {
     }
 
     #[test]
+    fn a_report_may_be_longer_than_a_shard() {
+        let folder = Folder::new("files-long");
+        let path = folder.write("a", b"");
+        let long = MOST_BYTES + 5;
+        File::options()
+            .write(true)
+            .open(&path)
+            .and_then(|file| file.set_len(long))
+            .unwrap();
+        assert_eq!(read_to_end(&path).unwrap().len() as u64, long);
+    }
+
+    #[test]
     fn a_device_without_end_is_cut_off() {
         assert_eq!(
             read_whole(Path::new("/dev/zero")).unwrap().len() as u64,
@@ -183,7 +203,7 @@ mod tests {
         let dangling = folder.at("dangling");
         symlink(folder.at("none"), &dangling).unwrap();
         assert!(told(&dangling).contains("No such file"));
-        assert_eq!(length_to_read(&dangling), 0);
+        assert_eq!(length_and_change(&dangling), (0, 0));
     }
 
     #[test]

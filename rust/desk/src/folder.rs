@@ -9,11 +9,13 @@ use std::path::Path;
 use coronagamba::{Refusal, Sharding};
 
 use crate::args::Args;
-use crate::edition::{Source, Unclear};
+use crate::edition::Source;
 use crate::fault::Fault;
 use crate::files::is_missing;
-use crate::naming::{shard_number, unnumbered, Ending};
-use crate::report::shown;
+use crate::naming::{no_shard, shard_number, Ending};
+use crate::options::SHARD;
+use crate::text::shown;
+use crate::unclear::Unclear;
 
 /// A shard that is to be read.
 #[derive(Debug)]
@@ -21,31 +23,20 @@ pub struct Input {
     /// Its files.
     pub source: Source,
     /// Its number, or why it is not read.
-    pub number: Result<u64, Trouble>,
+    pub number: Result<u64, Fault>,
 }
 
 impl Input {
-    /// Its files and its number, where it is to be read.
-    pub fn known(self, sharding: &Sharding) -> Result<(Source, u64), Fault> {
-        match self.number {
-            Ok(number) => Ok((self.source, number)),
-            Err(Trouble::Misnamed { .. }) => Err(unnumbered(sharding, &self.source.path)),
-            Err(Trouble::Fault(fault)) => Err(fault),
-        }
+    /// Its name and its length, by which it is dealt to a part, and its change.
+    pub fn weight(&self) -> (&Path, u64, u64) {
+        let (length, changed) = self.source.length_and_change();
+        (&self.source.path, length, changed)
     }
-}
 
-/// Why a shard is not read.
-#[derive(Debug)]
-pub enum Trouble {
-    /// The name of its file is that of no shard under the sharding.
-    Misnamed {
-        /// Whether it was named by itself, so that `--shard` could have given
-        /// its number.
-        alone: bool,
-    },
-    /// It cannot be.
-    Fault(Fault),
+    /// Its files and its number, where it is to be read.
+    pub fn known(self) -> Result<(Source, u64), Fault> {
+        Ok((self.source, self.number?))
+    }
 }
 
 /// What a folder holds.
@@ -73,7 +64,7 @@ impl Listing {
         let mut inputs = self.shards;
         inputs.extend(self.broken.map(|fault| Input {
             source: Source::file(folder),
-            number: Err(Trouble::Fault(fault)),
+            number: Err(fault),
         }));
         inputs
     }
@@ -87,14 +78,13 @@ pub fn is_folder(path: &Path) -> bool {
 /// A shard whose file, or one file of whose pair, was named by itself: what
 /// `--shard` says, else what the name says. A file may be a pipe.
 pub fn single(args: &Args, sharding: &Sharding, path: &Path) -> Input {
-    let number = match (fs::metadata(path), args.number("--shard")) {
-        (Err(error), _) => Err(Trouble::Fault(Fault::system(path, "read", error))),
-        (_, Err(fault)) => Err(Trouble::Fault(fault)),
-        (_, Ok(Some(number))) => Ok(number),
-        (_, Ok(None)) => shard_number(sharding, path.file_name().unwrap_or_default())
-            .ok_or(Trouble::Misnamed { alone: true }),
-    };
     let source = of_file(path);
+    let number = match (fs::metadata(path), args.number(SHARD)) {
+        (Err(error), _) => Err(Fault::system(path, "read", error)),
+        (_, Err(fault)) => Err(fault),
+        (_, Ok(Some(number))) => Ok(number),
+        (_, Ok(None)) => named(sharding, &source, true),
+    };
     let missing = source.paths().find(|half| is_missing(half));
     match (number, missing) {
         (Ok(_), Some(missing)) => unclear(path, half(path, missing)),
@@ -102,10 +92,17 @@ pub fn single(args: &Args, sharding: &Sharding, path: &Path) -> Input {
     }
 }
 
+/// The number that the name of a shard's file says. The two names of a pair say the
+/// same.
+fn named(sharding: &Sharding, source: &Source, alone: bool) -> Result<u64, Fault> {
+    let number = shard_number(sharding, source.path.file_name().unwrap_or_default());
+    number.ok_or_else(|| no_shard(sharding, &source.path, alone))
+}
+
 /// Whether neither `--shard` nor the name of a file says which shard it is.
 pub fn is_unnumbered(args: &Args, sharding: &Sharding, path: &Path) -> bool {
     let name = path.file_name().unwrap_or_default();
-    !args.flag("--shard") && shard_number(sharding, name).is_none()
+    !args.flag(SHARD) && shard_number(sharding, name).is_none()
 }
 
 /// The files of a shard, of which this is one: the other of a pair stands beside
@@ -149,7 +146,7 @@ fn half(there: &Path, missing: &Path) -> Fault {
 fn unclear(path: &Path, fault: Fault) -> Input {
     Input {
         source: Source::file(path),
-        number: Err(Trouble::Fault(fault)),
+        number: Err(fault),
     }
 }
 
@@ -251,9 +248,8 @@ fn entry(sharding: &Sharding, source: Source) -> Input {
         Ok(_) => None,
     };
     let number = match source.paths().find_map(unread) {
-        Some(fault) => Err(Trouble::Fault(fault)),
-        None => shard_number(sharding, source.path.file_name().unwrap_or_default())
-            .ok_or(Trouble::Misnamed { alone: false }),
+        Some(fault) => Err(fault),
+        None => named(sharding, &source, false),
     };
     Input { source, number }
 }
@@ -287,9 +283,9 @@ mod tests {
         let told = |input: &Input| {
             let number = match &input.number {
                 Ok(number) => number.to_string(),
-                Err(Trouble::Misnamed { .. }) => "misnamed".into(),
-                Err(Trouble::Fault(Fault::Unclear { .. })) => "unclear".into(),
-                Err(Trouble::Fault(_)) => "fault".into(),
+                Err(Fault::Misnamed { .. }) => "misnamed".into(),
+                Err(Fault::Unclear { .. }) => "unclear".into(),
+                Err(_) => "fault".into(),
             };
             let name = input.source.path.file_name().unwrap();
             (name.to_os_string(), number)
@@ -398,9 +394,7 @@ mod tests {
         let folder = Folder::new("folder-unclear");
         let told = |number| {
             let input = find(&SHARDING, folder.path(), number).unwrap().unwrap();
-            let Err(Trouble::Fault(fault)) = input.number else {
-                panic!("it is unclear");
-            };
+            let fault = input.number.expect_err("it is unclear");
             assert_eq!(fault.status() as u8, 1);
             let text = fault.to_string();
             let (_, text) = text.rsplit_once('/').unwrap();
@@ -431,6 +425,6 @@ mod tests {
             panic!("one input");
         };
         assert_eq!(input.source.path, none);
-        assert!(matches!(&input.number, Err(Trouble::Fault(fault)) if fault.status() as u8 == 3));
+        assert!(matches!(&input.number, Err(fault) if fault.status() as u8 == 3));
     }
 }

@@ -3,9 +3,14 @@
 //! bytes right before it, one after the other.
 
 use coronagamba::manifest::{Nodes, Visit};
-use coronagamba::{Manifest, Span};
+use coronagamba::{Manifest, Sharding, Span};
 
 use crate::edition::Bytes;
+
+/// Whether chunks are manifests, with their fragments before them.
+pub fn is_mesh(sharding: &Sharding) -> bool {
+    sharding.kind == Sharding::MESH
+}
 
 /// The fragments of one manifest.
 pub struct Fragments<'a> {

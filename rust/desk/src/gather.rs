@@ -6,10 +6,13 @@ use std::path::{Path, PathBuf};
 use coronagamba::Sharding;
 
 use crate::args::Args;
-use crate::fault::Fault;
+use crate::fault::{Fault, Status};
 use crate::folder::{is_folder, list, single, Input};
+use crate::json::Object;
+use crate::options::SHARD;
 use crate::presence::Presence;
-use crate::round;
+use crate::report::Report;
+use crate::text::{passed_over, shown};
 
 /// What the paths lead to.
 #[derive(Default)]
@@ -28,8 +31,8 @@ pub struct Found {
 /// named comes once.
 pub fn gather(args: &Args, sharding: &Sharding) -> Result<Found, Fault> {
     let paths = args.at_least_one("PATH")?;
-    if paths.len() > 1 && args.flag("--shard") {
-        return Err(Fault::wrong_use("--shard is for one file"));
+    if paths.len() > 1 && args.flag(SHARD) {
+        return Err(Fault::wrong_use(format!("{SHARD} is for one file")));
     }
     let (mut found, mut pairs) = (Found::default(), BTreeSet::new());
     for path in paths.iter().map(Path::new) {
@@ -40,7 +43,7 @@ pub fn gather(args: &Args, sharding: &Sharding) -> Result<Found, Fault> {
             }
             continue;
         }
-        round::no_shard_option(args, path)?;
+        no_shard_option(args, path)?;
         let listing = list(sharding, path);
         let others = listing.others;
         let presence = Presence::of(sharding, path, &listing);
@@ -54,4 +57,36 @@ pub fn gather(args: &Args, sharding: &Sharding) -> Result<Found, Fault> {
         }
     }
     Ok(found)
+}
+
+/// `--shard` gives the number of a file. A folder's files have their own.
+pub fn no_shard_option(args: &Args, folder: &Path) -> Result<(), Fault> {
+    match args.flag(SHARD) {
+        false => Ok(()),
+        true => Err(Fault::wrong_use(format!(
+            "{}: is a folder, in which names give the shard numbers; {SHARD} is for a single file",
+            shown(folder)
+        ))),
+    }
+}
+
+/// Tells of a folder in which there is no shard.
+pub fn tell_no_shards(folder: &Path, others: u64, report: &mut Report) -> Result<(), Fault> {
+    report.note(Status::No);
+    if report.json() {
+        let object = Object::new().path(folder).text("result", "no shards");
+        report.object(object.number("other_files", others))
+    } else {
+        report.line(no_shards(folder, others))
+    }
+}
+
+/// What is told of it.
+pub fn no_shards(folder: &Path, others: u64) -> String {
+    let text = "no shards, no file's name ends in .shard, or as those of a pair do";
+    format!(
+        "{}: {text}{}",
+        shown(folder),
+        passed_over(others, "other file")
+    )
 }

@@ -166,6 +166,144 @@ fn hex(bytes: &[u8]) -> String {
     out
 }
 
+/// A value that this program writes and reads again.
+#[derive(Clone, Debug, PartialEq, Eq)]
+pub enum Value {
+    /// Text.
+    Text(String),
+    /// A number, as it is written.
+    Number(String),
+    /// An array of texts and numbers.
+    Array(Vec<Value>),
+}
+
+/// The members of an object as this program writes it, without space between its
+/// parts, and without objects in it or arrays in arrays.
+pub fn members(text: &str) -> Option<Vec<(String, Value)>> {
+    let mut reader = Reader { rest: text };
+    let mut members = Vec::new();
+    reader.take("{")?;
+    while reader.take("}").is_none() {
+        if !members.is_empty() {
+            reader.take(",")?;
+        }
+        let name = reader.text()?;
+        reader.take(":")?;
+        members.push((name, reader.value()?));
+    }
+    reader.rest.is_empty().then_some(members)
+}
+
+/// A member by its name.
+pub fn member<'a>(members: &'a [(String, Value)], name: &str) -> Option<&'a Value> {
+    let mut members = members.iter();
+    members
+        .find(|(there, _)| there == name)
+        .map(|(_, value)| value)
+}
+
+/// A value that is a whole number.
+pub fn whole(value: &Value) -> Option<u64> {
+    match value {
+        Value::Number(number) => number.parse().ok(),
+        _ => None,
+    }
+}
+
+/// A value that is an array of texts.
+pub fn texts(value: &Value) -> Option<Vec<String>> {
+    let Value::Array(values) = value else {
+        return None;
+    };
+    let text = |value: &Value| match value {
+        Value::Text(text) => Some(text.clone()),
+        _ => None,
+    };
+    values.iter().map(text).collect()
+}
+
+/// What is still to be read.
+struct Reader<'a> {
+    rest: &'a str,
+}
+
+impl Reader<'_> {
+    /// Takes this text where it comes next.
+    fn take(&mut self, text: &str) -> Option<()> {
+        self.rest = self.rest.strip_prefix(text)?;
+        Some(())
+    }
+
+    fn value(&mut self) -> Option<Value> {
+        match self.rest.as_bytes().first()? {
+            b'[' => self.array().map(Value::Array),
+            _ => self.single(),
+        }
+    }
+
+    /// A value that an array may hold.
+    fn single(&mut self) -> Option<Value> {
+        match self.rest.as_bytes().first()? {
+            b'"' => self.text().map(Value::Text),
+            _ => self.number().map(Value::Number),
+        }
+    }
+
+    fn array(&mut self) -> Option<Vec<Value>> {
+        let mut values = Vec::new();
+        self.take("[")?;
+        while self.take("]").is_none() {
+            if !values.is_empty() {
+                self.take(",")?;
+            }
+            values.push(self.single()?);
+        }
+        Some(values)
+    }
+
+    fn number(&mut self) -> Option<String> {
+        let is_digit = |character: char| character.is_ascii_digit() || "+-.eE".contains(character);
+        let end = self.rest.find(|character| !is_digit(character))?;
+        let (number, rest) = self.rest.split_at(end);
+        self.rest = rest;
+        (!number.is_empty()).then(|| number.to_string())
+    }
+
+    fn text(&mut self) -> Option<String> {
+        self.take("\"")?;
+        let mut text = String::new();
+        loop {
+            let stop = self.rest.find(['"', '\\'])?;
+            text.push_str(&self.rest[..stop]);
+            self.rest = &self.rest[stop..];
+            if self.take("\"").is_some() {
+                return Some(text);
+            }
+            text.push(self.escaped()?);
+        }
+    }
+
+    /// One of the escapes that `escape` writes.
+    fn escaped(&mut self) -> Option<char> {
+        const SHORT: [(&str, char); 5] = [
+            ("\\\"", '"'),
+            ("\\\\", '\\'),
+            ("\\n", '\n'),
+            ("\\r", '\r'),
+            ("\\t", '\t'),
+        ];
+        for (escape, character) in SHORT {
+            if self.take(escape).is_some() {
+                return Some(character);
+            }
+        }
+        self.take("\\u")?;
+        let digits = self.rest.get(..4)?;
+        self.rest = &self.rest[4..];
+        char::from_u32(u32::from_str_radix(digits, 16).ok()?)
+    }
+}
+
 #[cfg(test)]
 mod tests {
     use super::*;
@@ -215,5 +353,38 @@ mod tests {
             odd.finish(),
             "{\"path\":\"a\u{fffd}\",\"path_hex\":\"61ff\"}"
         );
+    }
+
+    #[test]
+    fn what_was_written_is_read_again() {
+        let odd = "q\" b\\ n\n r\r t\t 0\0 e\x1b d\x7f ü, \"place\":";
+        let object = Object::new()
+            .text("a", odd)
+            .number("n", u64::MAX)
+            .number("m", -3)
+            .texts("t", [odd, ""])
+            .numbers("none", [0u32; 0]);
+        let read = members(&object.finish()).unwrap();
+        assert_eq!(member(&read, "a"), Some(&Value::Text(odd.into())));
+        assert_eq!(whole(member(&read, "n").unwrap()), Some(u64::MAX));
+        assert_eq!(member(&read, "m"), Some(&Value::Number("-3".into())));
+        let both = vec![odd.to_string(), String::new()];
+        assert_eq!(texts(member(&read, "t").unwrap()), Some(both));
+        assert_eq!(member(&read, "none"), Some(&Value::Array(Vec::new())));
+        assert_eq!(member(&read, "other"), None);
+        assert_eq!(members("{}"), Some(Vec::new()));
+    }
+
+    #[test]
+    fn what_is_cut_short_is_not_read() {
+        let whole = Object::new()
+            .text("a", "\n\u{7f}")
+            .numbers("n", [1u32, 2])
+            .finish();
+        assert!(members(&whole).is_some());
+        for end in 0..whole.len() {
+            assert_eq!(members(&whole[..end]), None, "{end}");
+        }
+        assert_eq!(members(&format!("{whole}}}")), None);
     }
 }

@@ -7,22 +7,16 @@ use std::path::Path;
 
 use coronagamba::{Extents, LabelBits, LabelShape, Refusal};
 
-use crate::args::{decimal, triple, value, Args, Opt, U32};
+use crate::args::{decimal, triple, Args, U32};
+use crate::buffers::MOST_BYTES;
 use crate::diagnosis::{self, InfoLabels};
-use crate::fault::{Fault, Refused};
-use crate::files::{read_whole, MOST_BYTES};
-use crate::report::shown;
+use crate::fault::Fault;
+use crate::files::read_whole;
+use crate::options::{Opt, BITS, BLOCK, CHANNEL, CHANNELS, INFO, SIZE};
+use crate::text::shown;
 
 /// The options that give the layout of labels, whatever a chunk's extents are.
-pub const OPTIONS: &[Opt] = &[value(BLOCK), value(CHANNELS), value(BITS)];
-
-/// The option of the channel that is asked for.
-pub const CHANNEL: &str = "--channel";
-
-const SIZE: &str = "--size";
-const BLOCK: &str = "--block";
-const CHANNELS: &str = "--channels";
-const BITS: &str = "--bits";
+pub const OPTIONS: &[Opt] = &[BLOCK, CHANNELS, BITS];
 
 /// The layout of labels in all chunks of a deposit.
 #[derive(Clone, Copy, Debug, PartialEq, Eq)]
@@ -47,7 +41,7 @@ impl Layout {
 /// The shape of a chunk's labels, all of it from options.
 pub fn shape(args: &Args) -> Result<LabelShape, Fault> {
     complete(args, &[SIZE, BLOCK, CHANNELS, BITS], "")?;
-    let size: [u32; 3] = triple(args.needed(SIZE)?, SIZE, U32)?;
+    let size: [u32; 3] = triple(args.needed(SIZE)?, SIZE.name(), U32)?;
     from_options(args, InfoLabels::default())?.over(size)
 }
 
@@ -64,15 +58,15 @@ pub fn layout(args: &Args, info: Option<InfoLabels>) -> Result<Layout, Fault> {
         (CHANNELS, said.channels.is_none()),
         (BITS, said.bits.is_none()),
     ];
-    for (name, open) in missing {
-        if !open && args.flag(name) {
+    for (option, open) in missing {
+        if !open && args.flag(option) {
             return Err(Fault::wrong_use(format!(
-                "--info and {name} are given together; an info file already says it"
+                "{INFO} and {option} are given together; an info file already says it"
             )));
         }
     }
     let needed = missing.iter().filter(|(_, open)| *open);
-    let needed: Vec<&'static str> = needed.map(|(name, _)| *name).collect();
+    let needed: Vec<Opt> = needed.map(|(option, _)| *option).collect();
     complete(args, &needed, hint)?;
     from_options(args, said)
 }
@@ -80,7 +74,7 @@ pub fn layout(args: &Args, info: Option<InfoLabels>) -> Result<Layout, Fault> {
 /// The channel that is asked for, the first where none is named.
 pub fn channel(args: &Args) -> Result<u32, Fault> {
     match args.value(CHANNEL) {
-        Some(word) => decimal(word, CHANNEL, U32),
+        Some(word) => decimal(word, CHANNEL.name(), U32),
         None => Ok(0),
     }
 }
@@ -97,9 +91,9 @@ pub fn read_chunk(path: &Path) -> Result<Vec<u8>, Fault> {
 }
 
 /// All of these options are given. One complaint names those that are not.
-fn complete(args: &Args, needed: &[&'static str], hint: &str) -> Result<(), Fault> {
-    let missing = needed.iter().filter(|name| !args.flag(name));
-    let missing: Vec<&str> = missing.copied().collect();
+fn complete(args: &Args, needed: &[Opt], hint: &str) -> Result<(), Fault> {
+    let missing = needed.iter().filter(|option| !args.flag(**option));
+    let missing: Vec<&str> = missing.map(|option| option.name()).collect();
     if missing.is_empty() {
         return Ok(());
     }
@@ -114,11 +108,11 @@ fn from_options(args: &Args, said: InfoLabels) -> Result<Layout, Fault> {
     Ok(Layout {
         block: match said.block {
             Some(block) => block.into(),
-            None => Extents::from(triple::<u32>(args.needed(BLOCK)?, BLOCK, U32)?),
+            None => Extents::from(triple::<u32>(args.needed(BLOCK)?, BLOCK.name(), U32)?),
         },
         channels: match said.channels {
             Some(channels) => channels,
-            None => decimal(args.needed(CHANNELS)?, CHANNELS, U32)?,
+            None => decimal(args.needed(CHANNELS)?, CHANNELS.name(), U32)?,
         },
         bits: match said.bits {
             Some(bits) => bits,
@@ -144,7 +138,7 @@ fn allowed(shape: LabelShape) -> Result<LabelShape, Fault> {
     match shape.unpacked_length() {
         Err(refusal) if refusal.number != Refusal::NO_ROOM => {
             let diagnosis = diagnosis::of_label_shape(&shape);
-            Err(Refused::asked("settings", refusal, diagnosis).into())
+            Err(Fault::refused("settings", refusal, diagnosis))
         }
         _ => Ok(shape),
     }
@@ -157,7 +151,7 @@ mod tests {
 
     fn args(line: &str) -> Args {
         let words: Vec<OsString> = line.split_whitespace().map(OsString::from).collect();
-        Args::parse(&words, &[OPTIONS, &[value(SIZE), value(CHANNEL)]]).unwrap()
+        Args::parse(&words, &[OPTIONS, &[SIZE, CHANNEL]]).unwrap()
     }
 
     fn complaint<T: std::fmt::Debug>(read: Result<T, Fault>, status: u8) -> String {

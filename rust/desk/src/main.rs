@@ -4,32 +4,43 @@
 #![forbid(unsafe_code)]
 
 mod args;
+mod aside;
+mod buffers;
 mod commands;
 mod diagnosis;
 mod difference;
+mod digest;
 mod edition;
 mod explain;
 mod fault;
 mod files;
 mod folder;
+mod forms;
 mod fragments;
 mod gather;
 mod help;
 mod json;
+mod judge;
 mod labels;
 mod memory;
 mod naming;
+mod options;
 mod output;
+mod part;
+mod parts;
 mod pool;
 mod presence;
 mod progress;
+mod record;
 mod report;
 mod round;
 mod sample;
 mod settings;
 mod sheet;
+mod text;
 #[cfg(test)]
 mod trial;
+mod unclear;
 
 use std::env;
 use std::ffi::{OsStr, OsString};
@@ -39,7 +50,8 @@ use std::process::ExitCode;
 use args::{nearest, Args};
 use commands::{Command, Group, COMMANDS, GROUPS};
 use fault::{Fault, Status};
-use report::{complaint, shown, Report};
+use report::{complaint, Report};
+use text::shown;
 
 fn main() -> ExitCode {
     let words: Vec<OsString> = env::args_os().skip(1).collect();
@@ -86,7 +98,7 @@ fn find(words: &[OsString]) -> Found<'_> {
 /// Runs the command that the first words name.
 fn run_command(words: &[OsString]) -> Status {
     match find(words) {
-        Found::Command(command, rest) if asks_for_help(rest) => print(command.help),
+        Found::Command(command, rest) if asks_for_help(rest) => print(&command.help()),
         Found::Command(command, rest) => run_on(command, rest),
         Found::Group(group, rest) if asks_for_help(rest) => print(group.help),
         Found::Group(group, _) => {
@@ -101,7 +113,7 @@ fn run_command(words: &[OsString]) -> Status {
 /// Prints the help of what the words name.
 fn help_about(words: &[OsString]) -> Status {
     match find(words) {
-        Found::Command(command, []) => print(command.help),
+        Found::Command(command, []) => print(&command.help()),
         Found::Group(group, []) => print(group.help),
         Found::Command(..) | Found::Group(..) => wrong_use("help takes one command", ""),
         Found::Nothing => unknown(&words[0]),
@@ -120,9 +132,14 @@ fn run_on(command: &Command, words: &[OsString]) -> Status {
         Ok(args) => args,
         Err(fault) => return wrong_use(&fault.to_string(), command.name),
     };
-    let mut report = Report::new(args.flag("--json"));
+    let mut report = Report::new(args.flag(options::JSON));
     let ended = (command.run)(&args, &mut report);
-    let told = report.go_on(ended);
+    let told = match ended {
+        Err(fault) if !fault.ends_the_run() => report.complain(&fault),
+        ended => ended,
+    };
+    // Where both outputs are one, the answers stand before the hint.
+    let told = told.and_then(|()| report.flush());
     if report.misused() {
         see(command.name);
     }

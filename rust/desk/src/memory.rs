@@ -1,28 +1,36 @@
 //! How much memory the shards under way may take together.
+//!
+//! Each worker keeps its buffers from shard to shard, since new memory costs more than
+//! reading a file into it, and holds their bytes at the gate. Before a shard, and in its
+//! midst where it takes more than was thought, the worker asks for bytes. It goes on where
+//! it holds so many already, or where nobody waits, and all that is held stays within half
+//! of the free memory or nobody else holds anything. Otherwise it gives back all that it
+//! holds and waits its turn, first come, first served. Where the system refuses memory all
+//! the same, it waits in the same queue for all memory there is, and does the shard once
+//! more, alone; while it waits, no other goes on in what it holds.
 
-use std::fs;
-use std::io;
 use std::sync::{Condvar, Mutex, MutexGuard, PoisonError};
 
+use crate::buffers::available;
 use crate::edition::Loaded;
 
-/// Lets a shard begin only where the bytes of all shards under way stay
-/// within a limit. One is always let in, however long it is.
+/// All memory: who holds so much is alone.
+const ALL: u64 = u64::MAX;
+
+/// The gate, for so many bytes.
 pub struct Gate {
     limit: u64,
     state: Mutex<State>,
     changed: Condvar,
 }
 
-/// Who waits is served in the order of tickets, so that a long shard is not
-/// overtaken for ever by short ones.
+/// What is held, and who waits: the tickets from `serving` on, and so many of them for
+/// all memory.
 #[derive(Default)]
 struct State {
     held: u64,
     next_ticket: u64,
     serving: u64,
-    /// How many wait until no other holds anything. Nobody takes more work
-    /// into memory that is kept before they had their turn.
     hermits: u64,
 }
 
@@ -72,8 +80,10 @@ impl Share<'_> {
         let mut state = self.gate.lock();
         let others = state.held - self.bytes;
         let queue = state.next_ticket != state.serving;
-        let fits = bytes <= self.bytes || !queue && self.gate.fits(others, bytes);
-        let granted = fits && state.hermits == 0;
+        let granted = match bytes <= self.bytes {
+            true => state.hermits == 0,
+            false => !queue && self.gate.fits(others, bytes),
+        };
         if granted {
             self.set(&mut state, bytes);
         }
@@ -86,7 +96,9 @@ impl Share<'_> {
         let mut state = self.gate.lock();
         self.set(&mut state, 0);
         let ticket = state.next_ticket;
+        let hermits = u64::from(bytes == ALL);
         state.next_ticket += 1;
+        state.hermits += hermits;
         let must_wait =
             |state: &mut State| state.serving != ticket || !self.gate.fits(state.held, bytes);
         let mut state = self
@@ -95,15 +107,8 @@ impl Share<'_> {
             .wait_while(state, must_wait)
             .unwrap_or_else(PoisonError::into_inner);
         state.serving += 1;
+        state.hermits -= hermits;
         self.set(&mut state, bytes);
-    }
-
-    /// Gives back what is held, waits until no other holds anything, and keeps
-    /// all others out.
-    pub fn wait_alone(&mut self) {
-        self.gate.lock().hermits += 1;
-        self.wait_for(u64::MAX);
-        self.gate.lock().hermits -= 1;
     }
 
     /// Holds no more than so many bytes from now on.
@@ -136,8 +141,6 @@ pub struct Room<'a> {
     pub form: Vec<u8>,
     /// The settled form that it is compared with.
     pub other: Vec<u8>,
-    /// Whether no other room has memory.
-    alone: bool,
     /// Dropped behind the buffers: who waits for the memory must find it free.
     share: Share<'a>,
 }
@@ -151,7 +154,6 @@ impl<'a> Room<'a> {
     pub fn new(gate: &'a Gate) -> Self {
         Room {
             share: gate.share(),
-            alone: false,
             file: Loaded::default(),
             form: Vec::new(),
             other: Vec::new(),
@@ -170,7 +172,7 @@ impl<'a> Room<'a> {
     /// Whether the buffers may have these lengths at once.
     pub fn may_have(&mut self, lengths: Lengths) -> bool {
         let bytes = self.with(lengths);
-        self.alone || self.share.try_hold(bytes)
+        self.share.bytes == ALL || self.share.try_hold(bytes)
     }
 
     /// Does what takes memory. Others may hold the memory that the answer
@@ -186,10 +188,8 @@ impl<'a> Room<'a> {
             return answer;
         }
         self.empty();
-        self.share.wait_alone();
-        self.alone = true;
+        self.share.wait_for(ALL);
         let answer = work(self);
-        self.alone = false;
         self.share.shrink(self.with([0, 0, 0]));
         answer
     }
@@ -207,54 +207,6 @@ impl<'a> Room<'a> {
             + longer(self.form.capacity(), form)
             + longer(self.other.capacity(), other)
     }
-}
-
-/// Asks for memory for so many more bytes. An error says how many they are.
-pub fn reserve(buffer: &mut Vec<u8>, bytes: usize) -> io::Result<()> {
-    let reserved = buffer.try_reserve_exact(bytes);
-    reserved.map_err(|_| lacking(bytes as u64))
-}
-
-/// What is said where so many bytes are not to be had.
-fn lacking(bytes: u64) -> io::Error {
-    let text = format!("out of memory, {bytes} bytes are needed");
-    io::Error::new(io::ErrorKind::OutOfMemory, text)
-}
-
-/// The front of a buffer, at least that long afterwards. Only what is added
-/// is cleared.
-pub fn front(buffer: &mut Vec<u8>, length: usize) -> io::Result<&mut [u8]> {
-    if buffer.len() < length {
-        reserve(buffer, length - buffer.len())?;
-        buffer.resize(length, 0);
-    }
-    Ok(&mut buffer[..length])
-}
-
-/// Cleared memory for so many bytes, of which the system makes a page only when
-/// it is written. More than it has to give is not asked for: it might promise it
-/// all the same, and end the program later.
-pub fn cleared(bytes: u64) -> io::Result<Vec<u8>> {
-    let most = available().unwrap_or(u64::MAX);
-    let length = usize::try_from(bytes).ok().filter(|_| bytes <= most);
-    let length = length.ok_or_else(|| lacking(bytes))?;
-    // A vector of zeros ends the program where there is no memory, so it is
-    // asked for in this way first.
-    reserve(&mut Vec::new(), length)?;
-    Ok(vec![0; length])
-}
-
-/// The memory that can be had without swapping, as the system estimates it.
-fn available() -> Option<u64> {
-    available_in(&fs::read_to_string("/proc/meminfo").ok()?)
-}
-
-fn available_in(meminfo: &str) -> Option<u64> {
-    let line = meminfo
-        .lines()
-        .find_map(|line| line.strip_prefix("MemAvailable:"))?;
-    let kibibytes: u64 = line.trim().strip_suffix("kB")?.trim().parse().ok()?;
-    kibibytes.checked_mul(1024)
 }
 
 #[cfg(test)]
@@ -304,6 +256,7 @@ mod tests {
             }
             let mut third = gate.share();
             assert!(!third.try_hold(10), "the one that waits comes first");
+            assert!(first.try_hold(50) && !first.try_hold(51));
             assert!(answer.recv_timeout(Duration::from_millis(20)).is_err());
             drop(first);
             answer.recv().unwrap();
@@ -331,6 +284,28 @@ mod tests {
     }
 
     #[test]
+    fn who_waited_for_memory_gets_it_while_others_wait() {
+        // One and a half jobs fit, and each takes more than was thought.
+        let gate = Gate::new(15);
+        let work = |room: &mut Room, _| {
+            let mut lengths = [4, 0, 0];
+            for tries in 1.. {
+                room.wait_for(lengths);
+                room.file = Loaded::with_capacity(4);
+                thread::yield_now();
+                lengths = [4, 6, 0];
+                if room.may_have(lengths) {
+                    return tries;
+                }
+            }
+            0
+        };
+        let told = Crowd::default().run((0..400).collect(), &gate, work);
+        assert!(told.iter().all(|tries| [1, 2].contains(tries)), "{told:?}");
+        assert_eq!(gate.lock().held, 0);
+    }
+
+    #[test]
     fn who_gets_no_memory_tries_again_alone() {
         // By the gate's limit all fit, but the memory has room for one.
         let gate = Gate::new(1 << 40);
@@ -341,7 +316,7 @@ mod tests {
                 // What a room keeps is taken until it is given back.
                 if room.file.capacity() == 0 {
                     let mut taken = taken.lock().unwrap();
-                    if *taken > 0 && !room.alone {
+                    if *taken > 0 && room.share.bytes != ALL {
                         return false;
                     }
                     *taken += 1;
@@ -367,7 +342,7 @@ mod tests {
             room.wait_for([job % 3, 0, 0]);
             let alone = |room: &mut Room| {
                 room.wait_for([10, 0, 0]);
-                room.alone && gate.lock().held == u64::MAX
+                room.share.bytes == ALL && gate.lock().held == ALL
             };
             !job.is_multiple_of(4) || room.attempt(alone, |alone| !alone)
         };
@@ -375,36 +350,5 @@ mod tests {
         assert_eq!(told, vec![true; 400]);
         let state = gate.lock();
         assert_eq!((state.held, state.hermits), (0, 0));
-    }
-
-    #[test]
-    fn the_front_of_a_buffer() {
-        let mut buffer = Vec::new();
-        front(&mut buffer, 4).unwrap().fill(9);
-        assert_eq!(front(&mut buffer, 2).unwrap(), [9, 9]);
-        assert_eq!(front(&mut buffer, 5).unwrap(), [9, 9, 9, 9, 0]);
-        let kind = front(&mut buffer, usize::MAX).unwrap_err().kind();
-        assert_eq!(kind, io::ErrorKind::OutOfMemory);
-        assert_eq!(buffer.len(), 5);
-    }
-
-    #[test]
-    fn memory_that_is_not_to_be_had() {
-        assert_eq!(cleared(9).unwrap(), [0; 9]);
-        assert!(cleared(0).unwrap().is_empty());
-        for bytes in [u64::MAX, 1 << 62, 1 << 50] {
-            let told = cleared(bytes).unwrap_err();
-            assert_eq!(told.kind(), io::ErrorKind::OutOfMemory);
-            let expected = format!("out of memory, {bytes} bytes are needed");
-            assert_eq!(told.to_string(), expected);
-        }
-    }
-
-    #[test]
-    fn what_the_system_tells() {
-        let text = "MemTotal:       24683000 kB\nMemAvailable:   12 kB\nBuffers: 3 kB\n";
-        assert_eq!(available_in(text), Some(12 * 1024));
-        assert_eq!(available_in("MemTotal: 1 kB\n"), None);
-        assert!(available().is_some_and(|bytes| bytes > 0));
     }
 }

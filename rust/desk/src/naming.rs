@@ -9,7 +9,6 @@ use std::path::Path;
 use coronagamba::{Cell, Refusal, Sharding, Volume};
 
 use crate::fault::Fault;
-use crate::report::shown;
 
 /// What a file is by the end of its name.
 #[derive(Clone, Copy, Debug, PartialEq, Eq, PartialOrd, Ord)]
@@ -133,13 +132,14 @@ pub fn misnamed(sharding: &Sharding, path: &Path) -> String {
     }
 }
 
-/// Neither the name nor an option says which shard this is.
-pub fn unnumbered(sharding: &Sharding, path: &Path) -> Fault {
-    Fault::wrong_use(format!(
-        "{}: {}; give the shard's number with --shard N",
-        shown(path),
-        misnamed(sharding, path)
-    ))
+/// A file that has the name of no shard; `alone` says whether it was named by itself,
+/// so that an option could have said which shard it is.
+pub fn no_shard(sharding: &Sharding, path: &Path, alone: bool) -> Fault {
+    Fault::Misnamed {
+        path: path.to_path_buf(),
+        error: misnamed(sharding, path),
+        alone,
+    }
 }
 
 #[cfg(test)]

@@ -5,17 +5,18 @@
 //! that nobody holds was left by a run that was killed. Whoever takes a part
 //! file's name away holds its lock.
 
+use std::collections::hash_map::RandomState;
 use std::ffi::{OsStr, OsString};
 use std::fs::{self, File, OpenOptions, TryLockError};
+use std::hash::{BuildHasher, Hasher};
 use std::io::{self, Read, Write};
 use std::os::unix::ffi::{OsStrExt, OsStringExt};
 use std::os::unix::fs::MetadataExt;
 use std::path::{Path, PathBuf};
-use std::process;
 
 use crate::fault::Fault;
 use crate::files::Inputs;
-use crate::report::shown;
+use crate::text::shown;
 
 /// What became of an output.
 #[derive(Clone, Copy, Debug, PartialEq, Eq)]
@@ -103,7 +104,7 @@ pub fn sync_folder_of(path: &Path) -> Result<(), Fault> {
 }
 
 /// The folder that a path is in.
-fn folder_of(path: &Path) -> &Path {
+pub fn folder_of(path: &Path) -> &Path {
     match path.parent() {
         Some(folder) if folder != Path::new("") => folder,
         _ => Path::new("."),
@@ -197,19 +198,18 @@ impl Part {
     /// Begins the part file of an output.
     fn create(output: &Path) -> io::Result<Part> {
         let name = output.file_name().ok_or(io::ErrorKind::InvalidFilename)?;
-        let path = folder_of(output).join(part_name(name, process::id()));
         // A run that clears away may take the file between its making and its
-        // locking, and a killed run may have had this process's number.
+        // locking.
         for _ in 0..100 {
-            match Part::try_create(&path)? {
-                Some(part) => return Ok(part),
-                None => remove_unheld(&path),
+            let path = folder_of(output).join(part_name(name, random()));
+            if let Some(part) = Part::try_create(&path)? {
+                return Ok(part);
             }
         }
         Err(io::ErrorKind::ResourceBusy.into())
     }
 
-    /// Makes and locks the file; `None` where another run has its name.
+    /// Makes and locks the file; `None` where another run has its name or takes it away.
     fn try_create(path: &Path) -> io::Result<Option<Part>> {
         let file = match OpenOptions::new().write(true).create_new(true).open(path) {
             Err(error) if error.kind() == io::ErrorKind::AlreadyExists => return Ok(None),
@@ -299,12 +299,18 @@ fn names(path: &Path, file: &File) -> bool {
 /// one is not too long for the file system.
 const MOST_NAME_BYTES: usize = 200;
 
-/// The name of a part file: `.NAME.PID.part`.
-fn part_name(name: &OsStr, process: u32) -> OsString {
+/// The name of a part file: `.NAME.NUMBER.part`.
+fn part_name(name: &OsStr, number: u64) -> OsString {
     let mut part = vec![b'.'];
     part.extend(repeated(name));
-    part.extend(format!(".{process}.part").as_bytes());
+    part.extend(format!(".{number}.part").as_bytes());
     OsString::from_vec(part)
+}
+
+/// A number that no other run has, on no other machine that shares the folder: the
+/// hash of nothing under keys that the system draws.
+fn random() -> u64 {
+    RandomState::new().build_hasher().finish()
 }
 
 /// What a part file's name repeats of the output's.
@@ -317,8 +323,8 @@ fn repeated(name: &OsStr) -> &[u8] {
 fn part_of(part: &OsStr) -> Option<OsString> {
     let inner = part.as_bytes().strip_prefix(b".")?.strip_suffix(b".part")?;
     let dot = inner.iter().rposition(|byte| *byte == b'.')?;
-    let (name, process) = (&inner[..dot], &inner[dot + 1..]);
-    let numbered = !process.is_empty() && process.iter().all(u8::is_ascii_digit);
+    let (name, number) = (&inner[..dot], &inner[dot + 1..]);
+    let numbered = !number.is_empty() && number.iter().all(u8::is_ascii_digit);
     numbered.then(|| OsStr::from_bytes(name).to_os_string())
 }
 
@@ -475,9 +481,9 @@ mod tests {
         remove_stale_parts(folder.path(), none(), |name| {
             name.as_bytes().ends_with(b".shard")
         });
-        let held_name = part_name(OsStr::new("0.shard"), process::id());
+        let held_name = held.path.file_name().unwrap();
         let mut kept = vec![
-            held_name,
+            held_name.to_os_string(),
             ".1.shard.77.part~".into(),
             ".1.shard.x.part".into(),
             ".2.shard.1.part".into(),
@@ -491,21 +497,23 @@ mod tests {
     }
 
     #[test]
-    fn a_stale_part_of_the_same_process_number_is_no_hindrance() {
-        let folder = Folder::new("output-again");
-        folder.write(part_name(OsStr::new("a"), process::id()), b"half");
+    fn each_run_has_a_part_file_of_its_own() {
+        let folder = Folder::new("output-held");
+        let mut held = Part::create(&folder.at("a")).unwrap();
+        held.file.write_all(b"ab").unwrap();
         write_new(&folder.at("a"), false, b"abc").unwrap();
         assert_eq!(fs::read(folder.at("a")).unwrap(), b"abc");
+        // The slower of two gives way.
+        assert!(!held.link(&folder.at("a")).unwrap());
+        drop(held);
+        assert_eq!(fs::read(folder.at("a")).unwrap(), b"abc");
         assert_eq!(folder.names(), ["a"]);
-    }
-
-    #[test]
-    fn a_held_part_is_not_taken() {
-        let folder = Folder::new("output-held");
-        let _held = Part::create(&folder.at("a")).unwrap();
-        let fault = write_new(&folder.at("a"), false, b"abc").unwrap_err();
-        assert_eq!(fault.status() as u8, 3);
-        assert_eq!(folder.names().len(), 1);
+        // The name of a file that is there is not given to another.
+        let taken = folder.write(part_name(OsStr::new("b"), 7), b"half");
+        assert!(Part::try_create(&taken).unwrap().is_none());
+        assert_eq!(fs::read(&taken).unwrap(), b"half");
+        let numbers: Vec<u64> = (0..100).map(|_| random()).collect();
+        assert!((1..100).all(|place| !numbers[..place].contains(&numbers[place])));
     }
 
     #[test]

@@ -10,7 +10,8 @@ use crate::fault::Fault;
 use crate::folder::{Input, Listing};
 use crate::json::Object;
 use crate::naming::Ending;
-use crate::report::{shown, Report};
+use crate::report::Report;
+use crate::text::shown;
 
 /// Of more possible shards a deposit has but a few; then it says nothing that
 /// one is not there.

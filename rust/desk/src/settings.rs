@@ -7,28 +7,79 @@
 use std::ffi::OsStr;
 use std::path::{Path, PathBuf};
 
-use coronagamba::{Card, Cell, Extents, Offset, Sharding, Volume};
+use coronagamba::{Card, Cell, Extents, Offset, Refusal, Sharding, Volume};
 
-use crate::args::{decimal, triple, value, Args, Opt, I32, U32, U8};
+use crate::args::{decimal, triple, Args, I32, U32, U8};
+use crate::buffers::MOST_BYTES;
 use crate::diagnosis::{self, labels_of_info};
-use crate::fault::{Fault, Refused};
-use crate::files::{read_whole, MOST_BYTES};
+use crate::fault::{Explain, Fault};
+use crate::files::read_whole;
+use crate::fragments::is_mesh;
 use crate::labels::{layout, Layout};
-use crate::report::shown;
+use crate::options::{
+    Opt, CARD, CHUNK, HASH, INFO, KIND, MINISHARD_BITS, OFFSET, PRESHIFT, SCALE, SHARD_BITS, SIZE,
+};
+use crate::text::shown;
 
-/// The options that give settings.
+/// The options that give settings. Each command on a deposit takes all of them, so that
+/// one set of options serves many commands.
 pub const OPTIONS: &[Opt] = &[
-    value(CARD),
-    value(INFO),
-    value(SCALE),
-    value(KIND),
-    value("--preshift"),
-    value("--hash"),
-    value("--minishard-bits"),
-    value("--shard-bits"),
-    value("--size"),
-    value("--chunk"),
-    value(OFFSET),
+    CARD,
+    INFO,
+    SCALE,
+    PRESHIFT,
+    HASH,
+    MINISHARD_BITS,
+    SHARD_BITS,
+    SIZE,
+    CHUNK,
+    OFFSET,
+    KIND,
+];
+
+/// The same for commands on shards, whatever the volume is.
+pub const OF_SHARDS: &[Opt] = &[
+    CARD,
+    INFO,
+    SCALE,
+    PRESHIFT,
+    HASH,
+    MINISHARD_BITS,
+    SHARD_BITS,
+    KIND,
+    SIZE.idle(),
+    CHUNK.idle(),
+    OFFSET.idle(),
+];
+
+/// The same for commands on the chunks of cells, which a mesh does not have.
+pub const OF_CELLS: &[Opt] = &[
+    CARD,
+    INFO,
+    SCALE,
+    PRESHIFT,
+    HASH,
+    MINISHARD_BITS,
+    SHARD_BITS,
+    SIZE,
+    CHUNK,
+    OFFSET,
+    KIND.idle(),
+];
+
+/// The same for commands on cells, whatever the sharding is.
+pub const OF_VOLUME: &[Opt] = &[
+    CARD,
+    INFO,
+    SCALE,
+    SIZE,
+    CHUNK,
+    OFFSET,
+    PRESHIFT.idle(),
+    HASH.idle(),
+    MINISHARD_BITS.idle(),
+    SHARD_BITS.idle(),
+    KIND.idle(),
 ];
 
 /// The options that give what a card should hold, as `card make` takes them.
@@ -39,15 +90,10 @@ pub const INFO_OPTIONS: &[Opt] = FOR_CARD.split_at(2).0;
 
 /// The options that give settings one by one, but for the kind: an info file
 /// leaves it open, and beside a card it may stand where both say the same.
-const PLAIN_OPTIONS: &[Opt] = FOR_CARD.split_at(3).1;
+const PLAIN_OPTIONS: &[Opt] = OPTIONS.split_at(3).1.split_at(7).0;
 
-const CARD: &str = "--card";
-const INFO: &str = "--info";
-const SCALE: &str = "--scale";
-const KIND: &str = "--kind";
-const SHARDING: [&str; 4] = ["--preshift", "--hash", "--minishard-bits", "--shard-bits"];
-const EXTENTS: [&str; 2] = ["--size", "--chunk"];
-const OFFSET: &str = "--offset";
+const SHARDING: [Opt; 4] = [PRESHIFT, HASH, MINISHARD_BITS, SHARD_BITS];
+const EXTENTS: [Opt; 2] = [SIZE, CHUNK];
 
 /// What a command knows of a deposit.
 #[derive(Clone, Copy, Debug, PartialEq, Eq)]
@@ -116,11 +162,6 @@ fn cells_in(given: &Given) -> Result<(Sharding, Volume), Fault> {
     Ok((sharding, with_keys(there(given.volume))?))
 }
 
-/// Whether chunks are manifests, with their fragments before them.
-pub fn is_mesh(sharding: &Sharding) -> bool {
-    sharding.kind == Sharding::MESH
-}
-
 /// The name of an allowed sharding's kind.
 pub fn kind_name(sharding: &Sharding) -> &'static str {
     if is_mesh(sharding) {
@@ -133,10 +174,7 @@ pub fn kind_name(sharding: &Sharding) -> &'static str {
 /// The volume, which must be given. Only its extents are judged.
 pub fn volume(args: &Args) -> Result<Volume, Fault> {
     let volume = there(read(args, &EXTENTS)?.volume);
-    volume
-        .grid()
-        .map_err(|refusal| refused_volume(volume, refusal))?;
-    Ok(volume)
+    judged(volume, volume.grid())
 }
 
 /// What an info file or plain options say a card should hold. Writing the card
@@ -155,25 +193,21 @@ pub fn for_card(args: &Args) -> Result<Card, Fault> {
 
 /// A volume whose grid needs at most 64 key bits.
 pub fn with_keys(volume: Volume) -> Result<Volume, Fault> {
-    let key = volume.key(Cell::default());
-    key.map_err(|refusal| refused_volume(volume, refusal))?;
-    Ok(volume)
+    judged(volume, volume.key(Cell::default()))
 }
 
 /// A sharding that the library allows. It is asked for the place of an id,
 /// which it refuses under any other sharding.
 fn allowed(sharding: Sharding) -> Result<Sharding, Fault> {
-    sharding.place(0).map_err(|refusal| {
-        let diagnosis = diagnosis::of_sharding(&sharding);
-        Refused::asked("settings", refusal, diagnosis)
-    })?;
+    let place = sharding.place(0);
+    place.explain("settings", |_| diagnosis::of_sharding(&sharding))?;
     Ok(sharding)
 }
 
-/// A volume that the library refuses.
-fn refused_volume(volume: Volume, refusal: coronagamba::Refusal) -> Fault {
-    let diagnosis = diagnosis::of_volume(&volume, refusal);
-    Refused::asked("settings", refusal, diagnosis).into()
+/// A volume over which the library gives an answer.
+fn judged<T>(volume: Volume, answer: Result<T, Refusal>) -> Result<Volume, Fault> {
+    answer.explain("settings", |refusal| diagnosis::of_volume(&volume, refusal))?;
+    Ok(volume)
 }
 
 /// The files that give the settings: they are inputs, and never written over.
@@ -183,7 +217,7 @@ pub fn files(args: &Args) -> impl Iterator<Item = &Path> {
 }
 
 /// Reads the card, the info file, or the options that stand in their place.
-fn read(args: &Args, needed: &[&'static str]) -> Result<Given, Fault> {
+fn read(args: &Args, needed: &[Opt]) -> Result<Given, Fault> {
     let (card, info) = match (card_given(args)?, info_given(args)?) {
         (Some(path), _) => (of_card(args, path)?, None),
         (None, Some((path, scale))) => {
@@ -206,8 +240,8 @@ fn read(args: &Args, needed: &[&'static str]) -> Result<Given, Fault> {
 
 /// Reads the options of each kind that is needed or begun. The hint stands
 /// behind the names of missing ones.
-fn plain(args: &Args, needed: &[&'static str], hint: &str) -> Result<Given, Fault> {
-    let begun = |name: &&str| args.flag(name) || needed.contains(name);
+fn plain(args: &Args, needed: &[Opt], hint: &str) -> Result<Given, Fault> {
+    let begun = |option: &Opt| args.flag(*option) || needed.contains(option);
     let with_sharding = SHARDING.iter().any(begun) || args.flag(KIND);
     let with_volume = EXTENTS.iter().any(begun) || args.flag(OFFSET);
     let missing = missing(args, with_sharding, with_volume);
@@ -229,16 +263,16 @@ fn plain(args: &Args, needed: &[&'static str], hint: &str) -> Result<Given, Faul
 fn missing(args: &Args, with_sharding: bool, with_volume: bool) -> Vec<&'static str> {
     let sharding = SHARDING.iter().filter(|_| with_sharding);
     let volume = EXTENTS.iter().filter(|_| with_volume);
-    let needed = sharding.chain(volume).copied();
-    needed.filter(|name| !args.flag(name)).collect()
+    let needed = sharding.chain(volume).filter(|option| !args.flag(**option));
+    needed.map(|option| option.name()).collect()
 }
 
 /// The card that is named, with nothing beside it that says the same.
 fn card_given(args: &Args) -> Result<Option<&Path>, Fault> {
     let given = args.value(CARD).map(Path::new);
     if given.is_some() {
-        alone(args, INFO_OPTIONS, "--card", "a card")?;
-        alone(args, PLAIN_OPTIONS, "--card", "a card")?;
+        alone(args, INFO_OPTIONS, CARD, "a card")?;
+        alone(args, PLAIN_OPTIONS, CARD, "a card")?;
     }
     Ok(given)
 }
@@ -253,19 +287,18 @@ pub fn info_given(args: &Args) -> Result<Option<(&Path, u64)>, Fault> {
             "settings are never assumed; missing: --scale, the number of the info file's scale, from 0",
         )),
         (Some(path), Some(scale)) => {
-            alone(args, PLAIN_OPTIONS, "--info", "an info file")?;
+            alone(args, PLAIN_OPTIONS, INFO, "an info file")?;
             Ok(Some((Path::new(path), scale)))
         }
     }
 }
 
 /// None of these options is given beside what already says it.
-fn alone(args: &Args, options: &[Opt], name: &str, what: &str) -> Result<(), Fault> {
-    match options.iter().find(|option| args.flag(option.name)) {
+fn alone(args: &Args, options: &[Opt], given: Opt, what: &str) -> Result<(), Fault> {
+    match options.iter().find(|option| args.flag(**option)) {
         None => Ok(()),
         Some(option) => Err(Fault::wrong_use(format!(
-            "{name} and {} are given together; {what} already says it",
-            option.name
+            "{given} and {option} are given together; {what} already says it"
         ))),
     }
 }
@@ -316,28 +349,24 @@ pub fn info_in(path: &Path, text: &[u8], scale: u64) -> Result<Card, Fault> {
         let message = format!("{}: longer than 1 GiB, and not read", shown(path));
         return Err(Fault::wrong_use(message));
     }
-    Card::read_info(text, scale).map_err(|refusal| {
-        let diagnosis = diagnosis::of_info(text, scale, refusal);
-        Refused::file(path, refusal, diagnosis).into()
-    })
+    let card = Card::read_info(text, scale);
+    card.explain(path, |refusal| diagnosis::of_info(text, scale, refusal))
 }
 
 /// The card in a file's bytes.
 pub fn card_in(path: &Path, bytes: &[u8]) -> Result<Card, Fault> {
-    Card::read(bytes).map_err(|refusal| {
-        let diagnosis = diagnosis::of_card(bytes, refusal);
-        Refused::file(path, refusal, diagnosis).into()
-    })
+    let card = Card::read(bytes);
+    card.explain(path, |refusal| diagnosis::of_card(bytes, refusal))
 }
 
 /// The options of the sharding. Without a kind it is a volume, as in a card.
 fn sharding(args: &Args) -> Result<Sharding, Fault> {
-    let field = |name| decimal(args.needed(name)?, name, U8);
+    let field = |option: Opt| decimal(args.needed(option)?, option.name(), U8);
     Ok(Sharding {
-        preshift: field("--preshift")?,
-        hash: hash(args.needed("--hash")?)?,
-        minishard_bits: field("--minishard-bits")?,
-        shard_bits: field("--shard-bits")?,
+        preshift: field(PRESHIFT)?,
+        hash: hash(args.needed(HASH)?)?,
+        minishard_bits: field(MINISHARD_BITS)?,
+        shard_bits: field(SHARD_BITS)?,
         kind: kind(args)?.unwrap_or(Sharding::VOLUME),
     })
 }
@@ -363,7 +392,7 @@ fn hash(word: &OsStr) -> Result<u8, Fault> {
         Some("identity") => Ok(0),
         Some("murmur" | "murmurhash3_x86_128") => Ok(1),
         _ => Err(Fault::wrong_use(format!(
-            "--hash: '{}' is neither identity nor murmur (murmurhash3_x86_128)",
+            "{HASH}: '{}' is neither identity nor murmur (murmurhash3_x86_128)",
             shown(Path::new(word))
         ))),
     }
@@ -371,15 +400,15 @@ fn hash(word: &OsStr) -> Result<u8, Fault> {
 
 /// The options of the volume. Without an offset it is 0,0,0, as in a card.
 fn extents(args: &Args) -> Result<Volume, Fault> {
-    let three = |name| triple(args.needed(name)?, name, U32);
+    let three = |option: Opt| triple(args.needed(option)?, option.name(), U32);
     let extents = |[x, y, z]: [u32; 3]| Extents { x, y, z };
     let [x, y, z] = match args.value(OFFSET) {
-        Some(word) => triple(word, OFFSET, I32)?,
+        Some(word) => triple(word, OFFSET.name(), I32)?,
         None => [0; 3],
     };
     Ok(Volume {
-        size: extents(three("--size")?),
-        chunk: extents(three("--chunk")?),
+        size: extents(three(SIZE)?),
+        chunk: extents(three(CHUNK)?),
         offset: Offset { x, y, z },
     })
 }
@@ -521,14 +550,10 @@ mod tests {
             complaint(for_card(&args("--scale 0")), 2),
             told("--scale 0")
         );
-        assert!(FOR_CARD.iter().all(|option| option.name != CARD));
-        assert!(INFO_OPTIONS
-            .iter()
-            .map(|option| option.name)
-            .eq([INFO, SCALE]));
+        assert!(!FOR_CARD.contains(&CARD));
+        assert_eq!(INFO_OPTIONS, [INFO, SCALE]);
         assert_eq!(PLAIN_OPTIONS.len(), OPTIONS.len() - 4);
-        let names = PLAIN_OPTIONS.iter().map(|option| option.name);
-        assert!(names.clone().all(|name| name != KIND && name != SCALE));
+        assert!(!PLAIN_OPTIONS.contains(&KIND) && !PLAIN_OPTIONS.contains(&SCALE));
     }
 
     /// A cell's key is the id of its chunk in a volume, and of nothing in a mesh.

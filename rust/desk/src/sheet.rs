@@ -20,7 +20,7 @@ pub struct Holdings {
 }
 
 /// The line behind the rows, where something was left out.
-const LEFT_OUT: &str = "left out";
+pub const LEFT_OUT: &str = "left out";
 
 /// What an object of a sheet says that it is.
 const RESULT: (&str, &str) = ("result", "holdings");

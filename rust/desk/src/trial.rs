@@ -20,7 +20,21 @@ pub struct Folder {
 impl Folder {
     /// An empty folder. Tests run side by side, so each gives a name.
     pub fn new(name: &str) -> Self {
-        let path = env::temp_dir().join(format!("coronagamba-{}-{name}", process::id()));
+        Folder::made(&env::temp_dir(), name)
+    }
+
+    /// An empty folder in memory, where the system has one there: for tests that write
+    /// thousands of files, each of which would wait for the disk.
+    pub fn in_memory(name: &str) -> Self {
+        let memory = Path::new("/dev/shm");
+        match memory.is_dir() {
+            true => Folder::made(memory, name),
+            false => Folder::new(name),
+        }
+    }
+
+    fn made(place: &Path, name: &str) -> Self {
+        let path = place.join(format!("coronagamba-{}-{name}", process::id()));
         let _ = fs::remove_dir_all(&path);
         fs::create_dir(&path).expect("a folder can be made");
         Folder { path }

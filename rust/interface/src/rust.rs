@@ -162,7 +162,7 @@ pub fn numbers(source: &Source, refusals: &[Refusal], constants: &[Constant]) ->
 /// The desk tool's table.
 pub fn explained(refusals: &[Refusal]) -> String {
     let mut out = format!("//! What the refusals mean.\n//!\n{MADE}\n");
-    out.push_str("use super::Explained;\n\n/// The table of refusals, numbers rising.\n");
+    out.push_str("use super::row::Explained;\n\n/// The table of refusals, numbers rising.\n");
     out.push_str("pub const TABLE: &[Explained] = &[\n");
     for refusal in refusals {
         out.push_str(&format!(

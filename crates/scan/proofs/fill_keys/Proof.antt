@@ -1,4 +1,4 @@
--- `spread::fill_keys` meets its contract.
+-- `scan::fill_keys` meets its contract.
 use borrow.Author.Needs.{needs}
 use Rattle.scan.proofs.fill_keys.Statement.{statement}
 use Rattle.scan.proofs.fill_keys.Tie as tie

@@ -4,22 +4,25 @@ use std::path::Path;
 
 use coronagamba::{Card, Extents, Offset, Refusal, Sharding};
 
-use super::Command;
-use crate::args::{flag, value, Args};
-use crate::diagnosis;
-use crate::fault::{Fault, Refused};
+use super::command::Command;
+use crate::args::Args;
+use crate::diagnosis::{self, Diagnosis};
+use crate::fault::{Explain, Fault};
 use crate::files::{read_whole, Inputs};
+use crate::fragments::is_mesh;
 use crate::help;
 use crate::json::Object;
+use crate::options::{FORCE, JSON, OUT};
 use crate::output::{remove_stale_parts_of, write_new};
-use crate::report::{shown, Report};
+use crate::report::{Report, Where};
 use crate::settings;
+use crate::text::shown;
 
 /// `card make`.
 pub const MAKE: Command = Command {
     name: "card make",
     help: help::CARD_MAKE,
-    options: &[settings::FOR_CARD, &[value("--out"), flag("--force")]],
+    options: &[settings::FOR_CARD, &[OUT, FORCE]],
     run: make,
 };
 
@@ -27,7 +30,7 @@ pub const MAKE: Command = Command {
 pub const SHOW: Command = Command {
     name: "card show",
     help: help::CARD_SHOW,
-    options: &[settings::INFO_OPTIONS, &[flag("--json")]],
+    options: &[settings::INFO_OPTIONS, &[JSON]],
     run: show,
 };
 
@@ -35,19 +38,21 @@ pub const SHOW: Command = Command {
 pub const CHECK: Command = Command {
     name: "card check",
     help: help::CARD_CHECK,
-    options: &[&[flag("--json")]],
+    options: &[&[JSON]],
     run: check,
 };
 
 fn make(args: &Args, report: &mut Report) -> Result<(), Fault> {
     let [] = args.exactly([])?;
-    let out = Path::new(args.needed("--out")?);
+    let out = Path::new(args.needed(OUT)?);
     let card = settings::for_card(args)?;
-    let bytes = card.to_bytes().map_err(|refusal| refused(&card, refusal))?;
+    let bytes = card
+        .to_bytes()
+        .explain("settings", |refusal| diagnosed(&card, refusal))?;
     let inputs = Inputs::of(settings::files(args));
     inputs.spare(out)?;
     remove_stale_parts_of(out, &inputs);
-    write_new(out, args.flag("--force"), &bytes)?;
+    write_new(out, args.flag(FORCE), &bytes)?;
     report.line(format_args!(
         "{}: card written, {} bytes",
         shown(out),
@@ -56,18 +61,18 @@ fn make(args: &Args, report: &mut Report) -> Result<(), Fault> {
 }
 
 /// Why no card can say this.
-fn refused(card: &Card, refusal: Refusal) -> Refused {
-    let diagnosis = match refusal.number {
+fn diagnosed(card: &Card, refusal: Refusal) -> Diagnosis {
+    match refusal.number {
         1 => diagnosis::of_sharding(&card.sharding),
         _ => diagnosis::of_volume(&card.volume, refusal),
-    };
-    Refused::asked("settings", refusal, diagnosis)
+    }
 }
 
 fn check(args: &Args, report: &mut Report) -> Result<(), Fault> {
     for file in args.at_least_one("FILE")? {
-        let checked = check_file(report, Path::new(file));
-        report.go_on(checked)?;
+        let path = Path::new(file);
+        let checked = check_file(report, path);
+        report.go_on(checked, Object::new().path(path), Where::Answer)?;
     }
     Ok(())
 }
@@ -75,21 +80,13 @@ fn check(args: &Args, report: &mut Report) -> Result<(), Fault> {
 /// The verdict on one card.
 fn check_file(report: &mut Report, path: &Path) -> Result<(), Fault> {
     let bytes = read_whole(path)?;
-    match settings::card_in(path, &bytes) {
-        Err(Fault::Refused(refused)) => report.refusal(&refused),
-        Err(fault) => Err(fault),
-        Ok(_) if report.json() => report.object(
-            Object::new()
-                .path(path)
-                .text("result", "sound")
-                .number("bytes", bytes.len() as u64),
-        ),
-        Ok(_) => report.line(format_args!(
-            "{}: sound card, {} bytes",
-            shown(path),
-            bytes.len()
-        )),
+    settings::card_in(path, &bytes)?;
+    if report.json() {
+        let object = Object::new().path(path).text("result", "sound");
+        return report.object(object.number("bytes", bytes.len() as u64));
     }
+    let (path, length) = (shown(path), bytes.len());
+    report.line(format_args!("{path}: sound card, {length} bytes"))
 }
 
 fn show(args: &Args, report: &mut Report) -> Result<(), Fault> {
@@ -132,16 +129,13 @@ impl Shown {
         let Sharding {
             shard_bits, hash, ..
         } = card.sharding;
-        let refused = |refusal| {
-            let diagnosis = refused(&card, refusal).diagnosis;
-            Fault::from(Refused::file(path, refusal, diagnosis))
-        };
-        let name = |number| card.sharding.shard_name(number).map_err(refused);
+        let diagnosed = |refusal| diagnosed(&card, refusal);
+        let name = |number| card.sharding.shard_name(number).explain(path, diagnosed);
         Ok(Shown {
             card,
             scale,
             hash: if hash == 0 { "identity" } else { "murmur" },
-            grid: card.volume.grid().map_err(refused)?,
+            grid: card.volume.grid().explain(path, diagnosed)?,
             ends: [name(0)?, name((1 << shard_bits) - 1)?],
         })
     }
@@ -155,7 +149,7 @@ impl Shown {
             ..
         } = self.card.sharding;
         let hash = self.hash;
-        let kind = match settings::is_mesh(&self.card.sharding) {
+        let kind = match is_mesh(&self.card.sharding) {
             false => "",
             true => " --kind mesh",
         };

@@ -2,20 +2,22 @@
 
 use coronagamba::{Bounds, Cell, Refusal, Volume};
 
-use super::{answer, cell_text, tell_refused, Command};
-use crate::args::{flag, number, Args};
+use super::command::Command;
+use super::question::{answer, cell_text};
+use crate::args::{number, Args};
 use crate::diagnosis;
-use crate::fault::{Fault, Refused};
+use crate::fault::{Explain, Fault};
 use crate::help;
 use crate::json::Object;
-use crate::report::Report;
+use crate::options::JSON;
+use crate::report::{Report, Where};
 use crate::settings;
 
 /// The command.
 pub const COMMAND: Command = Command {
     name: "cell",
     help: help::CELL,
-    options: &[settings::OPTIONS, &[flag("--json")]],
+    options: &[settings::OF_VOLUME, &[JSON]],
     run,
 };
 
@@ -32,19 +34,17 @@ fn run(args: &Args, report: &mut Report) -> Result<(), Fault> {
 
 /// The line of one key.
 fn tell(report: &mut Report, volume: &Volume, key: u64) -> Result<(), Fault> {
-    let (cell, Bounds { begin, end }) = match found(volume, key) {
+    let question = Object::new().number("key", key);
+    let found = found(volume, key).explain(format_args!("key {key}"), |refusal| {
+        diagnosis::of_key(volume, key, refusal)
+    });
+    let (cell, Bounds { begin, end }) = match found {
         Ok(found) => found,
-        Err(refusal) => {
-            let diagnosis = diagnosis::of_key(volume, key, refusal);
-            let subject = format!("key {key}");
-            let refused = Refused::asked(subject, refusal, diagnosis);
-            return tell_refused(report, Object::new().number("key", key), refused);
-        }
+        Err(fault) => return report.tell(question, &fault, Where::Word),
     };
     if report.json() {
         return report.object(
-            Object::new()
-                .number("key", key)
+            question
                 .text("result", "cell")
                 .numbers("cell", [cell.x, cell.y, cell.z])
                 .numbers("begin", [begin.x, begin.y, begin.z])

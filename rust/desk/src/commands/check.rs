@@ -2,58 +2,82 @@
 
 use coronagamba::Sharding;
 
-use super::Command;
-use crate::args::{flag, Args};
+use super::command::Command;
+use crate::args::Args;
+use crate::aside::Aside;
 use crate::diagnosis::Gaps;
+use crate::edition::Source;
 use crate::fault::Fault;
 use crate::folder::Input;
-use crate::gather::gather;
+use crate::gather::{gather, tell_no_shards};
 use crate::help;
 use crate::json::Object;
+use crate::judge;
 use crate::memory::Room;
-use crate::report::{counted, shown, Report};
-use crate::round::{self, and, passed_over, Aside, Outcome, Verdict};
+use crate::options::{JSON, UNLISTED};
+use crate::parts;
+use crate::record::{show, show_flag, Place, Visit, Way};
+use crate::report::{Counts, Report, Where};
+use crate::round::{self, Outcome};
 use crate::settings;
+use crate::text::{and, counted, passed_over, shown};
 
 /// The command.
 pub const COMMAND: Command = Command {
     name: "check",
     help: help::CHECK,
     options: &[
-        settings::OPTIONS,
+        settings::OF_SHARDS,
+        &[UNLISTED],
         round::OPTIONS,
-        &[flag(UNLISTED), flag("--json")],
+        parts::OPTIONS,
+        &[JSON],
     ],
     run,
 };
 
-/// Asks how many bytes nothing lists.
-const UNLISTED: &str = "--unlisted";
-
 fn run(args: &Args, report: &mut Report) -> Result<(), Fault> {
-    let sharding = settings::of_shards(args)?.sharding;
+    let settings = settings::of_shards(args)?;
+    parts::run(args, COMMAND.name, &settings, report, |report| {
+        check_all(args, settings.sharding, report)
+    })
+}
+
+fn check_all(args: &Args, sharding: Sharding, report: &mut Report) -> Result<(), Fault> {
     let workers = round::workers(args, 1)?;
     let found = gather(args, &sharding)?;
     for (folder, others) in &found.empty {
-        round::tell_no_shards(folder, *others, report)?;
+        report.told(Place::Before, |report| {
+            tell_no_shards(folder, *others, report)
+        })?;
     }
     let counting = args.flag(UNLISTED);
     let mut summary = Summary {
         others: found.others,
-        unlisted: counting.then_some(0),
+        counting,
+        of_one: found.folders.is_empty() && found.inputs.len() < 2,
         ..Summary::default()
     };
-    let with_summary = !found.folders.is_empty() || found.inputs.len() > 1;
-    let work = |room: &mut Room, input| check(&sharding, counting, room, input);
-    let tell = |outcome, report: &mut Report| summary.tell(&sharding, outcome, report);
-    round::go(workers, "checked", found.inputs, work, tell, report)?;
+    let work = |room: &mut Room, input| {
+        judge::work(room, input, |room, source, number| {
+            check(&sharding, counting, room, source, number)
+        })
+    };
+    let tell =
+        |summary: &mut Summary, outcome: &_, report: &mut Report| summary.tell(outcome, report);
+    parts::round(
+        workers,
+        "checked",
+        found.inputs,
+        Input::weight,
+        work,
+        &mut summary,
+        tell,
+        report,
+    )?;
     let mut known = found.folders.iter().flatten();
-    known.try_for_each(|presence| presence.tell(report))?;
-    match summary.total() {
-        0 => Ok(()),
-        _ if with_summary => summary.print(report),
-        _ => Ok(()),
-    }
+    known.try_for_each(|presence| report.told(Place::After, |report| presence.tell(report)))?;
+    report.sum_up(&mut summary)
 }
 
 /// What is told of a sound shard.
@@ -97,51 +121,67 @@ fn check(
     sharding: &Sharding,
     counting: bool,
     room: &mut Room,
-    input: Input,
-) -> Outcome<Verdict<Sound>> {
-    let source = input.source;
-    let number = match input.number {
-        Ok(number) => number,
-        Err(trouble) => return Verdict::from(trouble).of(source.path, 0),
-    };
-    let counted = match counting {
-        true => round::measure(sharding, number, &source, room)
-            .map(|(chunks, unlisted)| (chunks, Some(unlisted))),
-        false => round::check(sharding, number, &source, room).map(|chunks| (chunks, None)),
+    source: &Source,
+    number: u64,
+) -> Result<Sound, Fault> {
+    let (chunks, unlisted) = match counting {
+        true => {
+            let (chunks, unlisted) = judge::measure(sharding, number, source, room)?;
+            (chunks, Some(unlisted))
+        }
+        false => (judge::check(sharding, number, source, room)?, None),
     };
     let file = room.file.bytes();
-    let bytes = file.len();
-    let gaps = |unlisted| Gaps::of(sharding, number, file, unlisted);
-    let answer = counted.map(|(chunks, unlisted)| Sound {
+    Ok(Sound {
         chunks,
-        bytes,
+        bytes: file.len(),
         unlisted: unlisted.map(|bytes| Unlisted {
             bytes,
-            gaps: gaps(bytes),
+            gaps: Gaps::of(sharding, number, file, bytes),
         }),
-    });
-    Verdict::from(answer).of(source.path, bytes)
+    })
 }
 
 /// Counts over all shards.
-#[derive(Default)]
-struct Summary {
+#[derive(Clone, Default)]
+pub struct Summary {
     sound: u64,
     aside: Aside,
     others: u64,
-    /// How many bytes nothing lists, where it was asked for.
-    unlisted: Option<u64>,
+    /// Whether it was asked how many bytes nothing lists, and how many these are.
+    counting: bool,
+    unlisted: u64,
+    /// Whether one file was named, which needs no summary.
+    of_one: bool,
+}
+
+impl Counts for Summary {
+    fn each(&mut self, visit: Visit) {
+        show(visit, "sound", Way::Added, &mut self.sound);
+        self.aside.each(visit);
+        show(visit, "other files", Way::Shared, &mut self.others);
+        show_flag(visit, "counting", &mut self.counting);
+        show(visit, "unlisted", Way::Added, &mut self.unlisted);
+        show_flag(visit, "of one", &mut self.of_one);
+    }
+
+    fn print(&self, report: &mut Report) -> Result<(), Fault> {
+        match self.total() {
+            0 => Ok(()),
+            _ if self.of_one => Ok(()),
+            _ => self.tell_all(report),
+        }
+    }
 }
 
 impl Summary {
     fn tell(
         &mut self,
-        sharding: &Sharding,
-        outcome: Outcome<Verdict<Sound>>,
+        outcome: &Outcome<Result<Sound, Fault>>,
         report: &mut Report,
     ) -> Result<(), Fault> {
-        let path = outcome.path.clone();
-        let Some(sound) = self.aside.answer(sharding, outcome, report)? else {
+        let path = &outcome.path;
+        let Some(sound) = self.aside.answer(outcome, Where::Answer, report)? else {
             return Ok(());
         };
         let Sound {
@@ -150,22 +190,22 @@ impl Summary {
             unlisted,
         } = sound;
         self.sound += 1;
-        if let (Some(total), Some(unlisted)) = (&mut self.unlisted, &unlisted) {
-            *total += unlisted.bytes;
+        if let Some(unlisted) = unlisted {
+            self.unlisted += unlisted.bytes;
         }
         if report.json() {
-            let object = Object::new().path(&path).text("result", "sound");
+            let object = Object::new().path(path).text("result", "sound");
             let object = object
-                .number("chunks", chunks)
-                .number("bytes", bytes as u64);
+                .number("chunks", *chunks)
+                .number("bytes", *bytes as u64);
             report.object(match unlisted {
                 Some(unlisted) => unlisted.object(object),
                 None => object,
             })
         } else {
-            let path = shown(&path);
-            let chunks = counted(chunks, "chunk");
-            let unlisted = unlisted.map(|unlisted| unlisted.line()).unwrap_or_default();
+            let path = shown(path);
+            let chunks = counted(*chunks, "chunk");
+            let unlisted = unlisted.as_ref().map(Unlisted::line).unwrap_or_default();
             report.line(format_args!(
                 "{path}: sound, {chunks}, {bytes} bytes{unlisted}"
             ))
@@ -177,7 +217,7 @@ impl Summary {
     }
 
     /// `200 shards: 196 sound, 4 refused`
-    fn print(&self, report: &mut Report) -> Result<(), Fault> {
+    fn tell_all(&self, report: &mut Report) -> Result<(), Fault> {
         let Aside {
             refused, failed, ..
         } = self.aside;
@@ -191,22 +231,22 @@ impl Summary {
                 .aside
                 .unclear_members(object.number("not_read", failed));
             let object = object.number("other_files", self.others);
-            return report.object(match self.unlisted {
-                Some(unlisted) => object.number("unlisted", unlisted),
-                None => object,
+            return report.object(match self.counting {
+                true => object.number("unlisted", self.unlisted),
+                false => object,
             });
         }
-        let unlisted = self
-            .unlisted
-            .map(|unlisted| format!(", {}", counted(unlisted, "unlisted byte")))
-            .unwrap_or_default();
+        let unlisted = match self.counting {
+            true => format!(", {}", counted(self.unlisted, "unlisted byte")),
+            false => String::new(),
+        };
         report.line(format_args!(
             "{}: {} sound, {refused} refused{}{}{unlisted}{}",
             counted(self.total(), "shard"),
             self.sound,
             and(failed, "not read"),
             self.aside.unclear_text(),
-            passed_over(self.others),
+            passed_over(self.others, "other file"),
         ))
     }
 }

@@ -4,12 +4,14 @@ use std::collections::BTreeSet;
 
 use coronagamba::{Bounds, Cell, Place, Point, Refusal, Sharding, Volume};
 
-use super::{cell_text, Command};
-use crate::args::{flag, triple, value, Args, I64};
+use super::command::Command;
+use super::question::cell_text;
+use crate::args::{triple, Args, I64};
 use crate::diagnosis::{self, Diagnosis};
-use crate::fault::{Fault, Refused};
+use crate::fault::{Explain, Fault};
 use crate::help;
 use crate::json::Object;
+use crate::options::{COUNT, DEPOSIT, JSON, MOST, SHARDS};
 use crate::report::{complaint, Report};
 use crate::settings;
 
@@ -20,20 +22,16 @@ pub const COMMAND: Command = Command {
     name: "cover",
     help: help::COVER,
     options: &[
-        settings::OPTIONS,
-        &[
-            flag("--count"),
-            flag("--shards"),
-            value("--most"),
-            flag("--json"),
-        ],
+        settings::OF_CELLS,
+        &[COUNT, SHARDS, MOST],
         copies::OPTIONS,
+        &[JSON],
     ],
     run,
 };
 
 /// The most chunks that are listed, where no other number is given.
-const MOST: u64 = 1 << 24;
+const MOST_LISTED: u64 = 1 << 24;
 
 fn run(args: &Args, report: &mut Report) -> Result<(), Fault> {
     let [from, to] = args.exactly(["FROM", "TO"])?;
@@ -41,28 +39,28 @@ fn run(args: &Args, report: &mut Report) -> Result<(), Fault> {
         begin: Point::from(triple(from, "FROM", I64)?),
         end: Point::from(triple(to, "TO", I64)?),
     };
-    if args.flag("--count") && args.flag("--shards") {
-        return Err(Fault::wrong_use("--count and --shards exclude each other"));
+    if args.flag(COUNT) && args.flag(SHARDS) {
+        return Err(Fault::wrong_use(format!(
+            "{COUNT} and {SHARDS} exclude each other"
+        )));
     }
     let folders = copies::asked(args)?;
-    if folders.is_some() && (args.flag("--count") || args.flag("--shards")) {
-        let text = "--count and --shards list, and --deposit copies; give one of them";
+    if folders.is_some() && (args.flag(COUNT) || args.flag(SHARDS)) {
+        let text = format!("{COUNT} and {SHARDS} list, and {DEPOSIT} copies; give one of them");
         return Err(Fault::wrong_use(text));
     }
-    let most = args.number("--most")?.unwrap_or(MOST);
+    let most = args.number(MOST)?.unwrap_or(MOST_LISTED);
     let (sharding, volume) = settings::of_cells(args)?;
     let room = usize::try_from(most).unwrap_or(usize::MAX);
-    let keys = match volume.cover(boxed, room) {
-        Ok(keys) => keys,
-        Err(refusal) => return Err(too_many(boxed, refusal, most).into()),
-    };
+    let keys = volume.cover(boxed, room);
+    let keys = keys.explain(format_args!("{}", box_text(boxed)), |_| too_many(most))?;
     if keys.is_empty() && !report.json() {
         complaint(format_args!("{}: {}", box_text(boxed), why_none(boxed)));
     }
-    if args.flag("--count") {
+    if args.flag(COUNT) {
         return tell_count(report, keys.len());
     }
-    if args.flag("--shards") {
+    if args.flag(SHARDS) {
         return tell_shards(report, &sharding, &keys);
     }
     if let Some(folders) = folders {
@@ -76,9 +74,9 @@ fn run(args: &Args, report: &mut Report) -> Result<(), Fault> {
 
 /// The line of one chunk.
 fn tell(report: &mut Report, sharding: &Sharding, volume: &Volume, key: u64) -> Result<(), Fault> {
-    let (cell, place, file) = found(sharding, volume, key).map_err(|refusal| {
-        let diagnosis = diagnosis::of_key(volume, key, refusal);
-        Refused::asked(format!("key {key}"), refusal, diagnosis)
+    let found = found(sharding, volume, key);
+    let (cell, place, file) = found.explain(format_args!("key {key}"), |refusal| {
+        diagnosis::of_key(volume, key, refusal)
     })?;
     if report.json() {
         return report.object(
@@ -112,14 +110,11 @@ fn tell_count(report: &mut Report, count: usize) -> Result<(), Fault> {
 
 /// The shard files that have these ids, each once, by number.
 fn tell_shards(report: &mut Report, sharding: &Sharding, keys: &[u64]) -> Result<(), Fault> {
-    let asked = |refusal| {
-        let diagnosis = diagnosis::of_sharding(sharding);
-        Refused::asked("settings", refusal, diagnosis)
-    };
-    let places = sharding.places(keys).map_err(asked)?;
+    let diagnosed = |_| diagnosis::of_sharding(sharding);
+    let places = sharding.places(keys).explain("settings", diagnosed)?;
     let shards: BTreeSet<u64> = places.iter().map(|place| place.shard).collect();
     for shard in shards {
-        let file = sharding.shard_name(shard).map_err(asked)?;
+        let file = sharding.shard_name(shard).explain("settings", diagnosed)?;
         if report.json() {
             report.object(
                 Object::new()
@@ -141,13 +136,12 @@ fn box_text(Bounds { begin, end }: Bounds) -> String {
 }
 
 /// More chunks than asked for.
-fn too_many(boxed: Bounds, refusal: Refusal, most: u64) -> Refused {
-    let diagnosis = Diagnosis::new(
+fn too_many(most: u64) -> Diagnosis {
+    Diagnosis::new(
         format!("more than {most} chunks share a voxel with the box"),
         format!("at most {most}"),
         "FROM and TO, or --most",
-    );
-    Refused::asked(box_text(boxed), refusal, diagnosis)
+    )
 }
 
 /// Why a box has no chunk.

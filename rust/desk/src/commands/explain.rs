@@ -2,19 +2,20 @@
 
 use coronagamba::Refusal;
 
-use super::Command;
-use crate::args::{flag, number, Args};
+use super::command::Command;
+use crate::args::{number, Args};
 use crate::explain::{explained, Explained, TABLE};
 use crate::fault::Fault;
 use crate::help;
 use crate::json::Object;
+use crate::options::JSON;
 use crate::report::Report;
 
 /// The command.
 pub const COMMAND: Command = Command {
     name: "explain",
     help: help::EXPLAIN,
-    options: &[&[flag("--json")]],
+    options: &[&[JSON]],
     run,
 };
 

@@ -3,21 +3,24 @@
 
 use std::path::Path;
 
-use coronagamba::{Point, Refusal, Sharding, Volume};
+use coronagamba::{Point, Sharding};
 
-use super::{cell_of, Command};
-use crate::args::{flag, number, pair, value, Args};
+use super::command::Command;
+use super::question::cell_of;
+use crate::args::{number, pair, Args};
 use crate::diagnosis;
 use crate::edition::{Loaded, Source};
-use crate::fault::{Fault, Refused, Status};
+use crate::fault::{Explain, Fault, Status};
 use crate::files::Inputs;
 use crate::folder::{find, is_unnumbered, single};
 use crate::help;
 use crate::labels::{self, Layout};
-use crate::naming::unnumbered;
+use crate::naming::no_shard;
+use crate::options::{CELL, FORCE, FRAGMENT, LABEL, OUT, SHARD, VOXEL};
 use crate::output::{remove_stale_parts_of, write_new};
-use crate::report::{complaint, shown, Report};
+use crate::report::{complaint, Report};
 use crate::settings;
+use crate::text::shown;
 
 mod voxel;
 
@@ -27,22 +30,13 @@ pub const COMMAND: Command = Command {
     help: help::GET,
     options: &[
         settings::OPTIONS,
-        &[
-            value(CELL),
-            value(voxel::VOXEL),
-            value(FRAGMENT),
-            value("--shard"),
-            value("--out"),
-            flag("--force"),
-        ],
         labels::OPTIONS,
+        &[CELL, VOXEL],
         voxel::OPTIONS,
+        &[FRAGMENT, OUT, FORCE, SHARD],
     ],
     run,
 };
-
-const CELL: &str = "--cell";
-const FRAGMENT: &str = "--fragment";
 
 /// What is asked for.
 struct Asked<'a> {
@@ -64,15 +58,15 @@ fn run(args: &Args, report: &mut Report) -> Result<(), Fault> {
     let Asked { sharding, id, .. } = asked;
     let (source, number) = match asked.path.is_dir() {
         false if is_unnumbered(args, &sharding, asked.path) => {
-            return Err(unnumbered(&sharding, asked.path))
+            return Err(no_shard(&sharding, asked.path, true))
         }
-        false => single(args, &sharding, asked.path).known(&sharding)?,
+        false => single(args, &sharding, asked.path).known()?,
         true => match in_folder(args, &sharding, asked.path, id)? {
             Ok(found) => found,
             Err(name) => return tell_missing(report, &asked, &name),
         },
     };
-    let out = args.value("--out").map(Path::new);
+    let out = args.value(OUT).map(Path::new);
     if let Some(out) = out {
         let inputs = Inputs::of(settings::files(args).chain(source.paths()));
         inputs.spare(out)?;
@@ -85,20 +79,17 @@ fn run(args: &Args, report: &mut Report) -> Result<(), Fault> {
         None => shard.chunk(id),
         Some([level, node]) => shard.fragment(id, level, node),
     };
-    let bytes = found.map_err(|refusal| {
-        let diagnosis = match fragment {
-            None => diagnosis::of_lookup(&sharding, number, file, id, refusal),
-            Some([level, node]) => {
-                diagnosis::of_fragment(&sharding, number, file, (id, level, node), refusal)
-            }
-        };
-        Refused::file(&source.path, refusal, diagnosis)
+    let bytes = found.explain(&source.path, |refusal| match fragment {
+        None => diagnosis::of_lookup(&sharding, number, file, id, refusal),
+        Some([level, node]) => {
+            diagnosis::of_fragment(&sharding, number, file, (id, level, node), refusal)
+        }
     })?;
     match (asked.voxel, asked.label, out) {
         (Some(voxel), Some((layout, channel)), _) => {
             voxel.tell_label(report, layout, channel, &source.path, bytes)
         }
-        (_, _, Some(out)) => write_new(out, args.flag("--force"), bytes),
+        (_, _, Some(out)) => write_new(out, args.flag(FORCE), bytes),
         (_, _, None) => report.bytes(bytes),
     }
 }
@@ -108,12 +99,17 @@ fn fragment(args: &Args) -> Result<Option<[u64; 2]>, Fault> {
     let Some(word) = args.value(FRAGMENT) else {
         return Ok(None);
     };
-    if let Some(name) = [CELL, voxel::VOXEL].iter().find(|name| args.flag(name)) {
+    if let Some(option) = [CELL, VOXEL].iter().find(|option| args.flag(**option)) {
         return Err(Fault::wrong_use(format!(
-            "{name} and --fragment exclude each other: a volume has no fragments, and a mesh no cells"
+            "{option} and {FRAGMENT} exclude each other: a volume has no fragments, and a mesh no cells"
         )));
     }
-    pair(word, FRAGMENT, "two numbers with a comma, LEVEL,NODE").map(Some)
+    pair(
+        word,
+        FRAGMENT.name(),
+        "two numbers with a comma, LEVEL,NODE",
+    )
+    .map(Some)
 }
 
 /// The path, the sharding and the id asked for: the id itself, the key of a
@@ -133,20 +129,19 @@ fn asked<'a>(args: &'a Args, report: &mut Report) -> Result<Option<Asked<'a>>, F
     }
     let [path] = args.exactly(["PATH"])?.map(Path::new);
     match (cell, voxel) {
-        (Some(_), Some(_)) => Err(Fault::wrong_use("--cell and --voxel exclude each other")),
+        (Some(_), Some(_)) => Err(Fault::wrong_use(format!(
+            "{CELL} and {VOXEL} exclude each other"
+        ))),
         (_, Some(voxel)) => of_voxel(args, report, path, voxel),
         (word, None) => {
             let word = word.unwrap_or_default();
-            let cell = cell_of(word, CELL)?;
+            let cell = cell_of(word, CELL.name())?;
             let (sharding, volume) = settings::of_cells(args)?;
-            let id = volume.key(cell).map_err(|refusal| {
-                let diagnosis = diagnosis::of_cell(&volume, cell, refusal);
-                Refused::asked(
-                    format!("cell {}", shown(Path::new(word))),
-                    refusal,
-                    diagnosis,
-                )
-            })?;
+            let id = volume
+                .key(cell)
+                .explain(format_args!("cell {}", shown(Path::new(word))), |refusal| {
+                    diagnosis::of_cell(&volume, cell, refusal)
+                })?;
             Ok(Some(Asked {
                 path,
                 sharding,
@@ -165,14 +160,15 @@ fn of_voxel<'a>(
     path: &'a Path,
     voxel: Point,
 ) -> Result<Option<Asked<'a>>, Fault> {
-    let (sharding, volume, label) = if args.flag(voxel::LABEL) {
+    let (sharding, volume, label) = if args.flag(LABEL) {
         let (sharding, volume, layout) = settings::of_labels(args)?;
         (sharding, volume, Some((layout, labels::channel(args)?)))
     } else {
         let (sharding, volume) = settings::of_cells(args)?;
         (sharding, volume, None)
     };
-    let found = voxel::find(&volume, voxel).map_err(|refusal| refused_volume(&volume, refusal))?;
+    let found = voxel::find(&volume, voxel)
+        .explain("settings", |refusal| diagnosis::of_volume(&volume, refusal))?;
     let Some(found) = found else {
         return voxel::tell_outside(report, &volume, voxel).map(|()| None);
     };
@@ -185,11 +181,6 @@ fn of_voxel<'a>(
     }))
 }
 
-/// A volume that the library refuses.
-fn refused_volume(volume: &Volume, refusal: Refusal) -> Refused {
-    Refused::asked("settings", refusal, diagnosis::of_volume(volume, refusal))
-}
-
 /// The files and the number of an id's own shard in a folder, or the name of the
 /// file that it would have.
 fn in_folder(
@@ -198,19 +189,23 @@ fn in_folder(
     folder: &Path,
     id: u64,
 ) -> Result<Result<(Source, u64), String>, Fault> {
-    if args.flag("--shard") {
+    if args.flag(SHARD) {
         return Err(Fault::wrong_use(format!(
-            "--shard is for one file; {} is a folder, whose files say it by their names",
+            "{SHARD} is for one file; {} is a folder, whose files say it by their names",
             shown(folder)
         )));
     }
-    let subject = || format!("id {id}");
-    let refused = |refusal| Refused::asked(subject(), refusal, diagnosis::of_sharding(sharding));
-    let number = sharding.place(id).map_err(refused)?.shard;
-    let name = sharding.shard_name(number).map_err(refused)?;
-    match find(sharding, folder, number).map_err(refused)? {
-        Some(input) => input.known(sharding).map(Ok),
-        None => Ok(Err(name)),
+    let find = || {
+        let number = sharding.place(id)?.shard;
+        Ok((
+            find(sharding, folder, number)?,
+            sharding.shard_name(number)?,
+        ))
+    };
+    let of_sharding = |_| diagnosis::of_sharding(sharding);
+    match find().explain(format_args!("id {id}"), of_sharding)? {
+        (Some(input), _) => input.known().map(Ok),
+        (None, name) => Ok(Err(name)),
     }
 }
 

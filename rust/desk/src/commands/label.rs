@@ -4,24 +4,22 @@ use std::path::Path;
 
 use coronagamba::{LabelShape, Labels};
 
-use super::{answer, tell_refused, Command};
-use crate::args::{flag, triple, value, Args, U32};
+use super::command::Command;
+use super::question::answer;
+use crate::args::{triple, Args, U32};
 use crate::diagnosis;
-use crate::fault::{Fault, Refused};
+use crate::fault::{Explain, Fault};
 use crate::help;
 use crate::json::Object;
-use crate::labels::{self, CHANNEL};
-use crate::report::Report;
+use crate::labels;
+use crate::options::{CHANNEL, JSON, SIZE_OF_CHUNK};
+use crate::report::{Report, Where};
 
 /// The command.
 pub const COMMAND: Command = Command {
     name: "label",
     help: help::LABEL,
-    options: &[
-        &[value("--size")],
-        labels::OPTIONS,
-        &[value(CHANNEL), flag("--json")],
-    ],
+    options: &[&[SIZE_OF_CHUNK], labels::OPTIONS, &[CHANNEL, JSON]],
     run,
 };
 
@@ -50,14 +48,13 @@ fn tell(
     channel: u32,
 ) -> Result<(), Fault> {
     let question = Object::new().path(path).numbers("voxel", [x, y, z]);
-    let label = match Labels::open(shape, chunk).label(x, y, z, channel) {
+    let label = Labels::open(shape, chunk).label(x, y, z, channel);
+    let label = label.explain(format_args!("voxel {x},{y},{z}"), |refusal| {
+        diagnosis::of_label(chunk, &shape, [x, y, z], channel, refusal)
+    });
+    let label = match label {
         Ok(label) => label,
-        Err(refusal) => {
-            let diagnosis = diagnosis::of_label(chunk, &shape, [x, y, z], channel, refusal);
-            let subject = format!("voxel {x},{y},{z}");
-            let refused = Refused::asked(subject, refusal, diagnosis);
-            return tell_refused(report, question, refused);
-        }
+        Err(fault) => return report.tell(question, &fault, Where::Word),
     };
     if report.json() {
         let object = question.text("result", "label").number("channel", channel);

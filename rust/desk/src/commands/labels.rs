@@ -4,33 +4,31 @@ use std::path::Path;
 
 use coronagamba::{LabelShape, Labels, Refusal};
 
-use super::Command;
-use crate::args::{flag, value, Args};
+use super::command::Command;
+use crate::args::Args;
+use crate::buffers::cleared;
 use crate::diagnosis;
-use crate::fault::{Fault, Refused, Status};
+use crate::fault::{Fault, Status};
 use crate::files::Inputs;
 use crate::help;
 use crate::json::Object;
 use crate::labels;
-use crate::memory::cleared;
+use crate::options::{FORCE, JSON, OUT, SIZE_OF_CHUNK};
 use crate::output::{self, Placed};
-use crate::report::{counted, shown, Report};
+use crate::report::Report;
+use crate::text::{counted, shown};
 
 /// The command.
 pub const COMMAND: Command = Command {
     name: "labels",
     help: help::LABELS,
-    options: &[
-        &[value("--size")],
-        labels::OPTIONS,
-        &[value("--out"), flag("--force"), flag("--json")],
-    ],
+    options: &[&[SIZE_OF_CHUNK], labels::OPTIONS, &[OUT, FORCE, JSON]],
     run,
 };
 
 fn run(args: &Args, report: &mut Report) -> Result<(), Fault> {
     let [path] = args.exactly(["CHUNK"])?.map(Path::new);
-    let out = Path::new(args.needed("--out")?);
+    let out = Path::new(args.needed(OUT)?);
     let shape = labels::shape(args)?;
     let inputs = Inputs::of([path]);
     inputs.spare(out)?;
@@ -38,7 +36,7 @@ fn run(args: &Args, report: &mut Report) -> Result<(), Fault> {
     output::remove_stale_parts_of(out, &inputs);
     let chunk = labels::read_chunk(path)?;
     let raw = raw_form(path, shape, &chunk)?;
-    let placed = output::place(out, args.flag("--force"), &raw, &inputs)?;
+    let placed = output::place(out, args.flag(FORCE), &raw, &inputs)?;
     let unpacked = Unpacked {
         placed,
         labels: (raw.len() / shape.bits.bytes()) as u64,
@@ -72,7 +70,7 @@ fn raw_form(path: &Path, shape: LabelShape, chunk: &[u8]) -> Result<Vec<u8>, Fau
         }
         (Err(refusal), _) => {
             let diagnosis = diagnosis::of_labels(chunk, &shape, refusal);
-            Err(Refused::file(path, refusal, diagnosis).into())
+            Err(Fault::refused(path, refusal, diagnosis))
         }
     }
 }

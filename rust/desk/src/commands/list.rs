@@ -8,48 +8,40 @@ use std::path::Path;
 
 use coronagamba::{Sharding, Span};
 
-use super::Command;
-use crate::args::{flag, value, Args};
+use super::command::Command;
+use crate::args::Args;
 use crate::diagnosis;
 use crate::edition::{Bytes, Loaded, Opened, Source};
-use crate::fault::{Fault, Refused};
+use crate::fault::{Explain, Fault};
 use crate::folder::{is_unnumbered, single};
-use crate::fragments::Fragments;
+use crate::fragments::{is_mesh, Fragments};
 use crate::help;
 use crate::json::Object;
-use crate::report::{shown, Report};
-use crate::round::{tell_fault, tell_misnamed};
+use crate::naming::no_shard;
+use crate::options::{FRAGMENTS, JSON, KIND, MINISHARD, SHARD};
+use crate::report::{Report, Where};
 use crate::settings;
+use crate::text::shown;
 
 /// The command.
 pub const COMMAND: Command = Command {
     name: "list",
     help: help::LIST,
-    options: &[
-        settings::OPTIONS,
-        &[
-            value("--minishard"),
-            flag(FRAGMENTS),
-            value("--shard"),
-            flag("--json"),
-        ],
-    ],
+    options: &[settings::OF_SHARDS, &[MINISHARD, FRAGMENTS, SHARD, JSON]],
     run,
 };
 
-const FRAGMENTS: &str = "--fragments";
-
 fn run(args: &Args, report: &mut Report) -> Result<(), Fault> {
     let files = args.at_least_one("FILE")?;
-    let only = args.number("--minishard")?;
+    let only = args.number(MINISHARD)?;
     let sharding = settings::of_shards(args)?.sharding;
-    if files.len() > 1 && args.flag("--shard") {
-        return Err(Fault::wrong_use("--shard is for one file"));
+    if files.len() > 1 && args.flag(SHARD) {
+        return Err(Fault::wrong_use(format!("{SHARD} is for one file")));
     }
-    if args.flag(FRAGMENTS) && !settings::is_mesh(&sharding) {
-        return Err(Fault::wrong_use(
-            "--fragments: a volume has none; a card says mesh, or --kind mesh does",
-        ));
+    if args.flag(FRAGMENTS) && !is_mesh(&sharding) {
+        return Err(Fault::wrong_use(format!(
+            "{FRAGMENTS}: a volume has none; a card says mesh, or {KIND} mesh does",
+        )));
     }
     let mut pairs = BTreeSet::new();
     for file in files {
@@ -64,19 +56,13 @@ fn run(args: &Args, report: &mut Report) -> Result<(), Fault> {
             report.line(format_args!("{}:", shown(&source.path)))?;
         }
         let object = Object::new().path(&source.path);
-        if !path.is_dir() && is_unnumbered(args, &sharding, path) {
-            tell_misnamed(&sharding, path, true, object, report)?;
-            continue;
-        }
         let known = match path.is_dir() {
             true => Err(is_folder(path)),
-            false => input.known(&sharding),
+            false if is_unnumbered(args, &sharding, path) => Err(no_shard(&sharding, path, true)),
+            false => input.known(),
         };
-        match known.and_then(|shard| list(args, report, &sharding, shard, only)) {
-            Err(fault @ (Fault::Refused(_) | Fault::Unclear { .. })) => report.complain(&fault)?,
-            Err(fault) if !fault.ends_the_run() => tell_fault(object, &fault, report)?,
-            listed => listed?,
-        }
+        let listed = known.and_then(|shard| list(args, report, &sharding, shard, only));
+        report.go_on(listed, object, Where::Aside)?;
     }
     Ok(())
 }
@@ -117,9 +103,8 @@ fn list(
     let mut numbers = Vec::new();
     for minishard in minishards {
         let listed = fill(&shard, minishard, &mut numbers, path)?;
-        listed.map_err(|refusal| {
-            let diagnosis = diagnosis::of_listing(sharding, number, bytes, minishard, refusal);
-            Refused::file(path, refusal, diagnosis)
+        listed.explain(path, |refusal| {
+            diagnosis::of_listing(sharding, number, bytes, minishard, refusal)
         })?;
         for entry in numbers.chunks_exact(3) {
             teller.tell(report, minishard, entry)?;
@@ -162,7 +147,7 @@ enum View {
 
 impl View {
     fn of(args: &Args, sharding: &Sharding) -> View {
-        match (settings::is_mesh(sharding), args.flag(FRAGMENTS)) {
+        match (is_mesh(sharding), args.flag(FRAGMENTS)) {
             (false, _) => View::Chunks,
             (true, false) => View::Manifests,
             (true, true) => View::Fragments,

@@ -7,19 +7,21 @@ use std::path::Path;
 
 use coronagamba::{Cell, Place, Refusal, Sharding, Volume};
 
-use super::{answer, cell_object, cell_of, cell_text, tell_refused, Command};
-use crate::args::{flag, Args};
+use super::command::Command;
+use super::question::{answer, cell_object, cell_of};
+use crate::args::Args;
 use crate::diagnosis;
-use crate::fault::{Fault, Refused};
+use crate::fault::{Explain, Fault};
 use crate::help;
-use crate::report::Report;
+use crate::options::JSON;
+use crate::report::{Report, Where};
 use crate::settings;
 
 /// The command.
 pub const COMMAND: Command = Command {
     name: "locate",
     help: help::LOCATE,
-    options: &[settings::OPTIONS, &[flag("--json")]],
+    options: &[settings::OF_CELLS, &[JSON]],
     run,
 };
 
@@ -63,14 +65,13 @@ fn tell(
     volume: &Volume,
     cell: Cell,
 ) -> Result<(), Fault> {
-    let (key, place, file) = match located(sharding, volume, cell) {
+    let Cell { x, y, z } = cell;
+    let subject = format_args!("cell {x},{y},{z}");
+    let located = located(sharding, volume, cell)
+        .explain(subject, |refusal| diagnosis::of_cell(volume, cell, refusal));
+    let (key, place, file) = match located {
         Ok(located) => located,
-        Err(refusal) => {
-            let diagnosis = diagnosis::of_cell(volume, cell, refusal);
-            let subject = format!("cell {}", cell_text(cell));
-            let refused = Refused::asked(subject, refusal, diagnosis);
-            return tell_refused(report, cell_object(cell), refused);
-        }
+        Err(fault) => return report.tell(cell_object(cell), &fault, Where::Word),
     };
     if report.json() {
         return report.object(

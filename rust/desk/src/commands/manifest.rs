@@ -3,22 +3,24 @@
 use std::path::Path;
 
 use coronagamba::manifest::{Corners, Level, Node, Visit};
-use coronagamba::{Manifest, Refusal};
+use coronagamba::Manifest;
 
-use super::Command;
-use crate::args::{flag, number, Args};
-use crate::diagnosis;
-use crate::fault::{Fault, Refused, Status};
+use super::command::Command;
+use crate::args::{number, Args};
+use crate::diagnosis::{self, Diagnosis};
+use crate::fault::{Explain, Fault, Status};
 use crate::files::read_whole;
 use crate::help;
 use crate::json::Object;
-use crate::report::{counted, diagnosis_members, shown, Report};
+use crate::options::{JSON, NODES};
+use crate::report::{diagnosis_members, Report, Where};
+use crate::text::{counted, shown};
 
 /// `manifest show`.
 pub const SHOW: Command = Command {
     name: "manifest show",
     help: help::MANIFEST_SHOW,
-    options: &[&[flag("--nodes"), flag("--json")]],
+    options: &[&[NODES, JSON]],
     run: show,
 };
 
@@ -26,7 +28,7 @@ pub const SHOW: Command = Command {
 pub const CHECK: Command = Command {
     name: "manifest check",
     help: help::MANIFEST_CHECK,
-    options: &[&[flag("--json")]],
+    options: &[&[JSON]],
     run: check,
 };
 
@@ -34,19 +36,15 @@ pub const CHECK: Command = Command {
 pub const NODE: Command = Command {
     name: "manifest node",
     help: help::MANIFEST_NODE,
-    options: &[&[flag("--json")]],
+    options: &[&[JSON]],
     run: node,
 };
 
-/// A refusal of a manifest.
-fn refused(path: &Path, bytes: &[u8], refusal: Refusal) -> Refused {
-    Refused::file(path, refusal, diagnosis::of_manifest(bytes, refusal))
-}
-
 fn check(args: &Args, report: &mut Report) -> Result<(), Fault> {
     for file in args.at_least_one("FILE")? {
-        let checked = check_file(report, Path::new(file));
-        report.go_on(checked)?;
+        let path = Path::new(file);
+        let checked = check_file(report, path);
+        report.go_on(checked, Object::new().path(path), Where::Answer)?;
     }
     Ok(())
 }
@@ -54,10 +52,8 @@ fn check(args: &Args, report: &mut Report) -> Result<(), Fault> {
 /// The verdict on one manifest.
 fn check_file(report: &mut Report, path: &Path) -> Result<(), Fault> {
     let bytes = read_whole(path)?;
-    let levels = match Manifest::open(&bytes).levels() {
-        Ok(levels) => levels,
-        Err(refusal) => return report.refusal(&refused(path, &bytes, refusal)),
-    };
+    let diagnosed = |refusal| diagnosis::of_manifest(&bytes, refusal);
+    let levels = Manifest::open(&bytes).levels().explain(path, diagnosed)?;
     let nodes: u64 = levels.iter().map(|level| u64::from(level.nodes)).sum();
     if report.json() {
         return report.object(
@@ -83,21 +79,21 @@ fn show(args: &Args, report: &mut Report) -> Result<(), Fault> {
     let path = Path::new(file);
     let bytes = read_whole(path)?;
     let manifest = Manifest::open(&bytes);
-    let refused = |refusal| refused(path, &bytes, refusal);
-    let levels = manifest.levels().map_err(refused)?;
+    let diagnosed = |refusal| diagnosis::of_manifest(&bytes, refusal);
+    let levels = manifest.levels().explain(path, diagnosed)?;
     let mut sizes = vec![0; levels.len()];
-    for visit in manifest.nodes().map_err(refused)? {
+    for visit in manifest.nodes().explain(path, diagnosed)? {
         sizes[visit.level as usize] += u64::from(visit.node.size);
     }
     show_head(report, path, &manifest, &levels)?;
     for (number, (level, size)) in levels.iter().zip(sizes).enumerate() {
         show_level(report, path, number, level, size)?;
     }
-    if args.flag("--nodes") {
+    if args.flag(NODES) {
         if !report.json() {
             report.line("LEVEL NODE X,Y,Z START SIZE")?;
         }
-        for visit in manifest.nodes().map_err(refused)? {
+        for visit in manifest.nodes().explain(path, diagnosed)? {
             show_node(report, path, visit)?;
         }
     }
@@ -112,8 +108,8 @@ fn show_head(
     levels: &[Level],
 ) -> Result<(), Fault> {
     let bytes = manifest.bytes();
-    let header = manifest.header();
-    let header = header.map_err(|refusal| refused(path, bytes, refusal))?;
+    let diagnosed = |refusal| diagnosis::of_manifest(bytes, refusal);
+    let header = manifest.header().explain(path, diagnosed)?;
     if report.json() {
         return report.object(
             Object::new()
@@ -195,12 +191,10 @@ fn node(args: &Args, report: &mut Report) -> Result<(), Fault> {
     let (level, index) = (number(level, "LEVEL")?, number(index, "NODE")?);
     let bytes = read_whole(path)?;
     let manifest = Manifest::open(&bytes);
-    let refused = |refusal| {
-        let diagnosis = diagnosis::of_node(&bytes, level, index, refusal);
-        Refused::file(path, refusal, diagnosis)
-    };
-    let node = manifest.node(level, index).map_err(refused)?;
-    let corners = manifest.corners(level, index).map_err(refused);
+    let diagnosed = |refusal| diagnosis::of_node(&bytes, level, index, refusal);
+    let node = manifest.node(level, index).explain(path, diagnosed)?;
+    let corners = manifest.corners(level, index);
+    let corners = corners.map_err(|refusal| (refusal.number, diagnosed(refusal)));
     if corners.is_err() {
         report.note(Status::No);
     }
@@ -220,26 +214,23 @@ fn node(args: &Args, report: &mut Report) -> Result<(), Fault> {
 }
 
 /// An object with the members of a node's corners, or why it has none.
-fn corners_members(object: Object, corners: &Result<Corners, Refused>) -> Object {
+fn corners_members(object: Object, corners: &Result<Corners, (u8, Diagnosis)>) -> Object {
     match corners {
         Ok(Corners { near, far }) => object.reals("near", *near).reals("far", *far),
-        Err(refused) => {
-            let object = object.number("corners_refusal", refused.refusal.number);
-            diagnosis_members(object, &refused.diagnosis)
+        Err((number, diagnosis)) => {
+            let object = object.number("corners_refusal", *number);
+            diagnosis_members(object, diagnosis)
         }
     }
 }
 
 /// A node's corners, or why it has none.
-fn corners_text(corners: &Result<Corners, Refused>) -> String {
+fn corners_text(corners: &Result<Corners, (u8, Diagnosis)>) -> String {
     match corners {
         Ok(Corners { near, far }) => format!("{} to {}", reals(*near), reals(*far)),
-        Err(refused) => format!(
-            "none, refused {}: found {}, expected {}; look at {}",
-            refused.refusal.number,
-            refused.diagnosis.found,
-            refused.diagnosis.expected,
-            refused.diagnosis.look_at
+        Err((number, diagnosis)) => format!(
+            "none, refused {number}: found {}, expected {}; look at {}",
+            diagnosis.found, diagnosis.expected, diagnosis.look_at
         ),
     }
 }

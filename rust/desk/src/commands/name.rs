@@ -2,37 +2,33 @@
 
 use coronagamba::{Cell, Refusal, Volume};
 
-use super::{answer, cell_object, cell_of, cell_text, tell_refused, Command};
-use crate::args::{flag, value, Args};
+use super::command::Command;
+use super::question::{answer, cell_object, cell_of};
+use crate::args::Args;
 use crate::diagnosis;
-use crate::fault::{Fault, Refused};
+use crate::fault::{Explain, Fault};
 use crate::help;
 use crate::json::Object;
 use crate::naming::Ending;
-use crate::report::Report;
+use crate::options::{JSON, PAIR, SHARD};
+use crate::report::{Report, Where};
 use crate::settings;
 
 /// The command.
 pub const COMMAND: Command = Command {
     name: "name",
     help: help::NAME,
-    options: &[
-        settings::OPTIONS,
-        &[value("--shard"), flag(PAIR), flag("--json")],
-    ],
+    options: &[settings::OPTIONS, &[SHARD, PAIR, JSON]],
     run,
 };
 
-/// Asks for the names of the earlier edition.
-const PAIR: &str = "--pair";
-
 fn run(args: &Args, report: &mut Report) -> Result<(), Fault> {
-    if args.flag(PAIR) && !args.flag("--shard") {
-        return Err(Fault::wrong_use(
-            "--pair: only a shard may have two files; --shard is missing",
-        ));
+    if args.flag(PAIR) && !args.flag(SHARD) {
+        return Err(Fault::wrong_use(format!(
+            "{PAIR}: only a shard may have two files; {SHARD} is missing",
+        )));
     }
-    if let Some(number) = args.number("--shard")? {
+    if let Some(number) = args.number(SHARD)? {
         let [] = args.exactly([])?;
         return name_shard(args, report, number);
     }
@@ -55,43 +51,37 @@ fn name_shard(args: &Args, report: &mut Report, number: u64) -> Result<(), Fault
     };
     let named =
         |(member, ending): &(&'static str, Ending)| Ok((*member, ending.name(&sharding, number)?));
-    match endings
-        .iter()
-        .map(named)
-        .collect::<Result<Vec<_>, Refusal>>()
-    {
+    let names: Result<Vec<_>, Refusal> = endings.iter().map(named).collect();
+    let question = Object::new().number("shard", number);
+    match names.explain(format_args!("shard {number}"), |_| {
+        diagnosis::of_shard_number(&sharding, number)
+    }) {
         Ok(names) if report.json() => {
-            let object = Object::new()
-                .number("shard", number)
-                .text("result", "named");
+            let object = question.text("result", "named");
             let add = |object: Object, (member, name): (&str, String)| object.text(member, &name);
             report.object(names.into_iter().fold(object, add))
         }
         Ok(names) => names
             .into_iter()
             .try_for_each(|(_, name)| report.line(name)),
-        Err(refusal) => {
-            let diagnosis = diagnosis::of_shard_number(&sharding, number);
-            let refused = Refused::asked(format!("shard {number}"), refusal, diagnosis);
-            tell_refused(report, Object::new().number("shard", number), refused)
-        }
+        Err(fault) => report.tell(question, &fault, Where::Word),
     }
 }
 
 /// The line of a cell.
 fn name_chunk(report: &mut Report, volume: &Volume, cell: Cell) -> Result<(), Fault> {
-    match volume.chunk_name(cell) {
+    let Cell { x, y, z } = cell;
+    let subject = format_args!("cell {x},{y},{z}");
+    let name = volume
+        .chunk_name(cell)
+        .explain(subject, |refusal| diagnosis::of_cell(volume, cell, refusal));
+    match name {
         Ok(name) if report.json() => report.object(
             cell_object(cell)
                 .text("result", "named")
                 .text("name", &name),
         ),
         Ok(name) => report.line(name),
-        Err(refusal) => {
-            let diagnosis = diagnosis::of_cell(volume, cell, refusal);
-            let subject = format!("cell {}", cell_text(cell));
-            let refused = Refused::asked(subject, refusal, diagnosis);
-            tell_refused(report, cell_object(cell), refused)
-        }
+        Err(fault) => report.tell(cell_object(cell), &fault, Where::Word),
     }
 }

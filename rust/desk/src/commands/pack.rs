@@ -1,37 +1,35 @@
 //! `pack`: loose chunk files into shards of the settled form.
 
-use std::path::{Path, PathBuf};
+use std::path::Path;
 
-use coronagamba::{Refusal, Sharding};
-
-use super::Command;
-use crate::args::{flag, value, Args};
-use crate::diagnosis::{self, Diagnosis};
-use crate::fault::{Fault, Refused, Status};
-use crate::files::Inputs;
+use super::command::Command;
+use crate::args::Args;
+use crate::fault::Fault;
 use crate::folder::is_folder;
 use crate::help;
-use crate::json::Object;
-use crate::memory::Room;
-use crate::output::{self, Placed};
-use crate::report::{counted, shown, Report};
-use crate::round::{self, and, passed_over, Outcome};
+use crate::options::{FORCE, JSON, OUT};
+use crate::parts;
+use crate::report::Report;
+use crate::round;
 use crate::settings;
 
 mod delivery;
 mod list;
 mod loose;
+mod task;
 
-use delivery::{Chunk, Job, Sources};
+pub use task::Summary;
 
 /// The command.
 pub const COMMAND: Command = Command {
     name: "pack",
     help: help::PACK,
     options: &[
-        settings::OPTIONS,
+        settings::OF_CELLS,
+        &[OUT, FORCE],
         round::OPTIONS,
-        &[value("--out"), flag("--force"), flag("--json")],
+        parts::OPTIONS,
+        &[JSON],
     ],
     run,
 };
@@ -43,249 +41,12 @@ fn run(args: &Args, report: &mut Report) -> Result<(), Fault> {
         [] => None,
         _ => Some(Path::new(args.exactly(["LIST or DIR"])?[0])),
     };
-    let out = Path::new(args.needed("--out")?);
+    let out = Path::new(args.needed(OUT)?);
     match source.filter(|source| *source != Path::new("-")) {
         Some(folder) if is_folder(folder) => loose::pack(args, workers, folder, out, report),
-        list => list::pack(args, list, out, report),
-    }
-}
-
-/// What all shards are packed with.
-struct Task<'a> {
-    sharding: Sharding,
-    sources: Sources<'a>,
-    force: bool,
-    inputs: Inputs,
-}
-
-impl Task<'_> {
-    /// Packs the shards and tells what came of each.
-    fn round(&self, workers: usize, jobs: Vec<Job>, report: &mut Report) -> Result<Summary, Fault> {
-        let mut summary = Summary::default();
-        let work = |room: &mut Room, job| self.work(room, job);
-        let tell = |outcome, report: &mut Report| summary.tell(outcome, report);
-        round::go(workers, "packed", jobs, work, tell, report)?;
-        Ok(summary)
-    }
-
-    fn work(&self, room: &mut Room, job: Job) -> Outcome<Result<Packed, Fault>> {
-        let packed = room.attempt(|room| self.pack(room, &job), round::lacks_memory);
-        Outcome {
-            path: job.out,
-            refused: matches!(packed, Err(Fault::Refused(_))),
-            read: packed.as_ref().map_or(0, |packed| packed.bytes),
-            verdict: packed,
+        list => {
+            parts::for_folders_alone(args)?;
+            list::pack(args, list, out, report)
         }
     }
-
-    /// Packs one shard.
-    fn pack(&self, room: &mut Room, job: &Job) -> Result<Packed, Fault> {
-        // Before the work, and again where a file is to be replaced.
-        self.inputs.spare(&job.out)?;
-        output::is_taken(&job.out)?;
-        let refused = |at: Option<&_>, length, refusal| self.refused(job, at, length, refusal);
-        let form = job.form(&self.sharding, &self.sources, room, refused)?;
-        Ok(Packed {
-            placed: output::place(&job.out, self.force, form, &self.inputs)?,
-            number: job.number,
-            chunks: job.chunks.len() as u64,
-            bytes: form.len() as u64,
-        })
-    }
-
-    /// A refusal of a chunk, or of the shard, of which the form would have so many
-    /// bytes.
-    fn refused(&self, job: &Job, at: Option<&Chunk>, length: u64, refusal: Refusal) -> Fault {
-        let diagnosis = match (refusal.number, at) {
-            (Refusal::NO_SUCH_SHARD, _) => diagnosis::of_shard_number(&self.sharding, job.number),
-            (Refusal::ID_ELSEWHERE, Some(chunk)) => self.elsewhere(job, chunk),
-            (Refusal::NO_ROOM, _) => Diagnosis::new(
-                format!(
-                    "a settled form of {length} bytes, with {}",
-                    counted(job.chunks.len() as u64, "chunk")
-                ),
-                "at most 1073741824 bytes, which is 1 GiB",
-                "the chunk files; with more shard bits they would stand in several shards",
-            ),
-            _ => Diagnosis::new(
-                "chunks that the library does not take",
-                "chunks by rising minishard and rising id, each with all its bytes",
-                "the chunk files; keep them and report it to the keepers of the library",
-            ),
-        };
-        Refused::file(&job.out, refusal, diagnosis).into()
-    }
-
-    fn elsewhere(&self, job: &Job, chunk: &Chunk) -> Diagnosis {
-        let Chunk { id, shard, .. } = chunk;
-        let path = shown(&self.sources.path(*id));
-        let foreign = |chunk: &&Chunk| chunk.shard != job.number;
-        let more = match job.chunks.iter().filter(foreign).count() {
-            0 | 1 => String::new(),
-            all => format!(", and {} more of other shards", all - 1),
-        };
-        Diagnosis::new(
-            format!("id {id}, {path}, which belongs to shard {shard}{more}"),
-            format!("chunks of shard {}", job.number),
-            format!(
-                "{}; the shard's number; the settings",
-                self.sources.origin(*id)
-            ),
-        )
-    }
-}
-
-/// What is told of a packed shard.
-#[derive(Debug)]
-struct Packed {
-    placed: Placed,
-    number: u64,
-    chunks: u64,
-    bytes: u64,
-}
-
-/// Counts over all shards.
-#[derive(Default)]
-struct Summary {
-    packed: u64,
-    already_there: u64,
-    other_bytes: u64,
-    refused: u64,
-    failed: u64,
-}
-
-impl Summary {
-    fn tell(
-        &mut self,
-        outcome: Outcome<Result<Packed, Fault>>,
-        report: &mut Report,
-    ) -> Result<(), Fault> {
-        let path = outcome.path;
-        let packed = match outcome.verdict {
-            Ok(packed) => packed,
-            Err(Fault::Refused(refused)) => {
-                self.refused += 1;
-                return report.refusal(&refused);
-            }
-            Err(fault) => {
-                self.failed += 1;
-                return tell_fault(&path, &fault, report);
-            }
-        };
-        match packed.placed {
-            Placed::Written => self.packed += 1,
-            Placed::AlreadyThere => self.already_there += 1,
-            Placed::OtherBytes => {
-                self.other_bytes += 1;
-                report.note(Status::Use);
-            }
-        }
-        if report.json() {
-            report.object(packed.object(&path))
-        } else {
-            report.line(packed.line(&path))
-        }
-    }
-
-    fn total(&self) -> u64 {
-        self.packed + self.already_there + self.other_bytes + self.refused + self.failed
-    }
-
-    /// `8 shards: 8 packed, 0 refused; 96 chunks, 4 cells have none`
-    fn print(&self, found: &Found, report: &mut Report) -> Result<(), Fault> {
-        let Found {
-            chunks,
-            cells_without,
-            others,
-        } = found;
-        if report.json() {
-            return report.object(
-                Object::new()
-                    .text("result", "summary")
-                    .number("shards", self.total())
-                    .number("packed", self.packed)
-                    .number("already_there", self.already_there)
-                    .number("other_bytes", self.other_bytes)
-                    .number("refused", self.refused)
-                    .number("not_packed", self.failed)
-                    .number("chunks", *chunks)
-                    .number("cells_without", *cells_without)
-                    .number("other_files", *others),
-            );
-        }
-        let without = match cells_without {
-            0 => "every cell has one".into(),
-            1 => "1 cell has none".into(),
-            many => format!("{many} cells have none"),
-        };
-        report.line(format_args!(
-            "{}: {} packed{}{}, {} refused{}; {}, {without}{}",
-            counted(self.total(), "shard"),
-            self.packed,
-            and(self.already_there, "already there"),
-            and(self.other_bytes, "there with other bytes"),
-            self.refused,
-            and(self.failed, "not read or not written"),
-            counted(*chunks, "chunk"),
-            passed_over(*others),
-        ))
-    }
-}
-
-/// What a folder of chunk files holds.
-struct Found {
-    chunks: u64,
-    /// How many cells of the grid have no file.
-    cells_without: u64,
-    /// How many files are no chunks.
-    others: u64,
-}
-
-/// Tells what kept a shard from being packed: mostly one of its chunk files.
-fn tell_fault(path: &Path, fault: &Fault, report: &mut Report) -> Result<(), Fault> {
-    let object = Object::new().path(path);
-    let object = match fault {
-        Fault::System { path: chunk, .. } if chunk != path => object.named_path("chunk", chunk),
-        _ => object,
-    };
-    round::tell_fault(object, fault, report)
-}
-
-impl Packed {
-    fn line(&self, path: &Path) -> String {
-        let path = shown(path);
-        match self.placed {
-            Placed::Written => {
-                let chunks = counted(self.chunks, "chunk");
-                format!("{path}: packed, {chunks}, {} bytes", self.bytes)
-            }
-            Placed::AlreadyThere => format!("{path}: already there"),
-            Placed::OtherBytes => {
-                format!("{path}: exists with other bytes (--force overwrites)")
-            }
-        }
-    }
-
-    fn object(&self, path: &Path) -> Object {
-        let result = match self.placed {
-            Placed::Written => "packed",
-            Placed::AlreadyThere => "already there",
-            Placed::OtherBytes => "exists with other bytes",
-        };
-        Object::new()
-            .path(path)
-            .text("result", result)
-            .number("shard", self.number)
-            .number("chunks", self.chunks)
-            .number("bytes", self.bytes)
-    }
-}
-
-/// The file of a shard in a folder.
-fn out_of(folder: &Path, sharding: &Sharding, number: u64) -> Result<PathBuf, Fault> {
-    let name = sharding.shard_name(number).map_err(|refusal| {
-        let diagnosis = diagnosis::of_shard_number(sharding, number);
-        Refused::asked(format!("shard {number}"), refusal, diagnosis)
-    })?;
-    Ok(folder.join(name))
 }

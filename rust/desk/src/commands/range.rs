@@ -4,50 +4,46 @@ use std::path::Path;
 
 use coronagamba::{Half, Held};
 
-use super::Command;
-use crate::args::{flag, number, value, Args};
+use super::command::Command;
+use crate::args::{number, Args};
 use crate::diagnosis;
 use crate::edition::{Loaded, Opened, Source};
-use crate::fault::{Fault, Refused};
+use crate::fault::{Explain, Fault};
 use crate::files::Inputs;
 use crate::folder::pair;
 use crate::help;
 use crate::json::Object;
+use crate::options::{FORCE, JSON, OUT, PLACE};
 use crate::output::{remove_stale_parts_of, write_new};
-use crate::report::{counted, shown, Report};
+use crate::report::Report;
 use crate::settings;
+use crate::text::{counted, shown};
 
 /// The command.
 pub const COMMAND: Command = Command {
     name: "range",
     help: help::RANGE,
-    options: &[
-        settings::OPTIONS,
-        &[flag(PLACE), value("--out"), flag("--force"), flag("--json")],
-    ],
+    options: &[settings::OF_SHARDS, &[PLACE, OUT, FORCE, JSON]],
     run,
 };
-
-/// Asks where the bytes are.
-const PLACE: &str = "--place";
 
 fn run(args: &Args, report: &mut Report) -> Result<(), Fault> {
     let [path, start, end] = args.exactly(["PATH", "START", "END"])?;
     let asked = (number(start, "START")?, number(end, "END")?);
     let telling = args.flag(PLACE);
-    if telling && args.flag("--out") {
-        return Err(Fault::wrong_use(
-            "--place tells where the bytes are, and --out writes them; give one of them",
-        ));
+    if telling && args.flag(OUT) {
+        return Err(Fault::wrong_use(format!(
+            "{PLACE} tells where the bytes are, and {OUT} writes them; give one of them",
+        )));
     }
     if report.json() && !telling {
-        return Err(Fault::wrong_use(
-            "--json is for --place; the bytes themselves are no JSON",
-        ));
+        return Err(Fault::wrong_use(format!(
+            "{JSON} is for {PLACE}; the bytes themselves are no JSON",
+        )));
     }
     let sharding = settings::of_shards(args)?.sharding;
     let source = pair(Path::new(path))?;
-    let out = args.value("--out").map(Path::new);
+    let out = args.value(OUT).map(Path::new);
     if let Some(out) = out {
         let inputs = Inputs::of(settings::files(args).chain(source.paths()));
         inputs.spare(out)?;
@@ -60,17 +56,16 @@ fn run(args: &Args, report: &mut Report) -> Result<(), Fault> {
         unreachable!("a pair was read");
     };
     let (start, end) = asked;
-    let explain = |refusal| {
-        let diagnosis = diagnosis::of_range(&sharding, bytes, asked, refusal);
-        Refused::file(&source.path, refusal, diagnosis)
-    };
+    let diagnosed = |refusal| diagnosis::of_range(&sharding, bytes, asked, refusal);
     if telling {
-        let held = pair.locate_range(start, end).map_err(explain)?;
+        let held = pair
+            .locate_range(start, end)
+            .explain(&source.path, diagnosed)?;
         return tell(report, &source, held);
     }
-    let bytes = pair.range(start, end).map_err(explain)?;
+    let bytes = pair.range(start, end).explain(&source.path, diagnosed)?;
     match out {
-        Some(out) => write_new(out, args.flag("--force"), bytes),
+        Some(out) => write_new(out, args.flag(FORCE), bytes),
         None => report.bytes(bytes),
     }
 }

@@ -3,56 +3,91 @@
 use std::collections::BTreeMap;
 use std::ffi::OsString;
 use std::fs;
-use std::path::{Path, PathBuf};
+use std::path::Path;
 
-use coronagamba::{Refusal, Sharding, Unlisted};
+use coronagamba::{Sharding, Unlisted};
 
-use super::Command;
-use crate::args::{flag, Args};
+use super::command::Command;
+use crate::args::Args;
+use crate::buffers::front;
 use crate::difference::{first_difference, Difference, Kind, Side};
-use crate::edition::{Loaded, Opened, Source, Unclear};
-use crate::fault::{Fault, Refused, Status, Subject};
+use crate::edition::{both_changes, Loaded, Source};
+use crate::fault::{Fault, Status};
 use crate::files::one_place;
-use crate::folder::{is_folder, list, single, Input, Trouble};
+use crate::folder::{is_folder, list, single, Input};
+use crate::fragments::is_mesh;
+use crate::gather::{no_shard_option, tell_no_shards};
 use crate::help;
 use crate::json::Object;
-use crate::memory::{front, Lengths, Room};
+use crate::judge;
+use crate::memory::{Lengths, Room};
 use crate::naming::shard_number;
-use crate::report::{complaint, counted, refusal_members, shown, Report};
-use crate::round::{self, and, Outcome};
+use crate::options::JSON;
+use crate::parts;
+use crate::record::{show, show_flag, Place, Visit, Way};
+use crate::report::{Counts, Report, Where};
+use crate::round::{self, Outcome};
 use crate::settings;
+use crate::text::{and, counted, shown};
 
 /// The command.
 pub const COMMAND: Command = Command {
     name: "same",
     help: help::SAME,
-    options: &[settings::OPTIONS, round::OPTIONS, &[flag("--json")]],
+    options: &[settings::OF_SHARDS, round::OPTIONS, parts::OPTIONS, &[JSON]],
     run,
 };
 
 fn run(args: &Args, report: &mut Report) -> Result<(), Fault> {
-    let sharding = settings::of_shards(args)?.sharding;
-    let workers = round::workers(args, 1)?;
+    let settings = settings::of_shards(args)?;
     let paths = args.exactly(["PATH1", "PATH2"])?.map(Path::new);
+    if paths.iter().any(|path| !is_folder(path)) {
+        parts::for_folders_alone(args)?;
+    }
+    parts::run(args, COMMAND.name, &settings, report, |report| {
+        compare_all(args, settings.sharding, paths, report)
+    })
+}
+
+fn compare_all(
+    args: &Args,
+    sharding: Sharding,
+    paths: [&Path; 2],
+    report: &mut Report,
+) -> Result<(), Fault> {
+    let workers = round::workers(args, 1)?;
     let mut summary = Summary {
-        mesh: settings::is_mesh(&sharding),
+        mesh: is_mesh(&sharding),
         ..Summary::default()
     };
     let copies = match paths.map(is_folder) {
         [true, true] => {
-            round::no_shard_option(args, paths[0])?;
+            no_shard_option(args, paths[0])?;
             folders(&sharding, paths, &mut summary, report)?
         }
         [false, false] => vec![files(args, &sharding, paths)?],
         _ => return Err(unlike(paths)),
     };
     if one_place(paths[0], paths[1]) || copies.iter().any(Copies::are_one_pair) {
-        complaint("note: the first and the second are one and the same on the disk");
+        report.told(Place::Before, |report| {
+            report.remark("note: the first and the second are one and the same on the disk");
+            Ok(())
+        })?;
     }
     let work = |room: &mut Room, copies: Copies| copies.compare(&sharding, room);
-    let tell = |outcome, report: &mut Report| summary.tell(&sharding, outcome, report);
-    round::go(workers, "compared", copies, work, tell, report)?;
-    summary.print(report)
+    let tell =
+        |summary: &mut Summary, outcome: &_, report: &mut Report| summary.tell(outcome, report);
+    parts::round(
+        workers,
+        "compared",
+        copies,
+        Copies::weight,
+        work,
+        &mut summary,
+        tell,
+        report,
+    )?;
+    report.sum_up(&mut summary)
 }
 
 /// One path is that of a folder, the other is not, or leads nowhere.
@@ -95,7 +130,9 @@ fn folders(
         }
         if listing.shards.is_empty() {
             summary.bare += 1;
-            round::tell_no_shards(path, listing.others, report)?;
+            report.told(Place::Before, |report| {
+                tell_no_shards(path, listing.others, report)
+            })?;
         }
         summary.strays[side as usize] = listing.numbers(sharding).len() < listing.shards.len();
         for input in listing.shards {
@@ -127,6 +164,18 @@ fn one_name(sharding: &Sharding, source: &Source) -> OsString {
 }
 
 impl Copies {
+    /// Their name and their lengths, by which they are dealt to a part, and their change.
+    fn weight(&self) -> (&Path, u64, u64) {
+        let (lengths, changed) = match &self.sides {
+            Sides::Both(inputs) => {
+                let [first, second] = [0, 1].map(|side| inputs[side].source.length_and_change());
+                (first.0 + second.0, both_changes(first.1, second.1))
+            }
+            Sides::Only(_, input) => input.source.length_and_change(),
+        };
+        (Path::new(&self.name), lengths, changed)
+    }
+
     /// Whether both were named by files of one pair.
     fn are_one_pair(&self) -> bool {
         matches!(&self.sides, Sides::Both([first, second]) if first.source == second.source)
@@ -179,8 +228,7 @@ enum Comparison {
 /// A file that could not be compared.
 struct Unread {
     side: Side,
-    path: PathBuf,
-    trouble: Trouble,
+    fault: Fault,
     /// Whether the other side has no file of the name.
     only: bool,
 }
@@ -188,7 +236,7 @@ struct Unread {
 impl Copies {
     fn compare(self, sharding: &Sharding, room: &mut Room) -> Outcome<Comparison> {
         let mut read = 0;
-        let verdict = match self.sides {
+        let answer = match self.sides {
             Sides::Both(inputs) => match [&inputs[0].number, &inputs[1].number] {
                 [&Ok(number), Ok(_)] => {
                     let sources = inputs.map(|input| input.source);
@@ -200,93 +248,69 @@ impl Copies {
                     }
                     .compare(room)
                 }
-                _ => Comparison::Unknown(unread(Side::BOTH.into_iter().zip(inputs), false)),
+                _ => Comparison::unknown(inputs.map(|input| input.number.err())),
             },
-            Sides::Only(side, mut input) => {
-                read = input.source.length_to_read();
-                match judged(sharding, &mut input, room) {
-                    Some(chunks) => Comparison::Only(side, chunks),
-                    None => Comparison::Unknown(unread([(side, input)], true)),
+            Sides::Only(side, Input { source, number }) => {
+                read = source.length_to_read();
+                let check = |number| {
+                    let check = |room: &mut Room| judge::check(sharding, number, &source, room);
+                    room.attempt(check, judge::lacks_memory)
+                };
+                match number.and_then(check) {
+                    Ok(chunks) => Comparison::Only(side, chunks),
+                    Err(fault) => {
+                        let only = true;
+                        Comparison::Unknown(vec![Unread { side, fault, only }])
+                    }
                 }
             }
         };
         Outcome {
             path: self.name.into(),
-            refused: verdict.is_refused(),
-            verdict,
+            refused: answer.any(Fault::is_refused),
+            answer,
             read,
         }
     }
 }
 
-/// How many chunks a shard lists that has no other to be compared with. Where
-/// it is refused or not read, its trouble is noted.
-fn judged(sharding: &Sharding, input: &mut Input, room: &mut Room) -> Option<u64> {
-    let number = *input.number.as_ref().ok()?;
-    match round::check(sharding, number, &input.source, room) {
-        Ok(chunks) => Some(chunks),
-        Err(fault) => {
-            input.number = Err(Trouble::Fault(fault));
-            None
-        }
-    }
-}
-
-/// Those inputs that are in trouble.
-fn unread(inputs: impl IntoIterator<Item = (Side, Input)>, only: bool) -> Vec<Unread> {
-    let mut unread = Vec::new();
-    for (side, input) in inputs {
-        let path = input.source.path;
-        if let Err(trouble) = input.number {
-            unread.push(Unread {
-                side,
-                path,
-                trouble,
-                only,
-            });
-        }
-    }
-    unread
-}
-
 impl Comparison {
-    fn is_refused(&self) -> bool {
-        matches!(self, Comparison::Unknown(unread) if unread.iter().any(Unread::is_refused))
+    /// What kept the sides from being compared.
+    fn unknown(faults: [Option<Fault>; 2]) -> Self {
+        let unread = Side::BOTH.into_iter().zip(faults);
+        let unread = unread.filter_map(|(side, fault)| {
+            let (fault, only) = (fault?, false);
+            Some(Unread { side, fault, only })
+        });
+        Comparison::Unknown(unread.collect())
     }
 
-    fn lacks_memory(&self) -> bool {
-        matches!(self, Comparison::Unknown(unread) if unread.iter().any(Unread::lacks_memory))
+    fn any(&self, test: fn(&Fault) -> bool) -> bool {
+        matches!(self, Comparison::Unknown(unread) if unread.iter().any(|one| test(&one.fault)))
     }
 }
 
 impl Unread {
-    fn is_refused(&self) -> bool {
-        matches!(self.trouble, Trouble::Fault(Fault::Refused(_)))
-    }
-
-    fn is_misnamed(&self) -> bool {
-        matches!(self.trouble, Trouble::Misnamed { .. })
-    }
-
-    /// Why its files do not say which bytes are its own.
-    fn unclear(&self) -> Option<&Unclear> {
-        match &self.trouble {
-            Trouble::Fault(Fault::Unclear { unclear, .. }) => Some(unclear),
-            _ => None,
-        }
-    }
-
-    fn lacks_memory(&self) -> bool {
-        matches!(&self.trouble, Trouble::Fault(fault) if fault.lacks_memory())
-    }
-
     /// The beginning of its object in JSON.
     fn object(&self, name: &Path) -> Object {
         let object = Object::new().path(name).text("side", self.side.name());
-        match self.only && !self.is_misnamed() {
+        match self.only && !self.fault.is_misnamed() {
             true => object.text("missing_in", self.side.other().name()),
             false => object,
         }
+    }
+
+    /// Why it could not be compared.
+    fn tell(&self, name: &Path, report: &mut Report) -> Result<(), Fault> {
+        let object = self.object(name);
+        let Fault::Refused(refused) = &self.fault else {
+            return report.tell(object, &self.fault, Where::Answer);
+        };
+        let (name, side) = (shown(name), self.side.name());
+        let only = if self.only { "only " } else { "" };
+        let subject = format_args!("{name}: {only}in the {side}");
+        let fault = Fault::refused(subject, refused.refusal, refused.diagnosis.clone());
+        report.tell(object, &fault, Where::Answer)
     }
 }
 
@@ -299,7 +323,8 @@ struct Task {
 
 impl Task {
     fn compare(&self, room: &mut Room) -> Comparison {
-        room.attempt(|room| self.try_compare(room), Comparison::lacks_memory)
+        let lacks_memory = |answer: &Comparison| answer.any(Fault::lacks_memory);
+        room.attempt(|room| self.try_compare(room), lacks_memory)
     }
 
     /// Compares the settled forms. The second copy takes the first one's
@@ -313,7 +338,7 @@ impl Task {
             match settled {
                 [Ok(Some(first)), Ok(Some(second))] => return self.judge(room, [first, second]),
                 [Ok(_), Ok(_)] => {}
-                settled => return self.unknown(settled.map(Result::err)),
+                settled => return Comparison::unknown(settled.map(Result::err)),
             }
         }
     }
@@ -328,7 +353,8 @@ impl Task {
     ) -> Result<Option<usize>, Fault> {
         let source = &self.sources[side as usize];
         room.file.read(source)?;
-        let length = self.ask(source, &room.file, |shard| {
+        let bytes = room.file.bytes();
+        let length = judge::ask(&self.sharding, self.number, source, bytes, |shard| {
             shard.settled_length(Unlisted::Drop)
         })?;
         let wanted = &mut lengths[1 + side as usize];
@@ -342,22 +368,11 @@ impl Task {
         };
         let form = front(buffer, length as usize)
             .map_err(|error| Fault::system(&source.path, "settled", error))?;
-        let settled = self.ask(source, &room.file, |shard| {
+        let bytes = room.file.bytes();
+        let settled = judge::ask(&self.sharding, self.number, source, bytes, |shard| {
             shard.settle(Unlisted::Drop, form)
         });
         settled.map(Some)
-    }
-
-    /// The library's answer about one copy, or its refusal, explained.
-    fn ask<T>(
-        &self,
-        source: &Source,
-        file: &Loaded,
-        ask: impl FnOnce(Opened) -> Result<T, Refusal>,
-    ) -> Result<T, Fault> {
-        let (sharding, number, bytes) = (&self.sharding, self.number, file.bytes());
-        let refused = |refusal| round::refused(&source.path, sharding, number, bytes, refusal);
-        ask(bytes.open(sharding, number)).map_err(refused)
     }
 
     /// The answer over two settled forms of these lengths.
@@ -370,24 +385,11 @@ impl Task {
         room.file = Loaded::default();
         Comparison::Different(first_difference(&self.sharding, self.number, forms))
     }
-
-    fn unknown(&self, faults: [Option<Fault>; 2]) -> Comparison {
-        let mut unread = Vec::new();
-        for (side, fault) in Side::BOTH.into_iter().zip(faults) {
-            unread.extend(fault.map(|fault| Unread {
-                side,
-                path: self.sources[side as usize].path.clone(),
-                trouble: Trouble::Fault(fault),
-                only: false,
-            }));
-        }
-        Comparison::Unknown(unread)
-    }
 }
 
 /// Counts over all shards.
-#[derive(Default)]
-struct Summary {
+#[derive(Clone, Default)]
+pub struct Summary {
     /// Whether chunks have fragments, which are compared too.
     mesh: bool,
     same: u64,
@@ -410,57 +412,65 @@ struct Summary {
 }
 
 impl Summary {
-    fn tell(
-        &mut self,
-        sharding: &Sharding,
-        outcome: Outcome<Comparison>,
-        report: &mut Report,
-    ) -> Result<(), Fault> {
-        let name = outcome.path;
-        match outcome.verdict {
+    fn tell(&mut self, outcome: &Outcome<Comparison>, report: &mut Report) -> Result<(), Fault> {
+        let name = &outcome.path;
+        match &outcome.answer {
             Comparison::Same => {
                 self.same += 1;
-                say(
-                    &name,
-                    "same",
-                    |object| object.text("result", "same"),
-                    report,
-                )
+                say(name, "same", |object| object.text("result", "same"), report)
             }
             Comparison::Different(difference) => {
                 self.different += 1;
                 report.note(Status::No);
-                tell_different(&name, difference, report)
+                tell_different(name, difference.as_ref(), report)
             }
             Comparison::Only(side, 0) => {
                 self.empty += 1;
-                tell_only(&name, side, 0, report)
+                tell_only(name, *side, 0, report)
             }
             Comparison::Only(side, chunks) => {
                 self.missing[side.other() as usize] += 1;
                 report.note(Status::No);
-                tell_only(&name, side, chunks, report)
+                tell_only(name, *side, *chunks, report)
             }
             Comparison::Unknown(unread) => {
-                self.count_unread(&unread);
-                unread
-                    .into_iter()
-                    .try_for_each(|unread| tell_unread(sharding, &name, unread, report))
+                self.count_unread(unread);
+                unread.iter().try_for_each(|one| one.tell(name, report))
             }
         }
     }
 
     /// A shard counts once, by the worst that came of its copies.
     fn count_unread(&mut self, unread: &[Unread]) {
-        if unread.iter().all(Unread::is_misnamed) {
+        let all = |test: fn(&Fault) -> bool| unread.iter().all(|one| test(&one.fault));
+        if all(Fault::is_misnamed) {
             self.misnamed += 1;
-        } else if unread.iter().all(Unread::is_refused) {
+        } else if all(Fault::is_refused) {
             self.refused += 1;
-        } else if unread.iter().all(|unread| unread.unclear().is_some()) {
+        } else if all(Fault::is_unclear) {
             self.unclear += 1;
         } else {
             self.not_read += 1;
         }
+    }
+}
+
+impl Counts for Summary {
+    fn each(&mut self, visit: Visit) {
+        show_flag(visit, "mesh", &mut self.mesh);
+        show(visit, "same", Way::Added, &mut self.same);
+        show(visit, "different", Way::Added, &mut self.different);
+        show(visit, "refused", Way::Added, &mut self.refused);
+        let ([first, second], strays) = (&mut self.missing, &mut self.strays);
+        show(visit, "missing in first", Way::Added, first);
+        show(visit, "missing in second", Way::Added, second);
+        show(visit, "empty", Way::Added, &mut self.empty);
+        show(visit, "not read", Way::Added, &mut self.not_read);
+        show(visit, "misnamed", Way::Added, &mut self.misnamed);
+        show(visit, "unclear", Way::Added, &mut self.unclear);
+        show_flag(visit, "strays in first", &mut strays[0]);
+        show_flag(visit, "strays in second", &mut strays[1]);
+        show(visit, "folders without shards", Way::Shared, &mut self.bare);
     }
 
     /// The answer for the two as a whole, in one sentence.
@@ -486,7 +496,9 @@ impl Summary {
                 .text("sentence", &sentence),
         )
     }
+}
 
+impl Summary {
     /// The answer in a word and in a sentence.
     fn sentence(&self) -> (&'static str, String) {
         let (answer, beginning) = if self.differs() {
@@ -564,7 +576,7 @@ fn say(
 
 fn tell_different(
     name: &Path,
-    difference: Option<Difference>,
+    difference: Option<&Difference>,
     report: &mut Report,
 ) -> Result<(), Fault> {
     let Some(difference) = difference else {
@@ -608,37 +620,6 @@ fn tell_only(name: &Path, side: Side, chunks: u64, report: &mut Report) -> Resul
     say(name, &line, members, report)
 }
 
-/// Why a file could not be compared.
-fn tell_unread(
-    sharding: &Sharding,
-    name: &Path,
-    unread: Unread,
-    report: &mut Report,
-) -> Result<(), Fault> {
-    let object = unread.object(name);
-    match unread.trouble {
-        Trouble::Misnamed { alone } => {
-            round::tell_misnamed(sharding, &unread.path, alone, object, report)
-        }
-        Trouble::Fault(Fault::Refused(refused)) => {
-            report.note(Status::No);
-            if report.json() {
-                return report.object(refusal_members(object, &refused));
-            }
-            let only = if unread.only { "only " } else { "" };
-            let place = format!("{}: {only}in the {}", shown(name), unread.side.name());
-            report.line(Refused {
-                subject: Subject::Asked(place),
-                ..*refused
-            })
-        }
-        Trouble::Fault(Fault::Unclear { unclear, .. }) => {
-            round::tell_unclear(&unread.path, &unclear, object, report)
-        }
-        Trouble::Fault(fault) => round::tell_fault(object, &fault, report),
-    }
-}
-
 #[cfg(test)]
 mod tests {
     use super::*;
@@ -665,7 +646,7 @@ mod tests {
         assert!(2 * 3 * file < 2 * (file + form + form) - 1);
         let work = |room: &mut Room, copies: Copies| {
             let outcome = copies.compare(&TWO_MINISHARDS, room);
-            matches!(outcome.verdict, Comparison::Same)
+            matches!(outcome.answer, Comparison::Same)
         };
         let jobs = (0..100).map(|_| copies()).collect();
         assert_eq!(Crowd::default().run(jobs, &gate, work), vec![true; 100]);

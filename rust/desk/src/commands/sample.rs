@@ -4,16 +4,15 @@ use std::fs;
 use std::io::ErrorKind;
 use std::path::Path;
 
-use coronagamba::Refusal;
-
-use super::Command;
+use super::command::Command;
 use crate::args::Args;
 use crate::diagnosis::Diagnosis;
-use crate::fault::{Fault, Refused};
+use crate::fault::{Explain, Fault};
 use crate::help;
 use crate::output::write_new;
-use crate::report::{shown, Report};
+use crate::report::Report;
 use crate::sample::{parts, Files, Part};
+use crate::text::shown;
 
 /// The command.
 pub const COMMAND: Command = Command {
@@ -29,7 +28,7 @@ fn run(args: &Args, report: &mut Report) -> Result<(), Fault> {
         return Err(Fault::wrong_use("DIR is an empty word; '.' is this folder"));
     }
     let folder = Path::new(folder);
-    let parts = parts().map_err(not_made)?;
+    let parts = parts().explain("the sample deposit", |_| not_made())?;
     claim(folder)?;
     for part in &parts {
         write(folder, part)?;
@@ -104,13 +103,12 @@ fn next(folder: &str) -> String {
 
 /// The sample's numbers are fixed and allowed, so this tells of a broken
 /// library.
-fn not_made(refusal: Refusal) -> Fault {
-    let diagnosis = Diagnosis::new(
+fn not_made() -> Diagnosis {
+    Diagnosis::new(
         "the library refuses the sample's own numbers",
         "a sample of allowed numbers",
         "how this program was built",
-    );
-    Refused::asked("the sample deposit", refusal, diagnosis).into()
+    )
 }
 
 #[cfg(test)]

@@ -3,53 +3,69 @@
 use std::ffi::{OsStr, OsString};
 use std::path::{Path, PathBuf};
 
-use coronagamba::{Counts, Refusal, Sharding, Unlisted};
+use coronagamba::Sharding;
 
-use super::Command;
-use crate::args::{flag, value, Args};
-use crate::edition::{Opened, Source};
+use super::command::Command;
+use crate::args::Args;
+use crate::aside::Aside;
+use crate::edition::Source;
 use crate::fault::{Fault, Status};
 use crate::files::{one_place, Inputs};
 use crate::folder::{is_folder, list, single, Input};
+use crate::forms::{Form, Forms};
+use crate::gather::{no_shard_option, tell_no_shards};
 use crate::help;
 use crate::json::Object;
-use crate::memory::{front, Room};
+use crate::judge;
+use crate::memory::Room;
 use crate::naming::{shard_number, Ending};
+use crate::options::{DROP_UNLISTED, FORCE, JSON, OUT};
 use crate::output::{self, Placed};
-use crate::report::{counted, shown, Report};
-use crate::round::{self, and, chunk_count, passed_over, Aside, Outcome, Verdict};
+use crate::parts;
+use crate::record::{show, Place, Visit, Way};
+use crate::report::{Counts, Report, Where};
+use crate::round::{self, Outcome};
 use crate::settings;
+use crate::text::{and, counted, passed_over, shown};
 
 /// The command.
 pub const COMMAND: Command = Command {
     name: "settle",
     help: help::SETTLE,
     options: &[
-        settings::OPTIONS,
+        settings::OF_SHARDS,
+        &[OUT, DROP_UNLISTED, FORCE],
         round::OPTIONS,
-        &[
-            value("--out"),
-            flag("--force"),
-            flag(DROP_UNLISTED),
-            flag("--json"),
-        ],
+        parts::OPTIONS,
+        &[JSON],
     ],
     run,
 };
 
-/// Asks to settle without the bytes that nothing lists.
-const DROP_UNLISTED: &str = "--drop-unlisted";
-
 fn run(args: &Args, report: &mut Report) -> Result<(), Fault> {
-    let sharding = settings::of_shards(args)?.sharding;
+    let settings = settings::of_shards(args)?;
+    let [source] = args.exactly(["PATH"])?.map(Path::new);
+    if !is_folder(source) {
+        parts::for_folders_alone(args)?;
+    }
+    parts::run(args, COMMAND.name, &settings, report, |report| {
+        settle_all(args, settings.sharding, source, report)
+    })
+}
+
+fn settle_all(
+    args: &Args,
+    sharding: Sharding,
+    source: &Path,
+    report: &mut Report,
+) -> Result<(), Fault> {
     // One works while the other waits for its output to reach the disk.
     let workers = round::workers(args, 2)?;
-    let [source] = args.exactly(["PATH"])?.map(Path::new);
-    let out = Path::new(args.needed("--out")?);
+    let out = Path::new(args.needed(OUT)?);
     not_one_place(source, out)?;
     let of_folder = is_folder(source);
     let (shards, others) = if of_folder {
-        round::no_shard_option(args, source)?;
+        no_shard_option(args, source)?;
         let listing = list(&sharding, source);
         let others = listing.others;
         (listing.inputs(source), others)
@@ -57,21 +73,20 @@ fn run(args: &Args, report: &mut Report) -> Result<(), Fault> {
         (vec![single(args, &sharding, source)], 0)
     };
     if shards.is_empty() {
-        return round::tell_no_shards(source, others, report);
+        return report.told(Place::Before, |report| {
+            tell_no_shards(source, others, report)
+        });
     }
     let paths = shards.iter().flat_map(|shard| shard.source.paths());
     let task = Task {
-        sharding,
-        force: args.flag("--force"),
-        unlisted: match args.flag(DROP_UNLISTED) {
-            true => Unlisted::Drop,
-            false => Unlisted::Refuse,
-        },
+        forms: Forms::of(sharding, args),
+        force: args.flag(FORCE),
         inputs: Inputs::of(paths.chain(settings::files(args))),
     };
     if of_folder {
-        let summary = task.folder(workers, shards, out, report)?;
-        summary.print(others, report)
+        let mut summary = task.folder(workers, shards, out, report)?;
+        summary.others = others;
+        report.sum_up(&mut summary)
     } else {
         task.file(shards, out, report)
     }
@@ -114,17 +129,10 @@ struct Settled {
     to: usize,
 }
 
-/// A settled form before it is made: its length, and how many chunks it has.
-struct Form {
-    to: usize,
-    chunks: u64,
-}
-
 /// What all shards are settled with.
 struct Task {
-    sharding: Sharding,
+    forms: Forms,
     force: bool,
-    unlisted: Unlisted,
     /// All shards and the card, as they were when the run began: the output of
     /// one shard may be the input of another.
     inputs: Inputs,
@@ -153,7 +161,7 @@ impl Task {
         output::make_folder(out, "a folder is settled into a folder")?;
         let is_shard = |name: &OsStr| {
             let ending = Ending::of(name).map(|(_, ending)| ending);
-            ending == Some(Ending::Shard) && shard_number(&self.sharding, name).is_some()
+            ending == Some(Ending::Shard) && shard_number(&self.forms.sharding, name).is_some()
         };
         output::remove_stale_parts(out, &self.inputs, is_shard);
         let job = |input: Input| Job {
@@ -168,22 +176,25 @@ impl Task {
     fn round(&self, workers: usize, jobs: Vec<Job>, report: &mut Report) -> Result<Summary, Fault> {
         let mut summary = Summary::default();
         let work = |room: &mut Room, job| self.work(room, job);
-        let tell = |outcome, report: &mut Report| summary.tell(&self.sharding, outcome, report);
-        round::go(workers, "settled", jobs, work, tell, report)?;
+        let tell =
+            |summary: &mut Summary, outcome: &_, report: &mut Report| summary.tell(outcome, report);
+        parts::round(
+            workers,
+            "settled",
+            jobs,
+            |job| job.input.weight(),
+            work,
+            &mut summary,
+            tell,
+            report,
+        )?;
         Ok(summary)
     }
 
-    fn work(&self, room: &mut Room, job: Job) -> Outcome<Verdict<Settled>> {
-        room.file.clear();
-        let source = job.input.source;
-        match job.input.number {
-            Ok(number) => {
-                let settle = |room: &mut Room| self.settle(room, &source, number, &job.out);
-                let settled = room.attempt(settle, round::lacks_memory);
-                Verdict::from(settled).of(source.path, room.file.bytes().len())
-            }
-            Err(trouble) => Verdict::from(trouble).of(source.path, 0),
-        }
+    fn work(&self, room: &mut Room, job: Job) -> Outcome<Result<Settled, Fault>> {
+        judge::work(room, job.input, |room, source, number| {
+            self.settle(room, source, number, &job.out)
+        })
     }
 
     /// Settles one shard.
@@ -197,87 +208,36 @@ impl Task {
         // Before the work, and again where a file is to be replaced.
         self.inputs.spare(out)?;
         output::is_taken(out)?;
-        let Form { to, chunks } = self.read(room, source, number)?;
-        let (path, bytes) = (&source.path, room.file.bytes());
-        let shard = bytes.open(&self.sharding, number);
-        let form =
-            front(&mut room.form, to).map_err(|error| Fault::system(path, "settled", error))?;
-        let explain = |refusal| round::refused(path, &self.sharding, number, bytes, refusal);
-        // What is unlisted was told with the length, or is to be dropped.
-        shard.settle(Unlisted::Drop, form).map_err(explain)?;
+        let Form { bytes: to, chunks } = self.forms.make(room, source, number)?;
         Ok(Settled {
-            placed: output::place(out, self.force, form, &self.inputs)?,
+            placed: output::place(out, self.force, &room.form[..to], &self.inputs)?,
             out: out.to_path_buf(),
             chunks,
-            from: bytes.len(),
+            from: room.file.bytes().len(),
             to,
-        })
-    }
-
-    /// Reads the shard and gives the length of its settled form, for which
-    /// there is memory then. That length is known only when the file is read:
-    /// where the memory for it is held by others, the file is given back, waits
-    /// for both, and is read again.
-    fn read(&self, room: &mut Room, source: &Source, number: u64) -> Result<Form, Fault> {
-        let guess = source.length_to_read();
-        let mut lengths = [guess, guess, 0];
-        loop {
-            room.wait_for(lengths);
-            room.file.read(source)?;
-            let bytes = room.file.bytes();
-            let shard = bytes.open(&self.sharding, number);
-            let form = self.form(&shard).map_err(|refusal| {
-                round::refused(&source.path, &self.sharding, number, bytes, refusal)
-            })?;
-            lengths = [guess, lengths[1].max(form.to as u64), 0];
-            if room.may_have(lengths) {
-                return Ok(form);
-            }
-        }
-    }
-
-    /// Asks for the form's length. Where unlisted bytes are to be dropped, they need
-    /// not be counted, which takes long where chunks lie in no order. Else one call
-    /// tells all, but a refusal, which is told as settling tells it.
-    fn form(&self, shard: &Opened) -> Result<Form, Refusal> {
-        let measured = match self.unlisted {
-            Unlisted::Refuse => shard.measure().ok(),
-            Unlisted::Drop => None,
-        };
-        let (length, chunks) = match measured {
-            Some(counts) if counts.unlisted == 0 && counts.settled < Counts::TOO_LONG => {
-                (counts.settled, counts.chunks)
-            }
-            _ => {
-                let length = shard.settled_length(self.unlisted)?;
-                (length, chunk_count(&self.sharding, shard)?)
-            }
-        };
-        Ok(Form {
-            to: length as usize,
-            chunks,
         })
     }
 }
 
 /// Counts over all shards.
-#[derive(Default)]
-struct Summary {
+#[derive(Clone, Default)]
+pub struct Summary {
     settled: u64,
     already_there: u64,
     other_bytes: u64,
     aside: Aside,
+    /// How many files are no shards.
+    others: u64,
 }
 
 impl Summary {
     fn tell(
         &mut self,
-        sharding: &Sharding,
-        outcome: Outcome<Verdict<Settled>>,
+        outcome: &Outcome<Result<Settled, Fault>>,
         report: &mut Report,
     ) -> Result<(), Fault> {
-        let path = outcome.path.clone();
-        let Some(settled) = self.aside.answer(sharding, outcome, report)? else {
+        let path = &outcome.path;
+        let Some(settled) = self.aside.answer(outcome, Where::Answer, report)? else {
             return Ok(());
         };
         match settled.placed {
@@ -289,18 +249,29 @@ impl Summary {
             }
         }
         if report.json() {
-            report.object(settled.object(&path))
+            report.object(settled.object(path))
         } else {
-            report.line(settled.line(&path))
+            report.line(settled.line(path))
         }
     }
 
     fn total(&self) -> u64 {
         self.settled + self.already_there + self.other_bytes + self.aside.total()
     }
+}
+
+impl Counts for Summary {
+    fn each(&mut self, visit: Visit) {
+        show(visit, "settled", Way::Added, &mut self.settled);
+        show(visit, "already there", Way::Added, &mut self.already_there);
+        show(visit, "other bytes", Way::Added, &mut self.other_bytes);
+        self.aside.each(visit);
+        show(visit, "other files", Way::Shared, &mut self.others);
+    }
 
     /// `200 shards: 196 settled, 4 refused`
-    fn print(&self, others: u64, report: &mut Report) -> Result<(), Fault> {
+    fn print(&self, report: &mut Report) -> Result<(), Fault> {
+        let others = self.others;
         let Aside {
             refused, failed, ..
         } = self.aside;
@@ -324,7 +295,7 @@ impl Summary {
             and(self.other_bytes, "there with other bytes"),
             and(failed, "not read or not written"),
             self.aside.unclear_text(),
-            passed_over(others),
+            passed_over(others, "other file"),
         ))
     }
 }
@@ -366,6 +337,7 @@ mod tests {
     use super::*;
     use crate::memory::Gate;
     use crate::trial::{twice_listed, Crowd, Folder, TWO_MINISHARDS};
+    use coronagamba::Unlisted;
 
     #[test]
     fn forms_that_are_longer_than_their_files_wait_for_memory() {
@@ -386,14 +358,16 @@ mod tests {
         let gate = Gate::new(2 * (file + form) - 1);
         assert!(2 * 2 * file < 2 * (file + form) - 1);
         let task = Task {
-            sharding: TWO_MINISHARDS,
+            forms: Forms {
+                sharding: TWO_MINISHARDS,
+                unlisted: Unlisted::Refuse,
+            },
             force: false,
-            unlisted: Unlisted::Refuse,
             inputs: Inputs::default(),
         };
-        let work = |room: &mut Room, job| match task.work(room, job).verdict {
-            Verdict::Answer(settled) => (settled.placed, settled.to as u64),
-            _ => (Placed::OtherBytes, 0),
+        let work = |room: &mut Room, job| match task.work(room, job).answer {
+            Ok(settled) => (settled.placed, settled.to as u64),
+            Err(_) => (Placed::OtherBytes, 0),
         };
         let told = Crowd::default().run((0..100).map(job).collect(), &gate, work);
         assert_eq!(told, vec![(Placed::Written, form); 100]);

@@ -68,7 +68,7 @@ fn stopped(explained: &mut Explained, sample: &Sample) {
         assert_eq!(told.byte, Some(gaps[0].0));
         let bytes: u64 = gaps.iter().map(|gap| gap.1).sum();
         let [bytes, count] = [(bytes, "unlisted byte"), (gaps.len() as u64, "gap")]
-            .map(|(count, what)| crate::report::counted(count, what));
+            .map(|(count, what)| crate::text::counted(count, what));
         assert_eq!(told.found, format!("{bytes} in {count}"));
     }
 }

@@ -3,8 +3,8 @@
 use coronagamba::{Extents, Offset, Refusal, Sharding, Volume};
 
 use super::places::{bad_fields, told_bits, told_fields, told_zeros, zero_extents};
-use super::{u32_at, Diagnosis, Place};
-use crate::report::counted;
+use super::words::{u32_at, Diagnosis, Place};
+use crate::text::counted;
 
 /// A field of a card.
 struct Field {

@@ -7,11 +7,10 @@ use std::ops::Range;
 
 use coronagamba::{Manifest, Sharding, Span};
 
-use super::shard::Seen;
+use super::seen::Seen;
 use crate::edition::Bytes;
-use crate::fragments::length_of;
-use crate::report::counted;
-use crate::settings::is_mesh;
+use crate::fragments::{is_mesh, length_of};
+use crate::text::counted;
 
 /// How many gaps are told with their places.
 const TOLD: usize = 5;

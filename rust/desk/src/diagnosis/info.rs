@@ -9,8 +9,8 @@ use std::path::Path;
 use coronagamba::{LabelBits, Refusal, Sharding, Volume};
 
 use super::places::{bad_fields, told_bits, told_fields, told_zeros, zero_extents};
-use super::{Diagnosis, Place};
-use crate::report::shown;
+use super::words::{Diagnosis, Place};
+use crate::text::shown;
 
 /// The greatest depth of a value; the outermost one has depth 1.
 const MOST_DEPTH: usize = 32;

@@ -4,7 +4,7 @@
 
 use coronagamba::{LabelBits, LabelShape, Refusal};
 
-use super::{commas, u32_at, Diagnosis, Place};
+use super::words::{commas, u32_at, Diagnosis, Place};
 
 /// The most headers, and the most voxels, that are looked at for the first
 /// fault of a whole chunk. A chunk of a deposit has far fewer; one that was made

@@ -4,8 +4,8 @@ use std::cmp::Ordering;
 
 use coronagamba::Refusal;
 
-use super::{commas, u32_at, Diagnosis, Place};
-use crate::report::counted;
+use super::words::{commas, u32_at, Diagnosis, Place};
+use crate::text::counted;
 
 /// The most bytes of a manifest.
 const MOST_BYTES: u64 = 1 << 24;

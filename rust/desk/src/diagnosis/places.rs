@@ -2,7 +2,8 @@
 
 use coronagamba::{Cell, Extents, Refusal, Sharding, Volume};
 
-use super::{commas, Diagnosis, Place};
+use super::words::{commas, Diagnosis, Place};
+use crate::options::{Opt, CHUNK, HASH, KIND, MINISHARD_BITS, PRESHIFT, SHARD_BITS, SIZE};
 
 /// The most key bits of a grid.
 const MOST_KEY_BITS: u32 = 64;
@@ -61,15 +62,12 @@ pub(super) fn bad_fields(sharding: &Sharding) -> Vec<BadField> {
 
 /// Refusal 1, of settings.
 pub fn of_sharding(sharding: &Sharding) -> Diagnosis {
-    const OPTIONS: [&str; 5] = [
-        "--preshift",
-        "--hash",
-        "--minishard-bits",
-        "--shard-bits",
-        "--kind",
-    ];
+    const OPTIONS: [Opt; 5] = [PRESHIFT, HASH, MINISHARD_BITS, SHARD_BITS, KIND];
     let bad = bad_fields(sharding);
-    let options: Vec<&str> = bad.iter().map(|field| OPTIONS[field.place]).collect();
+    let options: Vec<&str> = bad
+        .iter()
+        .map(|field| OPTIONS[field.place].name())
+        .collect();
     told_fields(&bad, format!("the settings, {}", options.join(", ")))
 }
 
@@ -115,12 +113,15 @@ pub fn of_volume(volume: &Volume, refusal: Refusal) -> Diagnosis {
     let zeros = zero_extents(volume);
     match refusal.number {
         2 if !zeros.is_empty() => {
-            let size = zeros.iter().any(|place| *place < 3).then_some("--size");
-            let chunk = zeros.iter().any(|place| *place >= 3).then_some("--chunk");
+            let size = zeros.iter().any(|place| *place < 3).then_some(SIZE.name());
+            let chunk = zeros
+                .iter()
+                .any(|place| *place >= 3)
+                .then_some(CHUNK.name());
             let options: Vec<&str> = size.into_iter().chain(chunk).collect();
             told_zeros(&zeros, format!("the settings, {}", options.join(", ")))
         }
-        3 => told_bits(volume, "the settings, --size and --chunk"),
+        3 => told_bits(volume, format!("the settings, {SIZE} and {CHUNK}")),
         _ => Diagnosis::not_found_again(),
     }
 }

@@ -2,33 +2,19 @@
 //! 24. Where a fault stands is what the library says; here the numbers at that place
 //! are read and put into words.
 
-use coronagamba::{Manifest, Refusal, Sharding, Span};
+use coronagamba::{Manifest, Refusal, Sharding};
 
 use super::gaps::Gaps;
 use super::manifest::{of_manifest, of_no_node};
-use super::places::MOST_MINISHARD_BITS;
-use super::{of_shard_number, of_sharding, u64_at, Diagnosis, Place};
-use crate::edition::{Bytes, Opened};
-use crate::fragments::length_of;
-use crate::report::counted;
-use crate::settings::is_mesh;
+use super::places::{of_shard_number, of_sharding};
+use super::seen::{Seen, ENTRY, ID_STEPS, MOST_INDEX_BYTES, ROWS, SIZES, START_STEPS};
+use super::words::{Diagnosis, Place};
+use crate::edition::Bytes;
+use crate::fragments::{is_mesh, length_of};
+use crate::text::counted;
 
 /// The most bytes of a shard and of a settled form.
 const MOST_BYTES: u64 = 1 << 30;
-
-/// Bytes of an entry of the shard index: start and end.
-const ENTRY: u64 = 16;
-/// The most bytes of a shard index.
-const MOST_INDEX_BYTES: u64 = ENTRY << MOST_MINISHARD_BITS;
-/// Bytes of a chunk's entry in a minishard index: a number in each row.
-const ROWS: u64 = 24;
-
-/// A shard as this reading sees it.
-pub(super) struct Seen<'a> {
-    pub(super) sharding: &'a Sharding,
-    pub(super) number: u64,
-    pub(super) bytes: Bytes<'a>,
-}
 
 /// Whether a number is that of a fault in a minishard, which has a position.
 fn is_fault(number: u8) -> bool {
@@ -145,20 +131,6 @@ fn told(found: Option<Diagnosis>) -> Diagnosis {
 }
 
 impl<'a> Seen<'a> {
-    /// These bytes under this specification and number.
-    pub(super) fn of(sharding: &'a Sharding, number: u64, bytes: impl Into<Bytes<'a>>) -> Self {
-        Seen {
-            sharding,
-            number,
-            bytes: bytes.into(),
-        }
-    }
-
-    /// The library's view of it.
-    fn open(&self) -> Opened<'a> {
-        self.bytes.open(self.sharding, self.number)
-    }
-
     /// The gaps of a shard that passed the check.
     fn gaps(&self) -> Option<Gaps> {
         let unlisted = self.open().unlisted().ok()?;
@@ -184,25 +156,6 @@ impl<'a> Seen<'a> {
             },
         };
         Place::byte(place, &of, what)
-    }
-
-    /// The number at a place.
-    fn number_at(&self, place: u64) -> Option<u64> {
-        u64_at(self.bytes.get(place..place.checked_add(8)?)?, 0)
-    }
-
-    /// How many minishards there are.
-    pub(super) fn minishards(&self) -> u64 {
-        1 << self.sharding.minishard_bits.min(MOST_MINISHARD_BITS)
-    }
-
-    /// The length of the shard index, from whose end all places count.
-    pub(super) fn index_length(&self) -> u64 {
-        ENTRY * self.minishards()
-    }
-
-    fn file_length(&self) -> u64 {
-        self.bytes.len() as u64
     }
 
     /// Refusal 6. A file that is too long is read only as far as that shows.
@@ -345,12 +298,6 @@ impl<'a> Seen<'a> {
         }
     }
 
-    /// Start and end of a minishard index, counted from the end of the shard
-    /// index, by the entry at this byte.
-    fn entry(&self, position: u64) -> Option<(u64, u64)> {
-        Some((self.number_at(position)?, self.number_at(position + 8)?))
-    }
-
     /// Refusal 7.
     fn bad_entry(&self, minishard: u64, position: u64) -> Option<Diagnosis> {
         let (start, end) = self.entry(position)?;
@@ -395,20 +342,6 @@ impl<'a> Seen<'a> {
                 &format!("shard index, entry of minishard {minishard}: start {start}, end {end}"),
             ),
         ))
-    }
-
-    /// The rows of a minishard that has neither 7 nor 8: none where its entry is
-    /// empty, wherever that points.
-    pub(super) fn rows(&self, minishard: u64) -> Option<Rows<'a>> {
-        let base = self.index_length();
-        let (start, end) = match self.entry(ENTRY * minishard)? {
-            (start, end) if start == end => (base, base),
-            (start, end) => (base.checked_add(start)?, base.checked_add(end)?),
-        };
-        Some(Rows {
-            bytes: self.bytes.get(start..end)?,
-            begin: start,
-        })
     }
 
     /// Refusal 9.
@@ -634,72 +567,6 @@ struct Listed<'a> {
     bytes: &'a [u8],
     /// Where the entry's start step is.
     place: Place,
-}
-
-/// The three rows of a minishard index (scope, 'From id to shard').
-pub(super) struct Rows<'a> {
-    pub(super) bytes: &'a [u8],
-    /// Where they begin in the file.
-    pub(super) begin: u64,
-}
-
-/// A row by its number.
-const ID_STEPS: u64 = 0;
-const START_STEPS: u64 = 1;
-const SIZES: u64 = 2;
-
-impl Rows<'_> {
-    /// How many entries there are.
-    fn count(&self) -> u64 {
-        self.bytes.len() as u64 / ROWS
-    }
-
-    /// The byte of the file at which an entry's number in a row begins.
-    fn place(&self, row: u64, entry: u64) -> u64 {
-        self.begin + 8 * (row * self.count() + entry)
-    }
-
-    /// The entry whose number in a row begins at this byte of the file.
-    fn entry(&self, row: u64, position: u64) -> Option<u64> {
-        Some(position.checked_sub(self.place(row, 0))? / 8)
-    }
-
-    /// The numbers of a row.
-    fn numbers(&self, row: u64) -> impl Iterator<Item = u64> + '_ {
-        let number = move |entry| u64_at(self.bytes, self.place(row, entry) - self.begin);
-        (0..self.count()).filter_map(number)
-    }
-
-    /// The ids: sums of the id steps modulo 2^64 (change requests, order 2).
-    fn ids(&self) -> impl Iterator<Item = u64> + '_ {
-        self.numbers(ID_STEPS).scan(0u64, |id, step| {
-            *id = id.wrapping_add(step);
-            Some(*id)
-        })
-    }
-
-    /// The id of an entry.
-    fn id(&self, entry: u64) -> Option<u64> {
-        self.ids().nth(usize::try_from(entry).ok()?)
-    }
-
-    /// Where each chunk is, its start counted from the end of the shard index.
-    pub(super) fn spans(&self) -> impl Iterator<Item = Span> + '_ {
-        let numbers = self.numbers(START_STEPS).zip(self.numbers(SIZES));
-        numbers.scan(0u64, |end, (step, length)| {
-            let start = end.wrapping_add(step);
-            *end = start.wrapping_add(length);
-            Some(Span { start, length })
-        })
-    }
-
-    /// Where an entry's chunk starts, counted from the end of the shard index:
-    /// the sum modulo 2^64 of the start steps so far and the sizes before.
-    fn start(&self, entry: u64) -> u64 {
-        let steps = self.numbers(START_STEPS).take(entry as usize + 1);
-        let sizes = self.numbers(SIZES).take(entry as usize);
-        steps.chain(sizes).fold(0, u64::wrapping_add)
-    }
 }
 
 #[cfg(test)]

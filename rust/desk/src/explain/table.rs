@@ -2,7 +2,7 @@
 //!
 //! Made by ./interface: change the export crate or rust/interface, then run it.
 
-use super::Explained;
+use super::row::Explained;
 
 /// The table of refusals, numbers rising.
 pub const TABLE: &[Explained] = &[

@@ -5,7 +5,8 @@ use std::collections::BTreeMap;
 
 use coronagamba::{Bounds, Cell, Extents, Offset, Refusal, Sharding, Volume};
 
-use super::{mesh, Chunk};
+use super::layout::Chunk;
+use super::mesh;
 
 /// Two shards of two minishards.
 pub const SHARDING: Sharding = Sharding {

@@ -1,12 +1,25 @@
 //! Writes shards in a layout of their own. The library writes settled forms
 //! only, and the sample needs a second copy that differs in its index bytes.
 
-use super::{Chunk, Shards};
 use coronagamba::{Refusal, Sharding};
 use std::collections::BTreeMap;
 
 /// Bytes that no entry lists.
 const FILLER: &[u8] = b"-- not listed --";
+
+/// Shard files by shard number.
+pub type Shards = BTreeMap<u64, Vec<u8>>;
+
+/// A chunk and the id under which it is listed.
+pub struct Chunk {
+    /// The key of a volume's cell, the number of a mesh's net.
+    pub id: u64,
+    /// What stands right before it and is not listed: the fragments of a
+    /// manifest, nothing in a volume.
+    pub lead: Vec<u8>,
+    /// Its bytes.
+    pub bytes: Vec<u8>,
+}
 
 /// The chunks of a minishard, in rising id order.
 type Minishard<'a> = Vec<&'a Chunk>;

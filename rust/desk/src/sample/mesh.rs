@@ -1,7 +1,7 @@
 //! The sample's meshes: the manifest of one around the volume, on three levels,
 //! and a few nets with their fragments.
 
-use super::Chunk;
+use super::layout::Chunk;
 
 /// A node: its position on its level, and the size of its fragment.
 type Node = ([u32; 3], u32);

@@ -10,8 +10,7 @@ mod mesh;
 mod volume;
 
 use coronagamba::{Card, Cell, Refusal, Shard, Sharding, Unlisted};
-use layout::Order;
-use std::collections::BTreeMap;
+use layout::{Order, Shards};
 
 /// The deposit's sharding: 8 shards of 2 minishards.
 const DEPOSIT: Sharding = Sharding {
@@ -37,20 +36,6 @@ const MESH: Sharding = Sharding {
 
 /// The scales of the info file: a folder of shards and its sharding.
 const SCALES: [(&str, &Sharding); 2] = [("copy-a", &DEPOSIT), ("murmur", &MURMUR)];
-
-/// Shard files by shard number.
-type Shards = BTreeMap<u64, Vec<u8>>;
-
-/// A chunk and the id under which it is listed.
-struct Chunk {
-    /// The key of a volume's cell, the number of a mesh's net.
-    id: u64,
-    /// What stands right before it and is not listed: the fragments of a
-    /// manifest, nothing in a volume.
-    lead: Vec<u8>,
-    /// Its bytes.
-    bytes: Vec<u8>,
-}
 
 /// Something that the sample holds.
 pub struct Part {

@@ -1,6 +1,6 @@
 //! What the sample deposit holds: a small volume and its chunks.
 
-use super::Chunk;
+use super::layout::Chunk;
 use coronagamba::{Cell, Extents, Offset, Refusal, Volume};
 
 /// A grid of 5 by 5 by 4 cells. It begins left of the origin, and its last

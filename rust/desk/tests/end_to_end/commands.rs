@@ -2,16 +2,19 @@
 
 use crate::json::Json;
 use crate::support::{Folder, PROGRAM};
+use std::collections::{BTreeMap, BTreeSet};
 use std::os::unix::fs::symlink;
 use std::process::Command;
 
 /// All commands, with those that have members.
-const COMMANDS: [&str; 24] = [
+const COMMANDS: [&str; 26] = [
     "check",
     "settle",
     "pack",
     "same",
     "holdings",
+    "join",
+    "fingerprint",
     "get",
     "list",
     "range",
@@ -85,6 +88,18 @@ fn statuses() -> Vec<(String, i32)> {
         ("holdings demo/copy-a --add", 2),
         ("holdings", 2),
         ("holdings nothing/0.shard", 3),
+        ("fingerprint demo/copy-a", 0),
+        ("fingerprint demo/copy-a/5.shard", 0),
+        ("fingerprint demo/pairs --drop-unlisted", 0),
+        ("fingerprint demo/pairs", 1),
+        ("fingerprint demo/damaged --drop-unlisted", 1),
+        ("fingerprint demo", 1),
+        ("fingerprint", 2),
+        ("fingerprint demo/copy-a demo/copy-b", 2),
+        ("fingerprint demo/copy-a --shard 0", 2),
+        ("fingerprint demo/copy-a --against demo/deposit.card", 2),
+        ("fingerprint demo/copy-a --against nothing", 3),
+        ("fingerprint nothing/0.shard", 3),
         ("get demo/copy-a 21", 0),
         ("get demo/copy-b --cell 1,2,1", 0),
         ("get demo/copy-a/5.shard 0x15", 0),
@@ -549,8 +564,11 @@ fn each_help_text_has_an_example_that_works() {
         let examples = examples(help.text());
         assert!(!examples.is_empty(), "{help}");
         for example in examples {
-            let _ = std::fs::remove_dir_all(folder.at("demo"));
-            folder.run_line("sample demo").expect_status(0);
+            // The parts of a run are of one deposit, which is not made anew between them.
+            if !example.contains(".report") {
+                let _ = std::fs::remove_dir_all(folder.at("demo"));
+                folder.run_line("sample demo").expect_status(0);
+            }
             if example.contains("sample demo") {
                 std::fs::remove_dir_all(folder.at("demo")).expect("removed");
             }
@@ -593,6 +611,79 @@ fn help_is_there_in_each_form() {
     assert!(near.expect_status(2).stderr.contains("settle"), "{near}");
 }
 
+/// The options that a help text names: each with the words of its entry, the word for its
+/// value and the text, or with none where it is of no use.
+fn options_in(help: &str) -> BTreeMap<String, String> {
+    let mut options = BTreeMap::new();
+    for part in help.split("\n\n") {
+        let idle = part.strip_prefix("Also taken, and of no use here: ");
+        for name in idle.unwrap_or_default().split_whitespace() {
+            let name = name.trim_end_matches([',', '.']);
+            assert_eq!(options.insert(name.to_string(), String::new()), None);
+        }
+        if !part.starts_with("settings, ") && !part.starts_with("options:") {
+            continue;
+        }
+        for entry in part.split("\n  --").skip(1) {
+            let words: Vec<&str> = entry.split_whitespace().collect();
+            let name = format!("--{}", words[0]);
+            assert_eq!(options.insert(name, words[1..].join(" ")), None);
+        }
+    }
+    options
+}
+
+/// The commands that do something, with the options that their help names.
+fn options_of_all(folder: &Folder) -> Vec<(&'static str, BTreeMap<String, String>)> {
+    let commands = COMMANDS
+        .iter()
+        .filter(|name| !["card", "manifest"].contains(name));
+    let options = commands.map(|command| {
+        let help = folder.run_line(&format!("{command} --help"));
+        (*command, options_in(help.text()))
+    });
+    options.collect()
+}
+
+#[test]
+fn help_names_the_options_that_are_taken_and_no_others() {
+    let folder = Folder::new();
+    let commands = options_of_all(&folder);
+    let mut with_value = BTreeMap::new();
+    for (name, entry) in commands.iter().flat_map(|(_, options)| options) {
+        // The word for a value is in capitals, a text is not.
+        *with_value.entry(name).or_insert(false) |= entry.starts_with(char::is_uppercase);
+    }
+    assert!(with_value.len() > 40, "{with_value:?}");
+    for (command, options) in &commands {
+        for (name, with_value) in &with_value {
+            let run = folder.run_line(&format!("{command} {name} --unheard-of"));
+            let told = match (options.contains_key(*name), with_value) {
+                (false, _) => format!("there is no option {name} here"),
+                (true, false) => "there is no option --unheard-of here".to_string(),
+                (true, true) => format!("option {name} needs a value"),
+            };
+            assert!(run.expect_status(2).stderr.contains(&told), "{run}");
+        }
+    }
+}
+
+#[test]
+fn an_option_has_one_text_in_all_commands() {
+    let folder = Folder::new();
+    let mut texts: BTreeMap<String, BTreeSet<String>> = BTreeMap::new();
+    for (name, entry) in options_of_all(&folder).into_iter().flat_map(|(_, all)| all) {
+        if !entry.is_empty() {
+            texts.entry(name).or_default().insert(entry);
+        }
+    }
+    for (name, texts) in &texts {
+        // Extents are those of the volume, or of the one chunk whose labels are read.
+        let expected = if name == "--size" { 2 } else { 1 };
+        assert_eq!(texts.len(), expected, "{name}: {texts:?}");
+    }
+}
+
 #[test]
 fn json_lines_are_json_objects() {
     let folder = Folder::with_sample();
@@ -608,6 +699,9 @@ fn json_lines_are_json_objects() {
         ("same demo/copy-a/0.shard demo/copy-b/0.shard", 0),
         ("holdings demo/copy-a demo/damaged", 0),
         ("holdings nothing/0.shard", 3),
+        ("fingerprint demo/copy-a", 0),
+        ("fingerprint --drop-unlisted demo/damaged", 1),
+        ("fingerprint demo", 1),
         ("list demo/copy-a/0.shard", 0),
         ("list demo/damaged/2.shard", 1),
         ("check demo/pairs", 0),

@@ -5,6 +5,7 @@
 mod answers;
 mod commands;
 mod copies;
+mod fingerprints;
 mod folders;
 mod holdings;
 mod json;
@@ -16,6 +17,7 @@ mod nothing_lost;
 mod odd_files;
 mod packs;
 mod pairs;
+mod parts;
 mod reading;
 mod refusals;
 mod sample;

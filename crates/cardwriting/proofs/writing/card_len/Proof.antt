@@ -1,4 +1,4 @@
--- `card::writing::card_len` meets its contract.
+-- `cardwriting::writing::card_len` meets its contract.
 use Rattle.card.proofs.Composing.{composing}
 use Rattle.cardwriting.proofs.writing.card_len.Statement.{statement}
 use Rattle.cardwriting.proofs.writing.card_len.Tie as tie

@@ -1,4 +1,4 @@
--- `card::writing::kind_len` meets its contract.
+-- `cardwriting::writing::kind_len` meets its contract.
 use Rattle.card.proofs.Composing.{composing}
 use Rattle.cardwriting.proofs.writing.kind_len.Statement.{statement}
 use Rattle.cardwriting.proofs.writing.kind_len.Tie as tie

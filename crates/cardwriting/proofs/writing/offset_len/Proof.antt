@@ -1,4 +1,4 @@
--- `card::writing::offset_len` meets its contract.
+-- `cardwriting::writing::offset_len` meets its contract.
 use Rattle.card.proofs.Composing.{composing}
 use Rattle.cardwriting.proofs.writing.offset_len.Statement.{statement}
 use Rattle.cardwriting.proofs.writing.offset_len.Tie as tie

@@ -1,4 +1,4 @@
--- `card::writing::put_card` meets its contract.
+-- `cardwriting::writing::put_card` meets its contract.
 use Rattle.card.proofs.Composing.{composing}
 use Rattle.cardwriting.proofs.writing.put_card.Statement.{statement}
 use Rattle.cardwriting.proofs.writing.put_card.Tie as tie

@@ -1,4 +1,4 @@
--- `card::writing::put_extents` meets its contract.
+-- `cardwriting::writing::put_extents` meets its contract.
 use Rattle.card.proofs.Composing.{composing}
 use Rattle.cardwriting.proofs.writing.put_extents.Statement.{statement}
 use Rattle.cardwriting.proofs.writing.put_extents.Tie as tie

@@ -1,4 +1,4 @@
--- `card::writing::put_head` meets its contract.
+-- `cardwriting::writing::put_head` meets its contract.
 use Rattle.card.proofs.Composing.{composing}
 use Rattle.cardwriting.proofs.writing.put_head.Statement.{statement}
 use Rattle.cardwriting.proofs.writing.put_head.Tie as tie

@@ -1,4 +1,4 @@
--- `card::writing::put_kind` meets its contract.
+-- `cardwriting::writing::put_kind` meets its contract.
 use Rattle.card.proofs.Composing.{composing}
 use Rattle.cardwriting.proofs.writing.put_kind.Statement.{statement}
 use Rattle.cardwriting.proofs.writing.put_kind.Tie as tie

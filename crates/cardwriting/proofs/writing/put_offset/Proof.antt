@@ -1,4 +1,4 @@
--- `card::writing::put_offset` meets its contract.
+-- `cardwriting::writing::put_offset` meets its contract.
 use Rattle.card.proofs.Composing.{composing}
 use Rattle.cardwriting.proofs.writing.put_offset.Statement.{statement}
 use Rattle.cardwriting.proofs.writing.put_offset.Tie as tie

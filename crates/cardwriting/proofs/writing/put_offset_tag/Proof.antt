@@ -1,4 +1,4 @@
--- `card::writing::put_offset_tag` meets its contract.
+-- `cardwriting::writing::put_offset_tag` meets its contract.
 use Rattle.card.proofs.Composing.{composing}
 use Rattle.cardwriting.proofs.writing.put_offset_tag.Statement.{statement}
 use Rattle.cardwriting.proofs.writing.put_offset_tag.Tie as tie

@@ -1,4 +1,4 @@
--- `card::writing::put_one` meets its contract.
+-- `cardwriting::writing::put_one` meets its contract.
 use Rattle.card.proofs.Composing.{composing}
 use Rattle.cardwriting.proofs.writing.put_one.Statement.{statement}
 use Rattle.cardwriting.proofs.writing.put_one.Tie as tie

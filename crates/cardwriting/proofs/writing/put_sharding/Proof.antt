@@ -1,4 +1,4 @@
--- `card::writing::put_sharding` meets its contract.
+-- `cardwriting::writing::put_sharding` meets its contract.
 use Rattle.card.proofs.Composing.{composing}
 use Rattle.cardwriting.proofs.writing.put_sharding.Statement.{statement}
 use Rattle.cardwriting.proofs.writing.put_sharding.Tie as tie

@@ -1,4 +1,4 @@
--- `card::writing::put_three` meets its contract.
+-- `cardwriting::writing::put_three` meets its contract.
 use Rattle.card.proofs.Composing.{composing}
 use Rattle.cardwriting.proofs.writing.put_three.Statement.{statement}
 use Rattle.cardwriting.proofs.writing.put_three.Tie as tie

@@ -1,4 +1,4 @@
--- `card::writing::put_volume` meets its contract.
+-- `cardwriting::writing::put_volume` meets its contract.
 use Rattle.card.proofs.Composing.{composing}
 use Rattle.cardwriting.proofs.writing.put_volume.Statement.{statement}
 use Rattle.cardwriting.proofs.writing.put_volume.Tie as tie

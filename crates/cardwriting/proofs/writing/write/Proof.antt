@@ -1,4 +1,4 @@
--- `card::writing::write` meets its contract.
+-- `cardwriting::writing::write` meets its contract.
 use Rattle.card.proofs.Composing.{composing}
 use Rattle.cardwriting.proofs.writing.write.Statement.{statement}
 use Rattle.cardwriting.proofs.writing.write.Tie as tie

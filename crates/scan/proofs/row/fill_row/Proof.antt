@@ -1,4 +1,4 @@
--- `spread::row::fill_row` meets its contract.
+-- `scan::row::fill_row` meets its contract.
 use borrow.Author.Needs.{needs}
 use Rattle.scan.proofs.row.fill_row.Statement.{statement}
 use Rattle.scan.proofs.row.fill_row.Tie as tie

@@ -1,4 +1,4 @@
--- `spread::row::next_rest` meets its contract.
+-- `scan::row::next_rest` meets its contract.
 use borrow.Author.Needs.{needs}
 use Rattle.spread.proofs.Rows.{same-rest}
 use Rattle.scan.proofs.row.next_rest.Statement.{statement}

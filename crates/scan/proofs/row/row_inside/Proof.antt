@@ -1,4 +1,4 @@
--- `spread::row::row_inside` meets its contract.
+-- `scan::row::row_inside` meets its contract.
 use borrow.Author.Needs.{needs}
 use Rattle.spread.proofs.Rows.{row-none, row-last}
 use Rattle.scan.proofs.row.row_inside.Statement.{statement}

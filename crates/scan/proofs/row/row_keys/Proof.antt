@@ -1,4 +1,4 @@
--- `spread::row::row_keys` meets its contract: each way out is a check's number, or none.
+-- `scan::row::row_keys` meets its contract: each way out is a check's number, or none.
 use native.Mathlib.Omega.{arith}
 use borrow.Author.Needs.{needs}
 use Rattle.grid.proofs.Ways.{tested, few}

@@ -8,44 +8,39 @@ use std::sync::Arc;
 
 use coronagamba::{Cell, Refusal, Sharding, Volume};
 
-use crate::args::{flag, value, Args, Opt};
-use crate::commands::cell_text;
+use crate::args::Args;
+use crate::commands::question::cell_text;
 use crate::diagnosis;
 use crate::edition::{Bytes, Source};
-use crate::fault::{Fault, Refused, Status};
+use crate::fault::{Explain, Fault, Status};
 use crate::files::{one_place, Inputs};
 use crate::folder::find;
 use crate::json::Object;
+use crate::judge;
 use crate::memory::Room;
 use crate::naming::cell_of_chunk;
+use crate::options::{Opt, DEPOSIT, FORCE, JOBS, OUT};
 use crate::output::{self, Placed};
-use crate::report::{complaint, counted, refusal_members, shown, Report};
-use crate::round::{self, and, Outcome};
+use crate::report::{complaint, error_members, Report, Where};
+use crate::round::{self, Outcome};
 use crate::settings;
+use crate::text::{and, counted, shown};
 
 /// The options of copies.
-pub const OPTIONS: &[Opt] = &[
-    value(DEPOSIT),
-    value("--out"),
-    flag("--force"),
-    value("--jobs"),
-];
-
-const DEPOSIT: &str = "--deposit";
+pub const OPTIONS: &[Opt] = &[DEPOSIT, OUT, FORCE, JOBS];
 
 /// Where chunks are copied from and to; `None` where they are only listed.
 pub fn asked(args: &Args) -> Result<Option<(&Path, &Path)>, Fault> {
     let Some(deposit) = args.value(DEPOSIT) else {
-        let needless = OPTIONS.iter().find(|option| args.flag(option.name));
+        let needless = OPTIONS.iter().find(|option| args.flag(**option));
         return match needless {
             None => Ok(None),
             Some(option) => Err(Fault::wrong_use(format!(
-                "{}: is for chunks that are copied, and {DEPOSIT} is missing",
-                option.name
+                "{option}: is for chunks that are copied, and {DEPOSIT} is missing"
             ))),
         };
     };
-    let (deposit, out) = (Path::new(deposit), Path::new(args.needed("--out")?));
+    let (deposit, out) = (Path::new(deposit), Path::new(args.needed(OUT)?));
     let about = fs::metadata(deposit).map_err(|error| Fault::system(deposit, "read", error))?;
     let wrong = match (about.is_dir(), one_place(deposit, out)) {
         (false, _) => "is no folder, and a deposit is one",
@@ -65,10 +60,8 @@ pub fn copy(
 ) -> Result<(), Fault> {
     // One works while the other waits for its output to reach the disk.
     let workers = round::workers(args, 2)?;
-    let jobs = jobs(&sharding, keys, deposit).map_err(|refusal| {
-        let diagnosis = diagnosis::of_sharding(&sharding);
-        Refused::asked("settings", refusal, diagnosis)
-    })?;
+    let jobs = jobs(&sharding, keys, deposit)
+        .explain("settings", |_| diagnosis::of_sharding(&sharding))?;
     output::make_folder(out, "chunks are copied into a folder")?;
     let known = jobs
         .iter()
@@ -78,7 +71,7 @@ pub fn copy(
         sharding,
         volume,
         out,
-        force: args.flag("--force"),
+        force: args.flag(FORCE),
         inputs: Inputs::of(paths.chain(settings::files(args))),
     };
     let is_chunk = |name: &_| cell_of_chunk(&volume, name).is_some();
@@ -113,7 +106,7 @@ fn jobs(sharding: &Sharding, keys: &[u64], deposit: &Path) -> Result<Vec<Job>, R
             Some(input) => input.source.path.clone(),
             None => deposit.join(sharding.shard_name(number)?),
         };
-        let known = found.map(|input| Ok(input.known(sharding)?.0));
+        let known = found.map(|input| Ok(input.known()?.0));
         Ok(Job {
             path,
             source: known.transpose(),
@@ -146,8 +139,9 @@ enum End {
     Absent,
     /// The deposit has no such shard.
     NoShard,
-    /// The library refused it: the first of its minishard, or a later one.
-    Refused(Arc<Refused>, bool),
+    /// The library refused it with this number: the first of its minishard, or a later
+    /// one.
+    Refused(u8, Arc<Fault>, bool),
     /// Its shard could not be read, which has this status.
     NotRead(Status),
     /// It could not be written.
@@ -180,7 +174,7 @@ impl Task<'_> {
                 .any(|copy| matches!(copy.end, End::Refused(..))),
             read: room.file.bytes().len() as u64,
             path: job.path,
-            verdict: Read { fault, chunks },
+            answer: Read { fault, chunks },
         }
     }
 
@@ -193,7 +187,7 @@ impl Task<'_> {
             room.wait_for([source.length_to_read(), 0, 0]);
             room.file.read(&source)
         };
-        room.attempt(read, round::lacks_memory).map(|()| true)
+        room.attempt(read, judge::lacks_memory).map(|()| true)
     }
 
     /// All chunks of a shard, which came to one end.
@@ -205,7 +199,7 @@ impl Task<'_> {
     /// however many chunks it keeps back.
     fn copies(&self, job: &Job, file: Bytes) -> Vec<Copied> {
         let shard = file.open(&self.sharding, job.number);
-        let mut known: BTreeMap<(u8, u64), Arc<Refused>> = BTreeMap::new();
+        let mut known: BTreeMap<(u8, u64), Arc<Fault>> = BTreeMap::new();
         let mut copies = Vec::with_capacity(job.keys.len());
         for key in &job.keys {
             let mut copy = self.named(*key, End::Absent);
@@ -218,7 +212,7 @@ impl Task<'_> {
                     let refused = known
                         .entry(at)
                         .or_insert_with(|| Arc::new(self.refused(job, file, *key, refusal)));
-                    End::Refused(Arc::clone(refused), first)
+                    End::Refused(refusal.number, Arc::clone(refused), first)
                 }
             };
             copies.push(copy);
@@ -234,9 +228,9 @@ impl Task<'_> {
         }
     }
 
-    fn refused(&self, job: &Job, file: Bytes, key: u64, refusal: Refusal) -> Refused {
+    fn refused(&self, job: &Job, file: Bytes, key: u64, refusal: Refusal) -> Fault {
         let diagnosis = diagnosis::of_lookup(&self.sharding, job.number, file, key, refusal);
-        Refused::file(&job.path, refusal, diagnosis)
+        Fault::refused(&job.path, refusal, diagnosis)
     }
 
     fn place(&self, out: &Path, bytes: &[u8]) -> End {
@@ -274,16 +268,20 @@ struct Summary {
 
 impl Summary {
     fn tell(&mut self, outcome: Outcome<Read>, report: &mut Report) -> Result<(), Fault> {
-        let Outcome { path, verdict, .. } = outcome;
-        if let Some(fault) = &verdict.fault {
-            round::tell_fault(Object::new().path(&path), fault, report)?;
+        let (path, Read { fault, chunks }) = (outcome.path, outcome.answer);
+        match &fault {
+            Some(fault) if report.json() => {
+                report.object(error_members(Object::new().path(&path), fault))?;
+            }
+            Some(fault) => report.complain(fault)?,
+            None => {}
         }
         let there = |copy: &Copied| !matches!(copy.end, End::NoShard);
-        if !report.json() && !verdict.chunks.iter().any(there) {
+        if !report.json() && !chunks.iter().any(there) {
             report.flush()?;
-            tell_no_shard(&path, verdict.chunks.len() as u64);
+            tell_no_shard(&path, chunks.len() as u64);
         }
-        for copy in verdict.chunks {
+        for copy in chunks {
             self.count(&copy.end, report);
             copy.tell(&path, report)?;
         }
@@ -354,39 +352,28 @@ impl Copied {
     /// The line of a chunk. Standard error says in full what is the matter,
     /// once for each minishard.
     fn tell(self, shard: &Path, report: &mut Report) -> Result<(), Fault> {
-        if report.json() {
-            if let End::NotWritten(fault @ Fault::Use { .. }) = &self.end {
-                report.complain(fault)?;
-            }
-            return report.object(self.object(shard));
-        }
-        let name = self.out.file_name().unwrap_or_default();
-        let name = shown(Path::new(name));
-        let (key, cell) = (self.key, cell_text(self.cell));
-        let end = self.end.text();
-        report.line(format_args!("{key} {cell} {name} {end}"))?;
-        match self.end {
-            End::Refused(refused, true) => report.complain(&Refused::clone(&refused).into()),
-            End::NotWritten(fault) => report.complain(&fault),
-            _ => Ok(()),
-        }
-    }
-
-    fn object(&self, shard: &Path) -> Object {
+        let (json, text) = (report.json(), self.end.text());
         let object = Object::new()
             .number("key", self.key)
             .numbers("cell", [self.cell.x, self.cell.y, self.cell.z])
             .path(shard)
             .named_path("out", &self.out);
+        if !json {
+            let name = self.out.file_name().unwrap_or_default();
+            let (key, name) = (self.key, shown(Path::new(name)));
+            report.line(format_args!("{key} {} {name} {text}", cell_text(self.cell)))?;
+        }
         match &self.end {
-            End::Refused(refused, _) => refusal_members(object, refused),
-            End::Placed(_, bytes) => object
-                .text("result", &self.end.text())
-                .number("bytes", *bytes),
-            End::NotWritten(fault) => object
-                .text("result", "error")
-                .text("error", &fault.to_string()),
-            end => object.text("result", &end.text()),
+            End::Refused(_, fault, first) if json || *first => {
+                report.tell(object, fault, Where::Aside)
+            }
+            End::NotWritten(fault) => report.tell(object, fault, Where::Aside),
+            _ if !json => Ok(()),
+            End::Placed(_, bytes) => {
+                let object = object.text("result", &text);
+                report.object(object.number("bytes", *bytes))
+            }
+            _ => report.object(object.text("result", &text)),
         }
     }
 }
@@ -399,7 +386,7 @@ impl End {
             End::Placed(Placed::OtherBytes, _) => "exists with other bytes".into(),
             End::Absent => "absent".into(),
             End::NoShard => "no shard".into(),
-            End::Refused(refused, _) => format!("refused {}", refused.refusal.number),
+            End::Refused(number, ..) => format!("refused {number}"),
             End::NotRead(_) => "not read".into(),
             End::NotWritten(_) => "not written".into(),
         }

@@ -4,22 +4,23 @@ use std::path::Path;
 
 use coronagamba::{Bounds, Cell, Labels, Point, Refusal, Volume};
 
-use crate::args::{flag, triple, value, Args, Opt, I64};
+use crate::args::{triple, Args, I64};
 use crate::diagnosis;
-use crate::fault::{Fault, Refused, Status};
+use crate::fault::{Explain, Fault, Status};
 use crate::json::Object;
-use crate::labels::{self, Layout, CHANNEL};
-use crate::report::{complaint, shown, Report};
+use crate::labels::{self, Layout};
+use crate::options::{Opt, CHANNEL, FORCE, JSON, LABEL, OUT, VOXEL};
+use crate::report::{complaint, Report};
+use crate::text::shown;
 
 /// The options of a voxel's label.
-pub const OPTIONS: &[Opt] = &[flag(LABEL), value(CHANNEL), flag("--json")];
-
-pub const VOXEL: &str = "--voxel";
-pub const LABEL: &str = "--label";
+pub const OPTIONS: &[Opt] = &[LABEL, CHANNEL, JSON];
 
 /// The voxel that is asked for.
 pub fn asked(args: &Args) -> Result<Option<Point>, Fault> {
-    let voxel = args.value(VOXEL).map(|word| triple(word, VOXEL, I64));
+    let voxel = args
+        .value(VOXEL)
+        .map(|word| triple(word, VOXEL.name(), I64));
     Ok(voxel.transpose()?.map(Point::from))
 }
 
@@ -28,21 +29,23 @@ pub fn asked(args: &Args) -> Result<Option<Point>, Fault> {
 pub fn sort_out(args: &Args) -> Result<(), Fault> {
     if args.flag(LABEL) {
         if !args.flag(VOXEL) {
-            return Err(Fault::wrong_use("--label is given without --voxel X,Y,Z"));
+            return Err(Fault::wrong_use(format!(
+                "{LABEL} is given without {}",
+                VOXEL.usage
+            )));
         }
-        return match ["--out", "--force"].iter().find(|name| args.flag(name)) {
+        return match [OUT, FORCE].iter().find(|option| args.flag(**option)) {
             None => Ok(()),
-            Some(name) => Err(Fault::wrong_use(format!(
-                "--label and {name} exclude each other: a label is printed"
+            Some(option) => Err(Fault::wrong_use(format!(
+                "{LABEL} and {option} exclude each other: a label is printed"
             ))),
         };
     }
     let mut options = labels::OPTIONS.iter().chain(OPTIONS);
-    match options.find(|option| args.flag(option.name)) {
+    match options.find(|option| args.flag(**option)) {
         None => Ok(()),
         Some(option) => Err(Fault::wrong_use(format!(
-            "{}: is for labels, and {LABEL} is missing",
-            option.name
+            "{option}: is for labels, and {LABEL} is missing"
         ))),
     }
 }
@@ -125,11 +128,10 @@ impl Found {
         let shape = layout.over(size)?;
         let [x, y, z] = within;
         let label = Labels::open(shape, chunk).label(x, y, z, channel);
-        let label = label.map_err(|refusal| {
-            let diagnosis = diagnosis::of_label(chunk, &shape, within, channel, refusal);
-            let subject = format!("voxel {} in {}", commas(voxel), shown(path));
-            Refused::asked(subject, refusal, diagnosis)
-        })?;
+        let label = label.explain(
+            format_args!("voxel {} in {}", commas(voxel), shown(path)),
+            |refusal| diagnosis::of_label(chunk, &shape, within, channel, refusal),
+        )?;
         if !report.json() {
             return report.line(label);
         }

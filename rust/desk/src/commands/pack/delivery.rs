@@ -9,10 +9,12 @@ use std::time::SystemTime;
 use coronagamba::intake::{Announced, CHUNK_BYTES, MINISHARD_BYTES, WAITING_BYTES};
 use coronagamba::{Intake, Refusal, Sharding, Volume};
 
+use crate::buffers::front;
+use crate::edition::both_changes;
 use crate::fault::Fault;
 use crate::folder::no_file;
-use crate::memory::{front, Lengths, Room};
-use crate::report::shown;
+use crate::memory::{Lengths, Room};
+use crate::text::shown;
 
 /// Bytes of a chunk file that are read at a time.
 const PIECE: u64 = 1 << 16;
@@ -93,6 +95,15 @@ pub struct Job<'a> {
 }
 
 impl Job<'_> {
+    /// Its file and its weight, by which it is dealt to a part, and a number for its ids.
+    /// The chunk files are not looked at for it: their number is known, and each of them
+    /// is opened.
+    pub fn weight(&self) -> (&Path, u64, u64) {
+        let ids = self.chunks.iter().map(|chunk| chunk.id);
+        let weight = (self.chunks.len() as u64) << 16;
+        (&self.out, weight, ids.fold(0, both_changes))
+    }
+
     /// The settled form of all chunks, in the room's memory. `refused` explains a
     /// refusal of a chunk, or of the shard, where the form would have so many bytes.
     pub fn form<'r>(

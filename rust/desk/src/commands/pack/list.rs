@@ -9,16 +9,19 @@ use std::path::Path;
 
 use coronagamba::{Refusal, Sharding};
 
-use super::delivery::Line;
-use super::{Chunk, Job, Sources, Task};
+use super::delivery::{Chunk, Job, Line, Sources};
+use super::task::Task;
 use crate::args::{number, Args};
 use crate::diagnosis;
-use crate::fault::{Fault, Refused};
+use crate::fault::{Explain, Fault};
 use crate::files::Inputs;
-use crate::naming::{cell_of_chunk, no_chunk, shard_number, unnumbered, Ending};
+use crate::fragments::is_mesh;
+use crate::naming::{cell_of_chunk, no_chunk, no_shard, shard_number, Ending};
+use crate::options::{FORCE, SHARD};
 use crate::output;
-use crate::report::{complaint, shown, Report};
+use crate::report::{complaint, Report};
 use crate::settings::{self, Settings};
+use crate::text::shown;
 
 /// Packs the chunks of a list; where none is named, it is standard input.
 pub fn pack(
@@ -46,7 +49,7 @@ pub fn pack(
     let task = Task {
         sharding: settings.sharding,
         sources: Sources::Listed(&lines.chunks),
-        force: args.flag("--force"),
+        force: args.flag(FORCE),
         inputs: Inputs::of(listed.chain(source).chain(settings::files(args))),
     };
     output::remove_stale_parts_of(out, &task.inputs);
@@ -61,19 +64,19 @@ pub fn pack(
 /// The number of the shard that is packed: what `--shard` says, else what the
 /// output's name says, which is one file.
 fn number_of(args: &Args, sharding: &Sharding, out: &Path) -> Result<u64, Fault> {
-    if let Some(number) = args.number("--shard")? {
+    if let Some(number) = args.number(SHARD)? {
         return Ok(number);
     }
     let name = out.file_name().unwrap_or_default();
     let whole = matches!(Ending::of(name), Some((_, Ending::Shard)));
     let number = shard_number(sharding, name).filter(|_| whole);
-    number.ok_or_else(|| unnumbered(sharding, out))
+    number.ok_or_else(|| no_shard(sharding, out, true))
 }
 
 /// A mesh's chunks are manifests with fragments before them, which are not
 /// delivered one by one.
 fn no_mesh(sharding: &Sharding) -> Result<(), Fault> {
-    match settings::is_mesh(sharding) {
+    match is_mesh(sharding) {
         false => Ok(()),
         true => Err(Fault::wrong_use(
             "these are the settings of a mesh, and chunk files are packed into the shards of a volume",
@@ -90,10 +93,7 @@ fn chunks(
 ) -> Result<Vec<Chunk>, Fault> {
     let chunk = |id: &u64| Chunk::of(sharding, *id);
     let chunks: Result<Vec<Chunk>, Refusal> = lines.keys().map(chunk).collect();
-    let mut chunks = chunks.map_err(|refusal| {
-        let diagnosis = diagnosis::of_sharding(sharding);
-        Refused::asked("settings", refusal, diagnosis)
-    })?;
+    let mut chunks = chunks.explain("settings", |_| diagnosis::of_sharding(sharding))?;
     chunks.sort_unstable_by_key(|chunk| (chunk.shard == number, *chunk));
     Ok(chunks)
 }

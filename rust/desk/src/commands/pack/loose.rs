@@ -6,16 +6,21 @@ use std::path::{Path, PathBuf};
 
 use coronagamba::{Cell, Extents, Sharding, Volume};
 
-use super::{out_of, Chunk, Found, Job, Sources, Task};
+use super::delivery::{Chunk, Job, Sources};
+use super::task::{out_of, Found, Task};
 use crate::args::Args;
 use crate::fault::{Fault, Status};
 use crate::files::{one_place, Inputs};
+use crate::gather::no_shard_option;
 use crate::json::Object;
 use crate::naming::{cell_of_chunk, is_like_chunk, no_chunk, shard_number};
+use crate::options::FORCE;
 use crate::output;
-use crate::report::{complaint, shown, Report};
-use crate::round::{self, passed_over};
-use crate::settings;
+use crate::parts;
+use crate::record::Place;
+use crate::report::Report;
+use crate::settings::{self, Settings};
+use crate::text::{passed_over, shown};
 
 /// Packs a folder.
 pub fn pack(
@@ -25,8 +30,25 @@ pub fn pack(
     out: &Path,
     report: &mut Report,
 ) -> Result<(), Fault> {
-    round::no_shard_option(args, folder)?;
+    no_shard_option(args, folder)?;
     let (sharding, volume) = settings::of_cells(args)?;
+    let settings = Settings {
+        sharding,
+        volume: Some(volume),
+    };
+    parts::run(args, "pack", &settings, report, |report| {
+        pack_all(args, workers, (sharding, volume), folder, out, report)
+    })
+}
+
+fn pack_all(
+    args: &Args,
+    workers: usize,
+    (sharding, volume): (Sharding, Volume),
+    folder: &Path,
+    out: &Path,
+    report: &mut Report,
+) -> Result<(), Fault> {
     if one_place(folder, out) {
         return Err(Fault::wrong_use(format!(
             "{}: is the folder of the chunk files itself; shards are packed into another",
@@ -35,25 +57,30 @@ pub fn pack(
     }
     let files = Files::of(folder, &sharding, &volume)?;
     if !files.misnamed.is_empty() {
-        return tell_misnamed(folder, &volume, &files.misnamed, report);
+        return report.told(Place::Before, |report| {
+            tell_misnamed(folder, &volume, &files.misnamed, report)
+        });
     }
     if files.chunks.is_empty() {
-        return tell_no_chunks(folder, &volume, files.others, report);
+        return report.told(Place::Before, |report| {
+            tell_no_chunks(folder, &volume, files.others, report)
+        });
     }
     output::make_folder(out, "a folder is packed into a folder")?;
     let links = files.links.iter().map(PathBuf::as_path);
     let task = Task {
         sharding,
         sources: Sources::Named(folder, volume),
-        force: args.flag("--force"),
+        force: args.flag(FORCE),
         inputs: Inputs::of(links.chain(settings::files(args))),
     };
     let is_shard = |name: &_| shard_number(&sharding, name).is_some();
     output::remove_stale_parts(out, &task.inputs, is_shard);
     let shards = files.chunks.chunk_by(|one, next| one.shard == next.shard);
     let job = |chunks| job(&sharding, out, chunks);
-    let summary = task.round(workers, shards.map(job).collect::<Result<_, _>>()?, report)?;
-    summary.print(&files.found(&volume), report)
+    let mut summary = task.round(workers, shards.map(job).collect::<Result<_, _>>()?, report)?;
+    summary.found = files.found(&volume);
+    report.sum_up(&mut summary)
 }
 
 /// The shard of some chunks, which belong to one.
@@ -162,7 +189,7 @@ fn tell_misnamed(
         more => format!("{more} more, "),
     };
     report.flush()?;
-    complaint(format_args!(
+    report.remark(format_args!(
         "{}: {more}nothing is packed; look at the settings, or move these files away",
         shown(folder)
     ));
@@ -186,5 +213,5 @@ fn tell_no_chunks(
         "{}: no chunks, no file has the name of one, as {example} is",
         shown(folder)
     );
-    report.line(text + &passed_over(others))
+    report.line(text + &passed_over(others, "other file"))
 }
