@@ -12,6 +12,11 @@ use Rattle.listing.specs.declared.CountAnswer.the-variants as N
 use Rattle.unlisted.specs.declared.UnlistedAnswer.{UnlistedAnswer}
 use Rattle.unlisted.specs.declared.UnlistedAnswer.the-variants as U
 use Rattle.settle.specs.declared.SettleAnswer.{SettleAnswer}
+use Rattle.settle.specs.Answers.{lengthAnswer, settleAnswer, settleLeft}
+use Rattle.pairform.specs.Answers.{pairLength, pairSettle, pairSettleLeft}
+use Rattle.sharding.specs.declared.Sharding.{Sharding}
+use mathlib.Core.Bool.{Bool}
+use mathlib.Core.List.{List}
 use Rattle.settle.specs.declared.SettleAnswer.the-variants as S
 use Rattle.word.specs.Word.{word}
 use Rattle.coronagamba.specs.Shards.{checkWord, lookupWord, startAfter, sizeAfter, countWord, countAfter, settleWord, formAfter, unlistedWord, unlistedAfter}
@@ -112,12 +117,33 @@ module _ {a b : UnlistedAnswer} (e : b ≡ a) where
   pub bytes-faulty : (x : ℕ) {k p : ℕ} → b ≡ U.Faulty k p → x ≡ unlistedAfter a x
   bytes-faulty x h = after unlistedAfter x e h
 
+-- what is answered and left under the wish that the caller's number stands for
+module _ (s : Sharding) (n : ℕ) (f : List ℕ) (w v : Bool) (h : w ≡ v) where
+  pub wished-length : {b : SettleAnswer} → b ≡ lengthAnswer s n f w → b ≡ lengthAnswer s n f v
+  wished-length e = cc
+
+  pub wished-answer : (out : List ℕ) {b : SettleAnswer} → b ≡ settleAnswer s n f w out → b ≡ settleAnswer s n f v out
+  wished-answer out e = cc
+
+  pub wished-left : (out : List ℕ) {b : List ℕ} → b ≡ settleLeft s n f w out → b ≡ settleLeft s n f v out
+  wished-left out e = cc
+
+module _ (s : Sharding) (n : ℕ) (index body : List ℕ) (w v : Bool) (h : w ≡ v) where
+  pub wished-pair-length : {b : SettleAnswer} → b ≡ pairLength s n index body w → b ≡ pairLength s n index body v
+  wished-pair-length e = cc
+
+  pub wished-pair : (out : List ℕ) {b : SettleAnswer} → b ≡ pairSettle s n index body w out → b ≡ pairSettle s n index body v out
+  wished-pair out e = cc
+
+  pub wished-pair-left : (out : List ℕ) {b : List ℕ} → b ≡ pairSettleLeft s n index body w out → b ≡ pairSettleLeft s n index body v out
+  wished-pair-left out e = cc
+
 pub ruleset checking = (word-sound, word-unchecked, word-fault, needs)
 
 pub ruleset looking = (lookup-given, lookup-refused, lookup-faulty, start-given, start-refused, start-faulty, size-given, size-refused, size-faulty, needs)
 
 pub ruleset counting = (count-given, count-refused, count-faulty, counted-given, counted-refused, counted-faulty, needs)
 
-pub ruleset settling = (settle-given, settle-refused, settle-faulty, form-given, form-refused, form-faulty, needs)
+pub ruleset settling = (settle-given, settle-refused, settle-faulty, form-given, form-refused, form-faulty, wished-length, wished-answer, wished-left, wished-pair-length, wished-pair, wished-pair-left, needs)
 
 pub ruleset unlisting = (unlisted-given, unlisted-refused, unlisted-faulty, bytes-given, bytes-refused, bytes-faulty, needs)

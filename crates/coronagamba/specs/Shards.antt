@@ -1,8 +1,6 @@
 -- Shards across the C border: the answer words, and what the lent numbers hold afterwards.
 use Prim.Native.Nat.{ℕ}
-use mathlib.Core.Bool.{Bool}
 use mathlib.Core.Option.{none, some}
-use lib.Dec.{eqb}
 use Rattle.shard.specs.declared.CheckAnswer.{CheckAnswer}
 use Rattle.shard.specs.declared.CheckAnswer.the-variants.{Sound, Faulty, Refused as CheckRefused}
 use Rattle.lookup.specs.declared.LookupAnswer.{LookupAnswer}
@@ -55,10 +53,6 @@ abbrev pub formAfter : SettleAnswer → ℕ → ℕ
 formAfter (Length n) before = n
 formAfter (NotSettled k) before = before
 formAfter (FaultSettled k p) before = before
-
--- the wish of the caller of settling: 1 asks to drop unlisted bytes, and no other number does (RULES U5)
-abbrev pub asksToDrop : ℕ → Bool
-asksToDrop wish = eqb wish 1
 
 abbrev pub unlistedWord : UnlistedAnswer → ℕ
 unlistedWord (Unlisted n) = 0

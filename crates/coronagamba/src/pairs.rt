@@ -5,8 +5,8 @@ ghost use Rattle.pair.specs.Answers.{pairCheck, pairLookup, pairFragment};
 ghost use Rattle.pairform.specs.Answers.{pairCount, pairListing, pairListingLeft, pairUnlisted, pairLength, pairSettle, pairSettleLeft};
 ghost use Rattle.names.specs.Shards.{fileNameAnswer, fileNameLeft};
 ghost use Rattle.names.specs.declared.FileKind.the-variants.{Index, Data};
-ghost use Rattle.word.specs.Word.{writtenWord, lengthAfter};
-ghost use Rattle.coronagamba.specs.Shards.{checkWord, lookupWord, startAfter, sizeAfter, countWord, countAfter, settleWord, formAfter, asksToDrop, unlistedWord, unlistedAfter};
+ghost use Rattle.word.specs.Word.{writtenWord, lengthAfter, asksToDrop};
+ghost use Rattle.coronagamba.specs.Shards.{checkWord, lookupWord, startAfter, sizeAfter, countWord, countAfter, settleWord, formAfter, unlistedWord, unlistedAfter};
 ghost use Rattle.coronagamba.specs.Pairs.{rangeWord, fileAfter, placeAfter, rangeAfter};
 use listing::CountAnswer;
 use lookup::LookupAnswer;
@@ -16,6 +16,7 @@ use settle::SettleAnswer;
 use shard::CheckAnswer;
 use sharding::Sharding;
 use unlisted::UnlistedAnswer;
+use word::inner::asks_to_drop;
 use word::inner::fault_word;
 use word::inner::position_word;
 
@@ -223,7 +224,7 @@ pub extern "C" fn coronagamba_pair_settled_length(
     ensures answer { λ r. ⌜ r ≡ settleWord (pairLength sharding shard (now (index .entry)) (now («data» .entry)) (asksToDrop «drop_unlisted»)) ⌝ }
     ensures length { λ _. ⌜ now (length .exit) ≡ formAfter (pairLength sharding shard (now (index .entry)) (now («data» .entry)) (asksToDrop «drop_unlisted»)) (now (length .entry)) ⌝ }
 {
-    match pairform::settled_length(sharding, shard, index, data, drop_unlisted == 1) {
+    match pairform::settled_length(sharding, shard, index, data, asks_to_drop(drop_unlisted)) {
         SettleAnswer::Length(n) => {
             *length = n as u64;
             0
@@ -257,7 +258,14 @@ pub extern "C" fn coronagamba_pair_settle(
     ensures out { λ _. ⌜ now (out .exit) ≡ pairSettleLeft sharding shard (now (index .entry)) (now («data» .entry)) (asksToDrop «drop_unlisted») (now (out .entry)) ⌝ }
     ensures length { λ _. ⌜ now (length .exit) ≡ formAfter (pairSettle sharding shard (now (index .entry)) (now («data» .entry)) (asksToDrop «drop_unlisted») (now (out .entry))) (now (length .entry)) ⌝ }
 {
-    match pairform::settle(sharding, shard, index, data, drop_unlisted == 1, out) {
+    match pairform::settle(
+        sharding,
+        shard,
+        index,
+        data,
+        asks_to_drop(drop_unlisted),
+        out,
+    ) {
         SettleAnswer::Length(n) => {
             *length = n as u64;
             0

@@ -6,13 +6,15 @@ ghost use Rattle.fragment.specs.Fragment.{fragmentAnswer};
 ghost use Rattle.listing.specs.Listing.{countAnswer, listingAnswer, listingLeft};
 ghost use Rattle.unlisted.specs.Answers.{unlistedAnswer};
 ghost use Rattle.settle.specs.Answers.{lengthAnswer, settleAnswer, settleLeft};
-ghost use Rattle.coronagamba.specs.Shards.{checkWord, lookupWord, startAfter, sizeAfter, countWord, countAfter, settleWord, formAfter, asksToDrop, unlistedWord, unlistedAfter};
+ghost use Rattle.word.specs.Word.{asksToDrop};
+ghost use Rattle.coronagamba.specs.Shards.{checkWord, lookupWord, startAfter, sizeAfter, countWord, countAfter, settleWord, formAfter, unlistedWord, unlistedAfter};
 use listing::CountAnswer;
 use lookup::LookupAnswer;
 use settle::SettleAnswer;
 use shard::CheckAnswer;
 use sharding::Sharding;
 use unlisted::UnlistedAnswer;
+use word::inner::asks_to_drop;
 use word::inner::fault_word;
 use word::inner::position_word;
 
@@ -209,7 +211,7 @@ pub extern "C" fn coronagamba_settled_length(
     ensures answer { λ r. ⌜ r ≡ settleWord (lengthAnswer sharding shard (now (file .entry)) (asksToDrop «drop_unlisted»)) ⌝ }
     ensures length { λ _. ⌜ now (length .exit) ≡ formAfter (lengthAnswer sharding shard (now (file .entry)) (asksToDrop «drop_unlisted»)) (now (length .entry)) ⌝ }
 {
-    match settle::settled_length(sharding, shard, file, drop_unlisted == 1) {
+    match settle::settled_length(sharding, shard, file, asks_to_drop(drop_unlisted)) {
         SettleAnswer::Length(n) => {
             *length = n as u64;
             0
@@ -242,7 +244,7 @@ pub extern "C" fn coronagamba_settle(
     ensures out { λ _. ⌜ now (out .exit) ≡ settleLeft sharding shard (now (file .entry)) (asksToDrop «drop_unlisted») (now (out .entry)) ⌝ }
     ensures length { λ _. ⌜ now (length .exit) ≡ formAfter (settleAnswer sharding shard (now (file .entry)) (asksToDrop «drop_unlisted») (now (out .entry))) (now (length .entry)) ⌝ }
 {
-    match settle::settle(sharding, shard, file, drop_unlisted == 1, out) {
+    match settle::settle(sharding, shard, file, asks_to_drop(drop_unlisted), out) {
         SettleAnswer::Length(n) => {
             *length = n as u64;
             0

@@ -1,5 +1,7 @@
--- The answer word of the C interface: 0 for success, else the refusal's number, with the minishard and the byte position where the rules give them.
+-- Numbers of the C interface. The answer word: 0 for success, else the refusal's number, with the minishard and the byte position where the rules give them. The wish to drop unlisted bytes.
 use Prim.Native.Nat.{ℕ, _+_, _*_, _^_}
+use mathlib.Core.Bool.{Bool}
+use lib.Dec.{eqb}
 use mathlib.Core.Option.{Option, none, some}
 use Rattle.refusal.specs.declared.Written.{Written}
 use Rattle.refusal.specs.declared.Written.the-variants.{Length, Refused}
@@ -22,3 +24,7 @@ writtenWord (Refused k) = k
 abbrev pub lengthAfter : Written → ℕ → ℕ
 lengthAfter (Length n) before = n
 lengthAfter (Refused k) before = before
+
+-- the wish of the caller of settling: 1 asks to drop unlisted bytes, and no other number does (RULES U5)
+abbrev pub asksToDrop : ℕ → Bool
+asksToDrop wish = eqb wish 1

@@ -1,8 +1,8 @@
-// The answer word of the C interface, of a refusal that comes with a place.
+// Numbers of the C interface: the answer word of a refusal that comes with a place, and the wish to drop unlisted bytes.
 ghost use mathlib.Core.Path.{_≡_};
 ghost use Prim.Native.Nat.{_+_, _<_};
 ghost use mathlib.Core.Option.{none, some};
-ghost use Rattle.word.specs.Word.{word};
+ghost use Rattle.word.specs.Word.{word, asksToDrop};
 
 // The word has 32 bits for the position and one.
 pub fn position_word(refusal: u8, position: u64) -> u64
@@ -18,4 +18,11 @@ pub fn fault_word(refusal: u8, minishard: u64, position: u64) -> u64
     ensures { λ r. ⌜ r ≡ word refusal (some minishard) (some position) ⌝ }
 {
     refusal as u64 + 256 * (minishard + 1) + 4294967296 * (position + 1)
+}
+
+// Whether the caller of settling asks to drop unlisted bytes.
+pub fn asks_to_drop(wish: u8) -> bool
+    ensures { λ r. ⌜ r ≡ asksToDrop wish ⌝ }
+{
+    wish == 1
 }

@@ -1,2 +1,2 @@
-// The answer word of the C interface.
+// Numbers of the C interface: the answer word, the wish to drop unlisted bytes.
 pub mod inner;

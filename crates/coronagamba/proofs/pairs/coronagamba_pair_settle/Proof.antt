@@ -5,4 +5,4 @@ use Rattle.coronagamba.proofs.pairs.coronagamba_pair_settle.Statement.{
 use Rattle.coronagamba.proofs.pairs.coronagamba_pair_settle.Tie as tie
 
 pub coronagamba-pair-settle-spec : {M : Type 1} → statement M
-coronagamba-pair-settle-spec = tie.close (tie.spec (λ c κs. search needs) (λ c. search needs) (λ c. search needs) (λ c. search needs) (λ c. search needs) (λ c κs. search fitting) (λ c. search needs) (λ c. (search settling, (search settling, search settling))) (λ c. search needs) (λ c. (search settling, (search settling, search settling))) (λ c. search needs) (λ c. (search settling, (search settling, search settling))))
+coronagamba-pair-settle-spec = tie.close (tie.spec (λ c κs. search needs) (λ c κs. search needs) (λ c. search needs) (λ c. search needs) (λ c. search needs) (λ c. search needs) (λ c κs. search fitting) (λ c. search needs) (λ c. (search settling, (search settling, search settling))) (λ c. search needs) (λ c. (search settling, (search settling, search settling))) (λ c. search needs) (λ c. (search settling, (search settling, search settling))))

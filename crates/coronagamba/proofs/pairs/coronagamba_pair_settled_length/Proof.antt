@@ -5,4 +5,4 @@ use Rattle.coronagamba.proofs.pairs.coronagamba_pair_settled_length.Sta
 use Rattle.coronagamba.proofs.pairs.coronagamba_pair_settled_length.Tie as tie
 
 pub coronagamba-pair-settled-length-spec : {M : Type 1} → statement M
-coronagamba-pair-settled-length-spec = tie.close (tie.spec (λ c κs. search needs) (λ c. search needs) (λ c. search needs) (λ c. search needs) (λ c. search needs) (λ c κs. search fitting) (λ c. (search settling, search settling)) (λ c. (search settling, search settling)) (λ c. (search settling, search settling)))
+coronagamba-pair-settled-length-spec = tie.close (tie.spec (λ c κs. search needs) (λ c κs. search needs) (λ c. search needs) (λ c. search needs) (λ c. search needs) (λ c. search needs) (λ c κs. search fitting) (λ c. (search settling, search settling)) (λ c. (search settling, search settling)) (λ c. (search settling, search settling)))

@@ -5,4 +5,4 @@ use Rattle.coronagamba.proofs.shards.coronagamba_settle.Statement.{stat
 use Rattle.coronagamba.proofs.shards.coronagamba_settle.Tie as tie
 
 pub coronagamba-settle-spec : {M : Type 1} → statement M
-coronagamba-settle-spec = tie.close (tie.spec (λ c κs. search needs) (λ c. search needs) (λ c. search needs) (λ c. search needs) (λ c. search needs) (λ c κs. search fitting) (λ c. search needs) (λ c. (search settling, (search settling, search settling))) (λ c. search needs) (λ c. (search settling, (search settling, search settling))) (λ c. search needs) (λ c. (search settling, (search settling, search settling))))
+coronagamba-settle-spec = tie.close (tie.spec (λ c κs. search needs) (λ c κs. search needs) (λ c. search needs) (λ c. search needs) (λ c. search needs) (λ c. search needs) (λ c κs. search fitting) (λ c. search needs) (λ c. (search settling, (search settling, search settling))) (λ c. search needs) (λ c. (search settling, (search settling, search settling))) (λ c. search needs) (λ c. (search settling, (search settling, search settling))))

@@ -5,4 +5,4 @@ use Rattle.coronagamba.proofs.shards.coronagamba_settled_length.Stateme
 use Rattle.coronagamba.proofs.shards.coronagamba_settled_length.Tie as tie
 
 pub coronagamba-settled-length-spec : {M : Type 1} → statement M
-coronagamba-settled-length-spec = tie.close (tie.spec (λ c κs. search needs) (λ c. search needs) (λ c. search needs) (λ c. search needs) (λ c. search needs) (λ c κs. search fitting) (λ c. (search settling, search settling)) (λ c. (search settling, search settling)) (λ c. (search settling, search settling)))
+coronagamba-settled-length-spec = tie.close (tie.spec (λ c κs. search needs) (λ c κs. search needs) (λ c. search needs) (λ c. search needs) (λ c. search needs) (λ c. search needs) (λ c κs. search fitting) (λ c. (search settling, search settling)) (λ c. (search settling, search settling)) (λ c. (search settling, search settling)))
