@@ -1,0 +1,2 @@
+-- Laws of the judge.
+mod Room
