@@ -55,7 +55,7 @@ pub extern "C" fn coronagamba_label(
     if no_width(bits) {
         return 2;
     }
-    match segmentation::label_of(
+    match voxellabel::label_of(
         chunk,
         shape_of(size, block, channels, bits),
         x,

@@ -12,7 +12,7 @@ use Rattle.grid.specs.declared.Extents.{Extents}
 use Rattle.segmentation.specs.declared.Shape.{Shape}
 use Rattle.segmentation.specs.Layout.{noVoxels, across, down, deep}
 use Rattle.packed.specs.Checks.{span, insideOf, blockCount}
-use Rattle.segmentation.proofs.Asked.{some-voxels}
+use Rattle.segmentation.proofs.Shapes.{some-voxels}
 
 -- ---- the code's numbers
 

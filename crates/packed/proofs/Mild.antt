@@ -18,7 +18,7 @@ use Rattle.segmentation.specs.Steps.{entryAnswer, valueAnswer}
 use Rattle.packed.specs.Voxels.{refusalIn}
 use Rattle.packed.specs.Checks.{greatest, blockCount, insideOf, placeRefusal, rowRefusal, layerRefusal, voxelsRefusal, blockRefusal, channelRefusal, blocksRefusal}
 use Rattle.seen.specs.Seen.{Seen, Sees, Blank}
-use Rattle.segmentation.proofs.Asked.{no-bits}
+use Rattle.values.proofs.Entries.{no-bits}
 use Rattle.packed.proofs.Inside.{inside-x, inside-y, inside-z}
 use Rattle.packed.proofs.Greatest.{le-greatest, greatest-at, greatest-flat, greatest-is, greatest-all, greatest-none, greatest-still}
 

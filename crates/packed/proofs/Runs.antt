@@ -17,8 +17,8 @@ use Rattle.segmentation.specs.Labels.{labelWords, valueIn}
 use Rattle.segmentation.specs.Steps.{entryAnswer, valueAnswer}
 use Rattle.packed.specs.Voxels.{refusalIn}
 use Rattle.packed.specs.Checks.{greatest, Packed, wholeEntries, runRefusal}
-use Rattle.segmentation.proofs.Asked.{whole-yes, whole-no}
-use Rattle.segmentation.proofs.Packed.{Width, widths, regroup}
+use Rattle.segmentation.proofs.Shapes.{whole-yes, whole-no}
+use Rattle.values.proofs.Packed.{Width, widths, regroup}
 use Rattle.packed.proofs.Greatest.{within-or-past, greatest-still}
 use Rattle.packed.proofs.Mild.{value-mild, mild-hit}
 

@@ -15,8 +15,8 @@ use Rattle.segmentation.specs.Steps.{valueAnswer}
 use Rattle.segmentation.specs.Labels.{labelWords, valueIn}
 use Rattle.packed.specs.Voxels.{refusalIn}
 use Rattle.packed.specs.Checks.{greatest, Packed, Reached, wholeEntries, runRefusal, placeRefusal, rowRefusal, layerRefusal, voxelsRefusal}
-use Rattle.segmentation.proofs.Asked.{whole-yes, whole-no}
-use Rattle.segmentation.proofs.Packed.{widths, bits-word}
+use Rattle.segmentation.proofs.Shapes.{whole-yes, whole-no}
+use Rattle.values.proofs.Packed.{widths, bits-word}
 use Rattle.packed.proofs.Greatest.{greatest-le}
 use Rattle.packed.proofs.Mild.{row-hit, layer-hit, voxels-hit}
 use Rattle.packed.proofs.Runs.{label-some, entry-within}

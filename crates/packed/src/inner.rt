@@ -8,14 +8,14 @@ ghost use Rattle.segmentation.specs.Layout.{tableIn, widthIn};
 ghost use Rattle.segmentation.specs.Labels.{labelWords};
 ghost use Rattle.packed.specs.Checks.{Header, Packed, Reached, wholeEntries, runRefusal, rowRefusal, layerRefusal, voxelsRefusal, greatest};
 use grid::Extents;
-use segmentation::inner::Far;
-use segmentation::inner::bits;
-use segmentation::inner::is_below;
-use segmentation::inner::linear;
-use segmentation::inner::packed_word;
-use segmentation::inner::two_to;
-use segmentation::inner::word_at;
-use segmentation::inner::words;
+use values::inner::Far;
+use values::inner::bits;
+use values::inner::is_below;
+use values::inner::linear;
+use values::inner::packed_word;
+use values::inner::two_to;
+use values::inner::word_at;
+use values::inner::words;
 
 // How many entries of the table at word t are whole.
 fn whole_entries(chunk: &[u8], wide: bool, t: u64) -> u64

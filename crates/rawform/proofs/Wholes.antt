@@ -17,7 +17,7 @@ use Rattle.segmentation.specs.Labels.{labelWords}
 use Rattle.rawform.specs.Raw.{labelBytes, rawVoxel, rawRow, rawLayer, rawChannel, rawForm}
 use Rattle.packed.specs.Voxels.{AllReadable}
 use Rattle.rawform.specs.Writing.{Row, Layer, Channel, rowBytes, layerBytes, channelBytes, allBytes}
-use Rattle.segmentation.proofs.Asked.{some-voxels}
+use Rattle.segmentation.proofs.Shapes.{some-voxels}
 use Rattle.packed.proofs.Greatest.{within-or-past}
 use Rattle.rawform.proofs.Filled.{Filled, filled-end, length-joined}
 

@@ -7,7 +7,7 @@ ghost use Rattle.segmentation.specs.Layout.{noVoxels};
 ghost use Rattle.segmentation.specs.Labels.{labelWords};
 ghost use Rattle.rawform.specs.Writing.{allBytes};
 use segmentation::Shape;
-use segmentation::inner::linear;
+use values::inner::linear;
 
 fn label_bytes(wide: bool) -> u64
     ensures { λ r. ⌜ (r ≡ 4 * labelWords wide) × (0 < r) ⌝ }

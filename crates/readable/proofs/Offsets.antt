@@ -15,7 +15,7 @@ use Rattle.segmentation.specs.Words.{word}
 use Rattle.segmentation.specs.Layout.{across, down, deep, widthIn, isWidth}
 use Rattle.packed.specs.Checks.{greatest, blockCount, headerRefusal, channelHeaders, headersRefusal}
 use Rattle.seen.specs.Seen.{Seen, Sees, Blank}
-use Rattle.segmentation.proofs.Asked.{whole-yes, whole-no}
+use Rattle.segmentation.proofs.Shapes.{whole-yes, whole-no}
 use Rattle.packed.proofs.Greatest.{within-or-past, greatest-step, le-greatest, greatest-le, greatest-is, greatest-same, greatest-at}
 
 -- ---- how many blocks there are

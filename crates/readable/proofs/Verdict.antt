@@ -18,7 +18,7 @@ use Rattle.segmentation.specs.Steps.{valueAnswer, blockAnswer, channelAnswer, v
 use Rattle.packed.specs.Voxels.{refusalIn, Within, someRefused, chunkRefusal, AllReadable}
 use Rattle.packed.specs.Checks.{greatest, insideOf, blockCount, headerRefusal, channelHeaders, headersRefusal, placeRefusal, voxelsRefusal, blockRefusal, blocksRefusal}
 use Rattle.segmentation.proofs.Stepwise.{stepwise}
-use Rattle.segmentation.proofs.Asked.{some-voxels, whole-yes, whole-no}
+use Rattle.segmentation.proofs.Shapes.{some-voxels, whole-yes, whole-no}
 use Rattle.packed.proofs.Greatest.{within-or-past, le-greatest, greatest-le, greatest-at}
 use Rattle.readable.proofs.Offsets.{header-good-whole, header-good-width, channel-past, channel-within, channel-most, channel-least, each-whole, each-width, offset-whole, headers-none}
 use Rattle.packed.proofs.Mild.{Mild, value-mild, greatest-mild, channel-mild, place-row, row-layer, layer-voxels, block-channel, channel-blocks, voxels-at, layer-at, row-at, channel-found, blocks-found}

@@ -18,9 +18,9 @@ use seen::inner::is_seen;
 use seen::inner::see;
 use segmentation::LabelAnswer;
 use segmentation::Shape;
-use segmentation::inner::entry_label;
-use segmentation::inner::word_at;
-use segmentation::inner::words;
+use values::inner::entry_label;
+use values::inner::word_at;
+use values::inner::words;
 
 fn refusal_of(a: LabelAnswer) -> u8
     ensures { λ r. ⌜ r ≡ refusalIn a ⌝ }

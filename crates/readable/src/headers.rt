@@ -11,9 +11,9 @@ use seen::inner::is_seen;
 use seen::inner::see;
 use segmentation::Shape;
 use segmentation::inner::is_width;
-use segmentation::inner::linear;
-use segmentation::inner::word_at;
-use segmentation::inner::words;
+use values::inner::linear;
+use values::inner::word_at;
+use values::inner::words;
 
 // How many blocks a channel has, at most `most`.
 pub fn block_count(shape: Shape, most: u64) -> u64

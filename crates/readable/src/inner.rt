@@ -10,7 +10,7 @@ use crate::headers::headers_refusal;
 use seen::inner::MAP_WORDS;
 use seen::inner::clear;
 use segmentation::Shape;
-use segmentation::inner::linear;
+use values::inner::linear;
 
 // How many voxels of block g along an axis lie inside the extent.
 pub fn span_of(extent: u32, block: u32, g: u32) -> u32

@@ -1,5 +1,3 @@
 pub mod Stepwise
-pub mod Numbers
-pub mod Packed
-pub mod Asked
+pub mod Shapes
 pub mod Cases

@@ -24,7 +24,7 @@ use Rattle.rawform.specs.Raw.{joined, labelIn, labelBytes, rawVoxel, rawRow}
 use Rattle.packed.specs.Voxels.{refusalIn, Within}
 use Rattle.packed.specs.Checks.{span}
 use Rattle.rawform.specs.Writing.{Row, HeadersAt, rawRun, runVoxel, Readable, blockRow, placeRow, rowBytes}
-use Rattle.segmentation.proofs.Asked.{some-voxels}
+use Rattle.segmentation.proofs.Shapes.{some-voxels}
 use Rattle.packed.proofs.Inside.{span-some, voxel-in, voxel-block, voxel-place, across-some}
 use Rattle.readable.proofs.Verdict.{answer-block, channel-whole-at, header-whole-at, header-width-at, value-at}
 use Rattle.rawform.proofs.Filled.{Filled, filled-start, filled-by, filled-room, filled-place, filled-end, joined-same}

@@ -20,7 +20,8 @@ use Rattle.packed.specs.Voxels.{refusalIn}
 use Rattle.packed.specs.Checks.{Packed}
 use Rattle.rawform.specs.Raw.{labelIn}
 use Rattle.rawform.specs.Writing.{runVoxel, Readable}
-use Rattle.segmentation.proofs.Asked.{whole-yes, whole-no, no-bits}
+use Rattle.segmentation.proofs.Shapes.{whole-yes, whole-no}
+use Rattle.values.proofs.Entries.{no-bits}
 use Rattle.packed.proofs.Greatest.{within-or-past}
 use Rattle.packed.proofs.Runs as R
 use mathlib.Core.Logic.{⊎-elim}

@@ -18,10 +18,10 @@ use endian::inner::read_u64;
 use grid::inner::grid_size;
 use readable::inner::span_of;
 use segmentation::Shape;
-use segmentation::inner::bits;
-use segmentation::inner::entry_word;
-use segmentation::inner::linear;
-use segmentation::inner::word_at;
+use values::inner::bits;
+use values::inner::entry_word;
+use values::inner::linear;
+use values::inner::word_at;
 
 // The label at word i of the chunk; answers the place behind it.
 fn put_label(chunk: &[u8], wide: bool, i: u64, out: &mut [u8], at: usize) -> usize

@@ -1,5 +1,5 @@
 use borrow.Author.Needs.{needs}
-use Rattle.segmentation.proofs.Packed.{per-some, per-most}
+use Rattle.values.proofs.Packed.{per-some, per-most}
 use Rattle.packed.proofs.Sure.{reached, not-reached}
 use Rattle.packed.proofs.inner.is_reached.Statement.{statement}
 use Rattle.packed.proofs.inner.is_reached.Tie as tie

@@ -1,6 +1,6 @@
 use borrow.Author.Needs.{needs}
 use borrow.Author.Tests.{not-true, not-false}
-use Rattle.segmentation.proofs.Packed.{width-most}
+use Rattle.values.proofs.Packed.{width-most}
 use Rattle.packed.proofs.Sure.{sure-told}
 use Rattle.packed.proofs.inner.packed_refusal.Statement.{statement}
 use Rattle.packed.proofs.inner.packed_refusal.Tie as tie

@@ -3,7 +3,7 @@ use mathlib.Core.Path.{_≡_}
 use native.Mathlib.Omega.{arith}
 use Rattle.segmentation.specs.Labels.{labelWords}
 use Rattle.packed.specs.Checks.{greatest, runRefusal}
-use Rattle.segmentation.proofs.Packed.{per-some, width-most}
+use Rattle.values.proofs.Packed.{per-some, width-most}
 use Rattle.packed.proofs.Greatest.{greatest-none, greatest-all}
 use Rattle.packed.proofs.Runs.{run-product-fits, run-from-fits, run-word-fits, run-word, start-fits, start-sum-fits, start-bits-fit, run-hit, run-still}
 use borrow.Author.Needs.{needs}

@@ -1,6 +1,6 @@
 use borrow.Author.Needs.{needs}
 use native.Mathlib.Omega.{arith}
-use Rattle.segmentation.proofs.Asked.{block-x}
+use Rattle.segmentation.proofs.Shapes.{block-x}
 use Rattle.packed.proofs.Mild.{block-flat}
 use Rattle.packed.specs.Checks.{blockRefusal}
 use Rattle.packed.proofs.Inside.{inside-x-at, inside-y-at, inside-z-at}

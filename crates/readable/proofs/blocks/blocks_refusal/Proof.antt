@@ -2,7 +2,7 @@ use Prim.Native.Nat.{_-_}
 use mathlib.Core.Path.{_≡_, refl}
 use native.Mathlib.Omega.{arith}
 use lib.ListN.{length}
-use Rattle.segmentation.proofs.Asked.{channels-some}
+use Rattle.segmentation.proofs.Shapes.{channels-some}
 use Rattle.seen.proofs.Noted.{sees-same}
 use Rattle.readable.proofs.Offsets.{offset-whole, headers-none-at, count-whole}
 use Rattle.packed.proofs.Mild.{Passed, passed-start, passed-count, passed-known, passed-end, passed-hit, passed-on}

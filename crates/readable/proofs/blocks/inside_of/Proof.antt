@@ -1,5 +1,5 @@
 use borrow.Author.Needs.{needs}
-use Rattle.segmentation.proofs.Asked.{block-x, block-y, some-blocks}
+use Rattle.segmentation.proofs.Shapes.{block-x, block-y, some-blocks}
 use Rattle.packed.proofs.Inside.{some-rows, rest-of-fits, layer-fits}
 use Rattle.packed.specs.Checks.{insideOf}
 use Rattle.readable.proofs.blocks.inside_of.Statement.{statement}

@@ -1,5 +1,5 @@
 use borrow.Author.Needs.{needs}
-use Rattle.segmentation.proofs.Asked.{block-x, block-y, block-z, some-blocks}
+use Rattle.segmentation.proofs.Shapes.{block-x, block-y, block-z, some-blocks}
 use Rattle.readable.proofs.Offsets.{count-past, count-fits, count-all}
 use Rattle.readable.proofs.headers.block_count.Statement.{statement}
 use Rattle.readable.proofs.headers.block_count.Tie as tie

@@ -1,5 +1,5 @@
 use borrow.Author.Needs.{needs}
-use Rattle.segmentation.proofs.Asked.{block-x}
+use Rattle.segmentation.proofs.Shapes.{block-x}
 use Rattle.unpack.proofs.raw.across_of.Statement.{statement}
 use Rattle.unpack.proofs.raw.across_of.Tie as tie
 

@@ -1,5 +1,5 @@
 use borrow.Author.Needs.{needs}
-use Rattle.segmentation.proofs.Asked.{block-y, block-z}
+use Rattle.segmentation.proofs.Shapes.{block-y, block-z}
 use Rattle.unpack.proofs.raw.place_row.Statement.{statement}
 use Rattle.unpack.proofs.raw.place_row.Tie as tie
 

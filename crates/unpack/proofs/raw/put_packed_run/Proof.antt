@@ -2,7 +2,7 @@ use Prim.Native.Nat.{_*_, _-_}
 use native.Mathlib.Omega.{arith}
 use Rattle.segmentation.specs.Labels.{labelWords}
 use Rattle.rawform.specs.Writing.{runVoxel}
-use Rattle.segmentation.proofs.Packed.{per-some, width-most}
+use Rattle.values.proofs.Packed.{per-some, width-most}
 use Rattle.rawform.proofs.Filled.{Filled, filled-start, filled-next, filled-same, filled-place, filled-end}
 use Rattle.packed.proofs.Runs.{start-fits, start-sum-fits, start-bits-fit}
 use Rattle.unpack.proofs.Runs.{run-each, run-product-fits, run-from-fits, run-word-fits, run-word, run-entry, run-on}

@@ -1,5 +1,5 @@
 use borrow.Author.Needs.{needs}
-use Rattle.segmentation.proofs.Asked.{block-x, block-y, block-z}
+use Rattle.segmentation.proofs.Shapes.{block-x, block-y, block-z}
 use Rattle.unpack.proofs.Rows.{row-some, row-offset, headers-product, headers-twice, headers-sum, headers-are}
 use Rattle.unpack.proofs.raw.row_headers.Statement.{statement}
 use Rattle.unpack.proofs.raw.row_headers.Tie as tie
