@@ -3,7 +3,8 @@ ghost use mathlib.Core.Path.{_≡_};
 ghost use mathlib.Core.Bool.{true};
 ghost use Rattle.manifest.specs.Verdict.{manifestAnswer};
 ghost use Rattle.manifest.specs.Fields.{headerAnswer, fieldAnswer};
-ghost use Rattle.nodes.specs.Nodes.{nodeAnswer, nodesAnswer, nodesLeft};
+ghost use Rattle.nodes.specs.Nodes.{nodeAnswer};
+ghost use Rattle.levelnodes.specs.Level.{nodesAnswer, nodesLeft};
 ghost use Rattle.corners.specs.Boxes.{finiteCorner, cornersAnswer};
 ghost use Rattle.word.specs.Word.{writtenWord, lengthAfter};
 ghost use Rattle.coronagamba.specs.Manifests.{manifestWord, headerWord, headerAfter, fieldWord, kindAfter, valueAfter, nodeWord, positionAfter, fragmentAfter, bytesAfter, cornersWord, cornerBits, nearAfter, farAfter};
@@ -126,7 +127,7 @@ pub extern "C" fn coronagamba_manifest_nodes(
     ensures out { λ _. ⌜ now (out .exit) ≡ nodesLeft (now (bytes .entry)) level (now (out .entry)) ⌝ }
     ensures length { λ _. ⌜ now (length .exit) ≡ lengthAfter (nodesAnswer (now (bytes .entry)) level (now (out .entry))) (now (length .entry)) ⌝ }
 {
-    match nodes::nodes_of(bytes, level, out) {
+    match levelnodes::nodes_of(bytes, level, out) {
         Written::Length(n) => {
             *length = n as u64;
             0

@@ -36,7 +36,8 @@ use Rattle.layout.specs.Bits.{realAt}
 use Rattle.manifest.specs.Verdict.{manifestChecks, manifestAnswer}
 use Rattle.manifest.specs.Fields.{headerAnswer, fieldAt, fieldChecks, fieldAnswer}
 use Rattle.nodes.specs.declared.NodeAnswer.the-variants as O
-use Rattle.nodes.specs.Nodes.{nodeChecks, nodeAnswer, nodesChecks, nodesAnswer, nodesLeft}
+use Rattle.nodes.specs.Nodes.{nodeChecks, nodeAnswer}
+use Rattle.levelnodes.specs.Level.{nodesChecks, nodesAnswer, nodesLeft}
 use Rattle.corners.specs.declared.CornersAnswer.the-variants as Cs
 use Rattle.corners.specs.Boxes.{boxChecks, cornersChecks, cornersAnswer}
 

@@ -33,7 +33,7 @@ use Rattle.pairform.proofs.Laws.{count-refuses-pair, listing-refuses-pair, list
 use Rattle.intake.proofs.Refused.{open-refuses, open-keeps, announce-refuses, announce-keeps, part-refuses, part-keeps, close-refuses, close-keeps}
 use Rattle.card.proofs.Meaning.{one-meaning-one-card}
 use Rattle.document.proofs.Meaning.{meaning}
-use Rattle.nodes.proofs.Each.{node-numbers}
+use Rattle.levelnodes.proofs.Each.{node-numbers}
 use Rattle.theorems.specs.Demands.{Demand1, Demand2, Ready, Demand3}
 use Rattle.theorems.proofs.Measures.{measure-refuses, measure-names, measure-refuses-pair, add-refuses, add-pair-refuses, join-refuses}
 use Rattle.theorems.proofs.Calls.{grid-refuses, key-refuses, keys-refuses, keys-kept, cover-refuses, cover-kept, cell-refuses, bounds-refuses, chunk-name-refuses, chunk-name-kept, place-refuses, places-refuses, places-kept, file-name-refuses, file-name-kept, card-read-refuses, card-write-refuses, card-kept, manifest-refuses, header-refuses, field-refuses, node-refuses, nodes-refuses, nodes-kept, corners-refuses}

@@ -84,7 +84,8 @@ use Rattle.manifest.specs.Verdict.{manifestChecks, manifestAnswer}
 use Rattle.manifest.specs.Fields.{headerAnswer, fieldChecks, fieldAnswer}
 use Rattle.nodes.specs.declared.NodeAnswer.the-variants as O
 use Rattle.nodes.specs.Run.{fragmentOf, joined}
-use Rattle.nodes.specs.Nodes.{hasNode, fragmentsLength, nodeAt, nodeChecks, nodeAnswer, numbersOf, nodesOf, nodesChecks, nodesAnswer, nodesLeft}
+use Rattle.nodes.specs.Nodes.{hasNode, fragmentsLength, nodeAt, nodeChecks, nodeAnswer}
+use Rattle.levelnodes.specs.Level.{numbersOf, nodesOf, nodesChecks, nodesAnswer, nodesLeft}
 use Rattle.corners.specs.declared.CornersAnswer.the-variants as Cs
 use Rattle.corners.specs.Boxes.{cornersChecks, cornersAnswer}
 

@@ -1,14 +1,14 @@
 // All nodes of a level.
-use crate::Node;
-use crate::inner::node_in;
-use crate::sums::bytes_before;
 use layout::inner::nodes_before;
+use nodes::Node;
+use nodes::inner::node_in;
+use nodes::sums::bytes_before;
 ghost use mathlib.Core.Path.{_≡_};
 ghost use Prim.Native.Nat.{_+_, _*_, _≤_, _<_};
 ghost use lib.ListN.{length};
 ghost use Rattle.endian.specs.Place.{paste};
 ghost use Rattle.layout.specs.Layout.{levelsOf, countOf, fieldCount};
-ghost use Rattle.nodes.specs.Nodes.{nodeFrom, numbersOf, numbersFrom, nodesOf};
+ghost use Rattle.levelnodes.specs.Level.{nodeFrom, numbersOf, numbersFrom, nodesOf};
 
 // The five numbers of a node.
 fn put_node(out: &mut [u64], at: usize, node: Node)

@@ -10,8 +10,9 @@ use Rattle.endian.specs.Range.{sumTo}
 use Rattle.endian.proofs.Paste.{paste-nil, paste-cons, paste-on, store, length-paste}
 use Rattle.endian.proofs.Ranges.{sum-none, sum-step}
 use Rattle.layout.specs.Layout.{levelsOf, countOf, nodesBefore, sizeAt}
-use Rattle.nodes.specs.Nodes.{levelBytes, fragmentStart, nodeIn, nodeFrom, nodeAt, numbersOf, numbersFrom, nodesOf}
+use Rattle.nodes.specs.Nodes.{levelBytes, fragmentStart, nodeIn, nodeAt}
 use Rattle.nodes.specs.declared.Node.{Node}
+use Rattle.levelnodes.specs.Level.{nodeFrom, numbersOf, numbersFrom, nodesOf}
 
 -- five stores
 pub stored : (d : List ℕ) (at x y z b n : ℕ) → at + 5 ≤ length d

@@ -1,10 +1,10 @@
 -- A level's nodes, by what the judge gave, by whether there is such a level, and by the numbers lent.
 use borrow.Author.Needs.{needs}
 use Rattle.nodes.proofs.Levels.{sound}
 use Rattle.manifest.proofs.Judged.{told-sound}
-use Rattle.nodes.proofs.Asked.{listing}
-use Rattle.nodes.proofs.nodes_of.Statement.{statement}
-use Rattle.nodes.proofs.nodes_of.Tie as tie
+use Rattle.levelnodes.proofs.Asked.{listing}
+use Rattle.levelnodes.proofs.nodes_of.Statement.{statement}
+use Rattle.levelnodes.proofs.nodes_of.Tie as tie
 
 pub nodes-of-spec : {M : Type 1} → statement M
 nodes-of-spec =

@@ -2,9 +2,9 @@
 use native.Mathlib.Omega.{arith}
 use lib.ListN.{length-set}
 use borrow.Author.Needs.{needs}
-use Rattle.nodes.proofs.Listed.{stored}
-use Rattle.nodes.proofs.level.put_node.Statement.{statement}
-use Rattle.nodes.proofs.level.put_node.Tie as tie
+use Rattle.levelnodes.proofs.Listed.{stored}
+use Rattle.levelnodes.proofs.level.put_node.Statement.{statement}
+use Rattle.levelnodes.proofs.level.put_node.Tie as tie
 
 pub put-node-spec : {M : Type 1} → statement M
 put-node-spec =

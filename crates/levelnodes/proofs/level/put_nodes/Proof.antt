@@ -6,10 +6,10 @@ use borrow.Author.Needs.{needs}
 use Rattle.endian.specs.Place.{paste}
 use Rattle.endian.specs.Range.{sumTo}
 use Rattle.layout.specs.Layout.{sizeAt}
-use Rattle.nodes.specs.Nodes.{nodeFrom, numbersFrom}
-use Rattle.nodes.proofs.Listed.{listed}
-use Rattle.nodes.proofs.level.put_nodes.Statement.{statement}
-use Rattle.nodes.proofs.level.put_nodes.Tie as tie
+use Rattle.levelnodes.specs.Level.{nodeFrom, numbersFrom}
+use Rattle.levelnodes.proofs.Listed.{listed}
+use Rattle.levelnodes.proofs.level.put_nodes.Statement.{statement}
+use Rattle.levelnodes.proofs.level.put_nodes.Tie as tie
 
 abbrev Inv-loop : tie.InvT-loop
 Inv-loop s first n start out₀ at₀ i₀ out at i =

@@ -13,12 +13,13 @@ use Rattle.endian.proofs.Holds.{holds-all, holds-move}
 use Rattle.layout.specs.Layout.{countOf}
 use Rattle.manifest.specs.Verdict.{verdict}
 use Rattle.manifest.proofs.Judged.{unrefused, none-sound, none-head}
-use Rattle.nodes.specs.Nodes.{hasLevel, hasNode, nodeAt, nodeAnswer, numbersOf, numbersFrom, nodesOf, nodesChecks, nodesAnswer, nodesLeft}
+use Rattle.nodes.specs.Nodes.{hasLevel, hasNode, nodeAt, nodeAnswer}
 use Rattle.nodes.specs.declared.Node.{Node}
 use Rattle.nodes.specs.declared.NodeAnswer.the-variants as N
-use Rattle.nodes.proofs.Listed.{length-numbers, length-nodes}
 use Rattle.nodes.proofs.Asked.{node-given}
 use Rattle.nodes.proofs.Fragments.{node-is}
+use Rattle.levelnodes.specs.Level.{numbersOf, numbersFrom, nodesOf, nodesChecks, nodesAnswer, nodesLeft}
+use Rattle.levelnodes.proofs.Listed.{length-numbers, length-nodes}
 
 -- ---- the numbers of each node
 

@@ -1,9 +1,9 @@
 -- The level's first item and its first fragment's start, as they are read.
 use borrow.Author.Needs.{needs}
 use Rattle.manifest.proofs.Sounds.{read-fits}
-use Rattle.nodes.proofs.Listed.{level-numbers}
-use Rattle.nodes.proofs.level.put_level.Statement.{statement}
-use Rattle.nodes.proofs.level.put_level.Tie as tie
+use Rattle.levelnodes.proofs.Listed.{level-numbers}
+use Rattle.levelnodes.proofs.level.put_level.Statement.{statement}
+use Rattle.levelnodes.proofs.level.put_level.Tie as tie
 
 pub put-level-spec : {M : Type 1} → statement M
 put-level-spec =
