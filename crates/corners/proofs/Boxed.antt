@@ -13,9 +13,9 @@ use Rattle.refusal.proofs.Tests.{both, told-no, told-yes}
 use Rattle.refusal.proofs.Picks.{AllIn, all-in, all-in-both}
 use Rattle.refusal.proofs.Refusing.{answered-both}
 use Rattle.manifest.specs.Verdict.{manifestChecks, verdict}
-use Rattle.manifest.specs.Fields.{headerAt}
+use Rattle.manifestread.specs.Fields.{headerAt}
 use Rattle.nodes.specs.Nodes.{hasNode, nodeAt, nodeChecks}
-use Rattle.manifest.specs.declared.Header.{Header}
+use Rattle.manifestread.specs.declared.Header.{Header}
 use Rattle.nodes.specs.declared.Node.{Node}
 use Rattle.manifest.proofs.Judged.{fails, passes, passed, unrefused, none-both, none-head, in-table, told-sound, refused-first, given-first}
 use Rattle.manifest.proofs.Ways.{never}

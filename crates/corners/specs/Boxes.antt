@@ -8,9 +8,9 @@ use lib.Dec.{ltb}
 use lib.Ieee.{Float, fin, binary32, add, mul, ofInt, toBits}
 use Rattle.refusal.specs.Checks.{Check, check, answered}
 use Rattle.layout.specs.Bits.{finiteBits}
-use Rattle.manifest.specs.Fields.{headerAt}
+use Rattle.manifestread.specs.Fields.{headerAt}
 use Rattle.nodes.specs.Nodes.{nodeAt, nodeChecks}
-use Rattle.manifest.specs.declared.Header.{Header}
+use Rattle.manifestread.specs.declared.Header.{Header}
 use Rattle.nodes.specs.declared.Node.{Node}
 use Rattle.corners.specs.declared.Corner.{Corner}
 use Rattle.corners.specs.declared.Corners.{Corners}

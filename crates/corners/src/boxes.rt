@@ -3,7 +3,7 @@ use crate::Corner;
 use crate::Corners;
 use crate::CornersAnswer;
 use crate::reals;
-use manifest::Header;
+use manifestread::Header;
 use nodes::Node;
 ghost use mathlib.Core.Path.{_≡_};
 ghost use mathlib.Core.Bool.{true};

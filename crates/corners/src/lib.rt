@@ -25,7 +25,7 @@ pub enum CornersAnswer {
 pub fn corners_of(bytes: &[u8], level: u32, node: u32) -> CornersAnswer
     ensures answer { λ r. ⌜ r ≡ cornersAnswer (now (bytes .entry)) level node ⌝ }
 {
-    let verdict = manifest::inner::judge(bytes);
+    let verdict = manifestread::inner::judge(bytes);
     if verdict != 0 {
         return CornersAnswer::Refused(verdict);
     }
@@ -33,5 +33,5 @@ pub fn corners_of(bytes: &[u8], level: u32, node: u32) -> CornersAnswer
         return CornersAnswer::Refused(18);
     }
     let at = nodes::inner::node(bytes, level as usize, node as usize);
-    boxes::corners_in(manifest::inner::header(bytes), level, at)
+    boxes::corners_in(manifestread::inner::header(bytes), level, at)
 }

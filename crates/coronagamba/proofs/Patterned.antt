@@ -12,14 +12,14 @@ use Rattle.refusal.specs.Choice.{pick}
 use Rattle.layout.specs.Layout.{itemAt, levelsOf, isReal, fieldCount}
 use Rattle.layout.specs.Bits.{realAt}
 use Rattle.manifest.specs.Verdict.{verdict}
-use Rattle.manifest.specs.Fields.{headerAt, headerAnswer, fieldAt, fieldAnswer}
-use Rattle.manifest.specs.declared.Header.{Header}
-use Rattle.manifest.specs.declared.HeaderAnswer.{HeaderAnswer}
-use Rattle.manifest.specs.declared.HeaderAnswer.the-variants as H
-use Rattle.manifest.specs.declared.Field.the-variants as F
+use Rattle.manifestread.specs.Fields.{headerAt, headerAnswer, fieldAt, fieldAnswer}
+use Rattle.manifestread.specs.declared.Header.{Header}
+use Rattle.manifestread.specs.declared.HeaderAnswer.{HeaderAnswer}
+use Rattle.manifestread.specs.declared.HeaderAnswer.the-variants as H
+use Rattle.manifestread.specs.declared.Field.the-variants as F
 use Rattle.manifest.proofs.Sounds.{sound-ends}
-use Rattle.manifest.proofs.Asked.{header-given, field-given}
-use Rattle.manifest.proofs.Fields.{real-bits, header-number}
+use Rattle.manifestread.proofs.Asked.{header-given, field-given}
+use Rattle.manifestread.proofs.Fields.{real-bits, header-number}
 use Rattle.coronagamba.specs.Manifests.{headerAfter, valueAfter}
 
 module _ (s : List ℕ) {a : HeaderAnswer} {h : Header} (e : a ≡ headerAnswer s) (g : a ≡ H.Header h) where

@@ -4,11 +4,11 @@ use mathlib.Core.List.{List, [], _∷_}
 use lib.Ieee.{Float, binary32, toBits}
 use Rattle.manifest.specs.declared.ManifestAnswer.{ManifestAnswer}
 use Rattle.manifest.specs.declared.ManifestAnswer.the-variants as M
-use Rattle.manifest.specs.declared.Header.{Header}
-use Rattle.manifest.specs.declared.HeaderAnswer.{HeaderAnswer}
-use Rattle.manifest.specs.declared.HeaderAnswer.the-variants as H
-use Rattle.manifest.specs.declared.Field.{Field}
-use Rattle.manifest.specs.declared.Field.the-variants as F
+use Rattle.manifestread.specs.declared.Header.{Header}
+use Rattle.manifestread.specs.declared.HeaderAnswer.{HeaderAnswer}
+use Rattle.manifestread.specs.declared.HeaderAnswer.the-variants as H
+use Rattle.manifestread.specs.declared.Field.{Field}
+use Rattle.manifestread.specs.declared.Field.the-variants as F
 use Rattle.nodes.specs.declared.NodeAnswer.{NodeAnswer}
 use Rattle.nodes.specs.declared.NodeAnswer.the-variants as N
 use Rattle.corners.specs.declared.Corner.{Corner}

@@ -2,7 +2,7 @@
 ghost use mathlib.Core.Path.{_≡_};
 ghost use mathlib.Core.Bool.{true};
 ghost use Rattle.manifest.specs.Verdict.{manifestAnswer};
-ghost use Rattle.manifest.specs.Fields.{headerAnswer, fieldAnswer};
+ghost use Rattle.manifestread.specs.Fields.{headerAnswer, fieldAnswer};
 ghost use Rattle.nodes.specs.Nodes.{nodeAnswer};
 ghost use Rattle.levelnodes.specs.Level.{nodesAnswer, nodesLeft};
 ghost use Rattle.corners.specs.Boxes.{finiteCorner, cornersAnswer};
@@ -10,9 +10,9 @@ ghost use Rattle.word.specs.Word.{writtenWord, lengthAfter};
 ghost use Rattle.coronagamba.specs.Manifests.{manifestWord, headerWord, headerAfter, fieldWord, kindAfter, valueAfter, nodeWord, positionAfter, fragmentAfter, bytesAfter, cornersWord, cornerBits, nearAfter, farAfter};
 use corners::Corner;
 use corners::CornersAnswer;
-use manifest::Field;
-use manifest::HeaderAnswer;
 use manifest::ManifestAnswer;
+use manifestread::Field;
+use manifestread::HeaderAnswer;
 use nodes::NodeAnswer;
 use refusal::Written;
 
@@ -22,7 +22,7 @@ use refusal::Written;
 pub extern "C" fn coronagamba_manifest_check(bytes: &[u8]) -> u64
     ensures answer { λ r. ⌜ r ≡ manifestWord (manifestAnswer (now (bytes .entry))) ⌝ }
 {
-    match manifest::check_manifest(bytes) {
+    match manifestread::check_manifest(bytes) {
         ManifestAnswer::Sound => 0,
         ManifestAnswer::Refused(refusal) => refusal as u64,
     }
@@ -36,7 +36,7 @@ pub extern "C" fn coronagamba_manifest_header(bytes: &[u8], header: &mut [u32; 6
     ensures answer { λ r. ⌜ r ≡ headerWord (headerAnswer (now (bytes .entry))) ⌝ }
     ensures header { λ _. ⌜ now (header .exit) ≡ headerAfter (headerAnswer (now (bytes .entry))) (now (header .entry)) ⌝ }
 {
-    match manifest::header_of(bytes) {
+    match manifestread::header_of(bytes) {
         HeaderAnswer::Header(h) => {
             *header = [
                 f32::to_bits(h.shape_x),
@@ -67,7 +67,7 @@ pub extern "C" fn coronagamba_manifest_field(
     ensures kind { λ _. ⌜ now (kind .exit) ≡ kindAfter (fieldAnswer (now (bytes .entry)) number) (now (kind .entry)) ⌝ }
     ensures value { λ _. ⌜ now (value .exit) ≡ valueAfter (fieldAnswer (now (bytes .entry)) number) (now (value .entry)) ⌝ }
 {
-    match manifest::field_of(bytes, number) {
+    match manifestread::field_of(bytes, number) {
         Field::Real(x) => {
             *kind = 1;
             *value = f32::to_bits(x);

@@ -10,7 +10,7 @@ pub fn nodes_of(bytes: &[u8], level: u32, out: &mut [u64]) -> Written
     ensures answer { λ r. ⌜ r ≡ nodesAnswer (now (bytes .entry)) level (now (out .entry)) ⌝ }
     ensures out { λ _. ⌜ now (out .exit) ≡ nodesLeft (now (bytes .entry)) level (now (out .entry)) ⌝ }
 {
-    let verdict = manifest::inner::judge(bytes);
+    let verdict = manifestread::inner::judge(bytes);
     if verdict != 0 {
         return Written::Refused(verdict);
     }

@@ -1,5 +1,3 @@
 pub mod Sounds
 pub mod Ways
 pub mod Judged
-pub mod Asked
-pub mod Fields

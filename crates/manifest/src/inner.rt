@@ -1,47 +1,41 @@
-// What other crates ask of a manifest: the judge, and the header of one that the judge found sound.
-use crate::Header;
-use crate::judge::nodes_rise;
-use crate::judge::reals_fit;
-use crate::judge::right_length;
-use crate::kinds::real;
+// The test 15, and the kind of an item.
 use layout::inner::item;
+use layout::inner::nodes_before;
 ghost use mathlib.Core.Path.{_≡_};
-ghost use Rattle.manifest.specs.Verdict.{verdict};
-ghost use Rattle.manifest.specs.Fields.{headerAt};
+ghost use Prim.Native.Nat.{_≤_};
+ghost use Rattle.layout.specs.Layout.{isReal};
+ghost use Rattle.manifest.specs.Verdict.{rightLength};
 
-// The first of the refusals 15, 16 and 17 that holds, or 0.
-pub fn judge(s: &[u8]) -> u8
-    ensures { λ r. ⌜ r ≡ verdict (now (s .entry)) ⌝ }
+// Refusal 15 does not hold.
+pub fn right_length(s: &[u8]) -> bool
+    ensures { λ r. ⌜ r ≡ rightLength (now (s .entry)) ⌝ }
 {
-    if !right_length(s) {
-        return 15;
+    if s.len() > 16777216 {
+        return false;
+    }
+    if s.len() < 28 {
+        return false;
     }
     let levels = item(s, 6) as usize;
-    if !reals_fit(s, levels) {
-        return 16;
+    if levels > 32 {
+        return false;
     }
-    if !nodes_rise(s, levels) {
-        return 17;
+    if s.len() < 28 + 20 * levels {
+        return false;
     }
-    0
+    s.len() == 28 + 20 * levels + 16 * nodes_before(s, levels, levels)
 }
 
-pub fn header(s: &[u8]) -> Header
-    requires { ⌜ verdict (now s) ≡ 0 ⌝ }
-    ensures { λ r. ⌜ r ≡ headerAt (now (s .entry)) ⌝ }
+// Whether item i holds a real.
+pub fn is_real(levels: usize, i: usize) -> bool
+    requires { ⌜ levels ≤ 32 ⌝ }
+    ensures { λ r. ⌜ r ≡ isReal levels i ⌝ }
 {
-    let shape_x = real(s, 0);
-    let shape_y = real(s, 1);
-    let shape_z = real(s, 2);
-    let origin_x = real(s, 3);
-    let origin_y = real(s, 4);
-    let origin_z = real(s, 5);
-    Header {
-        shape_x,
-        shape_y,
-        shape_z,
-        origin_x,
-        origin_y,
-        origin_z,
+    if i < 6 {
+        return true;
     }
+    if i < 7 {
+        return false;
+    }
+    i < 7 + 4 * levels
 }

@@ -9,7 +9,7 @@ ghost use Rattle.manifests.specs.Each.{leastOf, lesser};
 ghost use Rattle.manifests.specs.Mesh.{manifestTests, manifestNumber};
 use endian::inner::read_u64;
 use index::Fault;
-use manifest::inner::judge;
+use manifestread::inner::judge;
 use nodes::inner::fragments_length;
 
 // The first test that an entry fails, and the first entry that fails it; number 0 where all pass.

@@ -29,12 +29,12 @@ use Rattle.card.specs.declared.Card.{Card}
 use Rattle.card.specs.declared.CardAnswer.the-variants as D
 use Rattle.card.specs.Answers.{recordChecks, readChecks, readAnswer, writeChecks, writeAnswer, writeLeft}
 use Rattle.manifest.specs.declared.ManifestAnswer.the-variants as M
-use Rattle.manifest.specs.declared.HeaderAnswer.the-variants as H
-use Rattle.manifest.specs.declared.Field.the-variants as F
+use Rattle.manifestread.specs.declared.HeaderAnswer.the-variants as H
+use Rattle.manifestread.specs.declared.Field.the-variants as F
 use Rattle.layout.specs.Layout.{levelsOf, isReal, itemAt}
 use Rattle.layout.specs.Bits.{realAt}
 use Rattle.manifest.specs.Verdict.{manifestChecks, manifestAnswer}
-use Rattle.manifest.specs.Fields.{headerAnswer, fieldAt, fieldChecks, fieldAnswer}
+use Rattle.manifestread.specs.Fields.{headerAnswer, fieldAt, fieldChecks, fieldAnswer}
 use Rattle.nodes.specs.declared.NodeAnswer.the-variants as O
 use Rattle.nodes.specs.Nodes.{nodeChecks, nodeAnswer}
 use Rattle.levelnodes.specs.Level.{nodesChecks, nodesAnswer, nodesLeft}

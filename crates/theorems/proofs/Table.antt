@@ -36,7 +36,7 @@ use Rattle.zorder.specs.Order.{zDigit, zFrom}
 use Rattle.layout.specs.Layout.{itemAt as wordAt, isReal, countOf, sizeAt}
 use Rattle.layout.specs.Bits.{finiteBits, aboveZero, realAt}
 use Rattle.manifest.specs.Verdict.{rightLength, realFits, realsFit, inOrder, levelRises, riseAt, nodesRise, manifestChecks}
-use Rattle.manifest.specs.Fields.{headerAt}
+use Rattle.manifestread.specs.Fields.{headerAt}
 use Rattle.nodes.specs.Nodes.{hasNode, levelBytes, fragmentStart, nodeIn, nodeAt, nodeChecks}
 use Rattle.corners.specs.Boxes.{finite, nearOf, farOf, nearCorner, farCorner, boxOf, placed, finiteCorner, boxChecks, cornersChecks, cornersAnswer}
 use Rattle.theorems.specs.Cases.{Case, answered, table, cells, at, voxels, shifted, buffer, content, settledFile, otherFile, zeros, real, items, manifest}

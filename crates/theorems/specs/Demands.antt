@@ -77,11 +77,11 @@ use Rattle.card.specs.Meaning.{OneCard}
 use Rattle.info.specs.Answers.{infoChecks, infoAnswer}
 use Rattle.document.specs.Meaning.{InfoMeaning}
 use Rattle.manifest.specs.declared.ManifestAnswer.the-variants as M
-use Rattle.manifest.specs.declared.HeaderAnswer.the-variants as H
-use Rattle.manifest.specs.declared.Field.the-variants as F
+use Rattle.manifestread.specs.declared.HeaderAnswer.the-variants as H
+use Rattle.manifestread.specs.declared.Field.the-variants as F
 use Rattle.layout.specs.Layout.{countOf}
 use Rattle.manifest.specs.Verdict.{manifestChecks, manifestAnswer}
-use Rattle.manifest.specs.Fields.{headerAnswer, fieldChecks, fieldAnswer}
+use Rattle.manifestread.specs.Fields.{headerAnswer, fieldChecks, fieldAnswer}
 use Rattle.nodes.specs.declared.NodeAnswer.the-variants as O
 use Rattle.nodes.specs.Run.{fragmentOf, joined}
 use Rattle.nodes.specs.Nodes.{hasNode, fragmentsLength, nodeAt, nodeChecks, nodeAnswer}
