@@ -5,7 +5,7 @@ ghost use Rattle.grid.specs.Answers.{gridAnswer, keyAnswer, cellAnswer};
 ghost use Rattle.bounds.specs.Answers.{boundsAnswer};
 ghost use Rattle.batch.specs.Batch.{cellsOf, keysAnswer, keysLeft};
 ghost use Rattle.spread.specs.Row.{rowOf};
-ghost use Rattle.cover.specs.Cover.{coverAnswer, coverLeft};
+ghost use Rattle.overlap.specs.Cover.{coverAnswer, coverLeft};
 ghost use Rattle.word.specs.Word.{writtenWord, lengthAfter};
 ghost use Rattle.coronagamba.specs.Cells.{gridWord, gridAfter, keyWord, keyAfter, cellWord, cellAfter, boundsWord, beginAfter, endAfter};
 use bounds::BoundsAnswer;

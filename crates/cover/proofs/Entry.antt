@@ -19,10 +19,10 @@ use Rattle.grid.specs.declared.Volume.{Volume}
 use Rattle.grid.specs.Grid.{gridOf, zeroExtent}
 use Rattle.grid.specs.Key.{keyBits, tooManyBits}
 use Rattle.grid.proofs.Laws.{few-bits-are, many-bits-are}
-use Rattle.cover.specs.declared.Part.{Part}
-use Rattle.cover.specs.Cover.{coverKeys, coverChecks, coverAnswer, coverLeft}
-use Rattle.cover.specs.Search.{leftBits, partKeys, width, Framed, Whole}
-use Rattle.cover.proofs.Cuts.{markedCells, keys-count}
+use Rattle.overlap.specs.declared.Part.{Part}
+use Rattle.overlap.specs.Cover.{coverKeys, coverChecks, coverAnswer, coverLeft}
+use Rattle.overlap.specs.Marked.{leftBits, partKeys, width, Framed, Whole}
+use Rattle.descent.proofs.Cuts.{markedCells, keys-count}
 
 module _ (v : Volume) (lower upper : Point) (d : List ℕ) where
   pub cover-refused : {k : ℕ} → firstNumber (coverChecks v lower upper d) ≡ k → 0 < k → Refused k ≡ coverAnswer v lower upper d

@@ -1,17 +1,2 @@
-pub mod Tests
-pub mod Lists
-pub mod Bits
-pub mod Boxes
-pub mod Differ
-pub mod Places
-pub mod HighBit
-pub mod Frames
-pub mod Axis
-pub mod Cuts
-pub mod Wholes
-pub mod Corner
-pub mod Voxels
 pub mod Ways
 pub mod Entry
-pub mod Laws
-pub mod Cases

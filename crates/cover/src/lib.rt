@@ -1,27 +1,13 @@
 // Which chunks cover a box of voxels.
 ghost use mathlib.Core.Path.{_≡_};
-ghost use Rattle.cover.specs.Cover.{coverAnswer, coverLeft};
+ghost use Rattle.overlap.specs.Cover.{coverAnswer, coverLeft};
 use bounds::Point;
+use descent::search;
 use grid::Volume;
+use overlap::spans;
 use refusal::Written;
 
 mod parts;
-mod spans;
-mod walk;
-
-// Along one axis: 2 to the bits cells, of which those from `from` up to `to` are marked.
-pub struct Along {
-    pub bits: u32,
-    pub from: u32,
-    pub to: u32,
-}
-
-// The same along each axis of a grid.
-pub struct Part {
-    pub x: Along,
-    pub y: Along,
-    pub z: Along,
-}
 
 // The keys of all cells that share a voxel with the box from `lower` up to `upper`, rising, into `out`, and how many:
 // 2 where an extent is 0, 3 where the grid needs more than 64 key bits, 13 where the keys do not fit.
@@ -41,5 +27,5 @@ pub fn cover(volume: Volume, lower: Point, upper: Point, out: &mut [u64]) -> Wri
     if parts::exceeds(face, deep, out.len() as u64) {
         return Written::Refused(13);
     }
-    Written::Length(walk::search(grid::inner::grid(volume), whole, out))
+    Written::Length(search(grid::inner::grid(volume), whole, out))
 }

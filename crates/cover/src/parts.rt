@@ -1,61 +1,15 @@
-// The marked cells of a grid: the first and the last of them, and how many.
+// How many cells of a grid are marked, and whether as many keys fit.
 ghost use mathlib.Core.Path.{_≡_};
-ghost use mathlib.Core.Bool.{false};
 ghost use Prim.Native.Nat.{_-_, _*_, _^_, _<_};
 ghost use lib.Dec.{ltb};
-ghost use Rattle.cover.specs.Search.{missed, firstCell, lastCell, width};
-use crate::Along;
-use crate::Part;
-use grid::Cell;
+ghost use Rattle.overlap.specs.Marked.{width};
+use overlap::Along;
+use overlap::Part;
 
 fn less(a: u32, b: u32) -> u32
     ensures { λ r. ⌜ r ≡ a - b ⌝ }
 {
     if a < b { 0 } else { a - b }
-}
-
-// No cell is marked.
-pub fn misses(part: Part) -> bool
-    ensures { λ r. ⌜ r ≡ missed part ⌝ }
-{
-    let x = part.x;
-    let y = part.y;
-    let z = part.z;
-    if x.to <= x.from {
-        return true;
-    }
-    if y.to <= y.from {
-        return true;
-    }
-    z.to <= z.from
-}
-
-// The first and the last of the marked cells along each axis.
-pub fn first(part: Part) -> Cell
-    ensures { λ r. ⌜ r ≡ firstCell part ⌝ }
-{
-    let x = part.x;
-    let y = part.y;
-    let z = part.z;
-    Cell {
-        x: x.from,
-        y: y.from,
-        z: z.from,
-    }
-}
-
-pub fn last(part: Part) -> Cell
-    requires { ⌜ missed part ≡ false ⌝ }
-    ensures { λ r. ⌜ r ≡ lastCell part ⌝ }
-{
-    let x = part.x;
-    let y = part.y;
-    let z = part.z;
-    Cell {
-        x: x.to - 1,
-        y: y.to - 1,
-        z: z.to - 1,
-    }
 }
 
 // How many cells are marked along an axis.

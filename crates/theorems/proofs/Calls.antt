@@ -17,7 +17,7 @@ use Rattle.bounds.specs.declared.BoundsAnswer.the-variants as B
 use Rattle.grid.specs.Answers.{gridChecks, gridAnswer, keyChecks, keyAnswer, cellChecks, cellAnswer}
 use Rattle.bounds.specs.Answers.{boundsChecks, boundsAnswer}
 use Rattle.batch.specs.Batch.{keysChecks, keysAnswer, keysLeft}
-use Rattle.cover.specs.Cover.{coverChecks, coverAnswer, coverLeft}
+use Rattle.overlap.specs.Cover.{coverChecks, coverAnswer, coverLeft}
 use Rattle.sharding.specs.declared.Sharding.{Sharding}
 use Rattle.sharding.specs.declared.PlaceAnswer.the-variants as P
 use Rattle.sharding.specs.Place.{placeChecks, placeAnswer}

@@ -40,7 +40,7 @@ use Rattle.settle.proofs.Answered.{length-lost, answer-lost, left-lost}
 use Rattle.settle.proofs.Demand3.{demand-3-written}
 use Rattle.batch.proofs.Each.{keys-of-each}
 use Rattle.spread.proofs.Laws as S
-use Rattle.cover.proofs.Laws.{listed-is, cell-listed, keys-rise, reversed-lists-none, outside-lists-none, keys-written}
+use Rattle.overlap.proofs.Laws.{listed-is, cell-listed, keys-rise, reversed-lists-none, outside-lists-none, keys-written}
 use Rattle.positions.proofs.Points.{check-points, lookup-points, fragment-points, count-points, listing-points, unlisted-named, length-named, settle-named}
 use Rattle.theorems.specs.Orders.{Order2, Order4, Order5, Order6, Order7, settleChecksBefore, lengthChecksBefore, Order8, Order9}
 

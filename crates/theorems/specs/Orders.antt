@@ -20,8 +20,8 @@ use Rattle.batch.specs.Batch.{eachInGrid, keysOf, keysAnswer, keysLeft}
 use Rattle.spread.specs.Spread.{Spreads, Placed}
 use Rattle.spread.specs.Parts.{lowKey, restKey, Shared}
 use Rattle.spread.specs.Row.{rowOf}
-use Rattle.cover.specs.Cover.{coverKeys, coverAnswer, coverLeft}
-use Rattle.cover.specs.Meaning.{SharesVoxel, RisingFrom, reversed, outside}
+use Rattle.overlap.specs.Cover.{coverKeys, coverAnswer, coverLeft}
+use Rattle.overlap.specs.Meaning.{SharesVoxel, RisingFrom, reversed, outside}
 use Rattle.sharding.specs.declared.Sharding.{Sharding}
 use Rattle.sharding.specs.Specification.{volume, mesh, isMesh, minishardBits, allowed, noSuchShard}
 use Rattle.sharding.specs.Place.{minishardOf, placeChecks}

@@ -1,7 +1,0 @@
--- `cover::walk::first_above` meets its contract.
-use Rattle.cover.proofs.Ways.{corner}
-use Rattle.cover.proofs.walk.first_above.Statement.{statement}
-use Rattle.cover.proofs.walk.first_above.Tie as tie
-
-pub first-above-spec : {M : Type 1} → statement M
-first-above-spec = tie.close (tie.spec (λ c κs. search corner) (λ c. search corner) (λ c. search corner) (λ c. search corner) (λ c. search corner))

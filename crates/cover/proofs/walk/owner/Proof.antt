@@ -1,7 +1,0 @@
--- `cover::walk::owner` meets its contract.
-use Rattle.cover.proofs.Ways.{bits}
-use Rattle.cover.proofs.walk.owner.Statement.{statement}
-use Rattle.cover.proofs.walk.owner.Tie as tie
-
-pub owner-spec : {M : Type 1} → statement M
-owner-spec = tie.close (tie.spec (λ c κs. search bits) (λ c. search bits) (λ c κs. search bits) (λ c. search bits) (λ c. search bits))

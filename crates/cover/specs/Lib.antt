@@ -1,3 +1,0 @@
-pub mod Cover
-pub mod Meaning
-pub mod Search

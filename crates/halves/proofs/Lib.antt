@@ -1,0 +1,5 @@
+pub mod Counting
+pub mod Bits
+pub mod Boxes
+pub mod Differ
+pub mod Ways
