@@ -24,20 +24,22 @@ use Rattle.places.specs.declared.Threes.{Threes}
 use Rattle.places.specs.declared.Threes.the-variants.{Are as Threefold, Wrong as NotThree}
 use Rattle.wholes.specs.declared.Number.{Number}
 use Rattle.wholes.specs.declared.Number.the-variants.{Is, Wrong}
-use Rattle.info.specs.declared.ExtentsIn.{ExtentsIn}
-use Rattle.info.specs.declared.ExtentsIn.the-variants.{Are as ExtentsAre, Wrong as NoExtents}
-use Rattle.info.specs.declared.OffsetIn.{OffsetIn}
-use Rattle.info.specs.declared.OffsetIn.the-variants.{Is as OffsetIs, Wrong as NoOffset}
-use Rattle.info.specs.declared.VolumeIn.{VolumeIn}
-use Rattle.info.specs.declared.VolumeIn.the-variants.{Is as VolumeIs, Wrong as NoVolume}
-use Rattle.info.specs.declared.ShardingIn.{ShardingIn}
-use Rattle.info.specs.declared.ShardingIn.the-variants.{Is as ShardingIs, Wrong as NoSharding}
-use Rattle.info.specs.declared.Settings.{Settings}
-use Rattle.info.specs.declared.Settings.the-variants.{Are as SettingsAre, Wrong as NoSettings}
+use Rattle.scale.specs.declared.ExtentsIn.{ExtentsIn}
+use Rattle.scale.specs.declared.ExtentsIn.the-variants.{Are as ExtentsAre, Wrong as NoExtents}
+use Rattle.scale.specs.declared.OffsetIn.{OffsetIn}
+use Rattle.scale.specs.declared.OffsetIn.the-variants.{Is as OffsetIs, Wrong as NoOffset}
+use Rattle.scale.specs.declared.VolumeIn.{VolumeIn}
+use Rattle.scale.specs.declared.VolumeIn.the-variants.{Is as VolumeIs, Wrong as NoVolume}
+use Rattle.members.specs.declared.ShardingIn.{ShardingIn}
+use Rattle.members.specs.declared.ShardingIn.the-variants.{Is as ShardingIs, Wrong as NoSharding}
+use Rattle.scale.specs.declared.Settings.{Settings}
+use Rattle.scale.specs.declared.Settings.the-variants.{Are as SettingsAre, Wrong as NoSettings}
 use Rattle.places.specs.Places.{elements, member, needed, threeOf, loneOf}
 use Rattle.wholes.specs.Numbers.{decimalAt, goesOn, in32, digitsFrom, wholeFrom, whenIs, naturalAt, negative, aboveOf, belowOf, coordinateAt}
-use Rattle.info.specs.Words.{sizeName, chunksName, offsetName, shardingName, preshiftName, minishardName, shardName}
-use Rattle.info.specs.Settings.{whenAt, whenThree, whenExtents, whenOffset, whenVolume, whenSharding, extentsOf, extentsAt, offsetOf, offsetAt, sizeIn, chunkIn, offsetBy, offsetIn, volumeIn, formed, hashIn, numberIn, shardingOf, numbersOf, numbersIn, shardingAt, shardingIn, settingsAt, scaleAt, settingsOf}
+use Rattle.members.specs.Words.{sizeName, chunksName, offsetName, shardingName, preshiftName, minishardName, shardName}
+use Rattle.scale.specs.Scale.{whenAt, whenThree, whenExtents, whenOffset, whenVolume, whenSharding, extentsOf, extentsAt, offsetOf, offsetAt, sizeIn, chunkIn, offsetBy, offsetIn, volumeIn, formed, hashIn, numberIn, numbersOf, numbersIn, shardingAt, shardingIn, settingsAt}
+use Rattle.members.specs.Values.{shardingOf}
+use Rattle.info.specs.Settings.{scaleAt, settingsOf}
 
 -- ---- numbers are of 32 bits
 

@@ -24,8 +24,8 @@ use Rattle.card.specs.Answers.{recordChecks, fault, readAnswer, writeAnswer, wr
 use Rattle.endian.proofs.Buffer.{written-fits}
 use Rattle.card.proofs.Judged.{write-written}
 use Rattle.card.proofs.Meaning.{one-meaning-one-card}
-use Rattle.info.specs.declared.Settings.{Settings}
-use Rattle.info.specs.declared.Settings.the-variants.{Are as SettingsAre, Wrong as NoSettings}
+use Rattle.scale.specs.declared.Settings.{Settings}
+use Rattle.scale.specs.declared.Settings.the-variants.{Are as SettingsAre, Wrong as NoSettings}
 use Rattle.info.specs.Settings.{settingsOf}
 use Rattle.info.specs.Answers.{noSettings, recordOf, infoChecks, infoAnswer}
 use Rattle.document.specs.Document.{document}

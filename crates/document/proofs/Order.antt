@@ -5,7 +5,7 @@ use mathlib.Core.Bool.{Bool, true, false}
 use mathlib.Core.List.{List, [], _∷_, _++_}
 use Rattle.refusal.specs.Choice.{pick}
 use Rattle.strings.specs.Names.{eqList}
-use Rattle.info.specs.Words.{scalesName, sizeName, chunksName, offsetName, shardingName, typeName, preshiftName, hashName, minishardName, shardName, indexName, dataName}
+use Rattle.members.specs.Words.{scalesName, sizeName, chunksName, offsetName, shardingName, typeName, preshiftName, hashName, minishardName, shardName, indexName, dataName}
 use Rattle.document.specs.Document.{Entry, DocumentOf, times, valuesNamed, memberOf}
 use Rattle.document.specs.Document.DocumentOf.{object}
 use Rattle.document.specs.Said.{sizeOf, chunkOf, volumeOf, typeSaid, numberOf, shardingOn, settingsOn, settingsIn}

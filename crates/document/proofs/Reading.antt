@@ -17,12 +17,14 @@ use Rattle.places.specs.Places.{valueOf, firstIn, itemsBy, elements, members, i
 use Rattle.wholes.specs.Numbers.{whenIs, wholeFrom, naturalAt, aboveOf, belowOf, coordinateAt}
 use Rattle.wholes.specs.declared.Number.{Number}
 use Rattle.wholes.specs.declared.Number.the-variants.{Is, Wrong}
-use Rattle.info.specs.declared.ExtentsIn.the-variants.{Wrong as NoExtents}
-use Rattle.info.specs.declared.OffsetIn.the-variants.{Wrong as NoOffset}
-use Rattle.info.specs.declared.ShardingIn.the-variants.{Wrong as NoSharding}
-use Rattle.info.specs.declared.Settings.the-variants.{Wrong as NoSettings}
-use Rattle.info.specs.Words.{scalesName, sizeName, chunksName, offsetName, shardingName, typeName, preshiftName, hashName, minishardName, shardName, indexName, dataName, typeText, rawText}
-use Rattle.info.specs.Settings.{whenAt, whenThree, extentsOf, extentsAt, offsetOf, offsetAt, sizeIn, chunkIn, offsetBy, offsetIn, volumeIn, typed, rawBy, formed, hashAt, hashIn, numberIn, numbersIn, shardingAt, shardingIn, settingsAt, scaleAt, settingsOf}
+use Rattle.scale.specs.declared.ExtentsIn.the-variants.{Wrong as NoExtents}
+use Rattle.scale.specs.declared.OffsetIn.the-variants.{Wrong as NoOffset}
+use Rattle.members.specs.declared.ShardingIn.the-variants.{Wrong as NoSharding}
+use Rattle.scale.specs.declared.Settings.the-variants.{Wrong as NoSettings}
+use Rattle.members.specs.Words.{scalesName, sizeName, chunksName, offsetName, shardingName, typeName, preshiftName, hashName, minishardName, shardName, indexName, dataName, typeText, rawText}
+use Rattle.scale.specs.Scale.{whenAt, whenThree, extentsOf, extentsAt, offsetOf, offsetAt, sizeIn, chunkIn, offsetBy, offsetIn, volumeIn, typed, formed, hashIn, numberIn, numbersIn, shardingAt, shardingIn, settingsAt}
+use Rattle.members.specs.Values.{rawBy, hashAt}
+use Rattle.info.specs.Settings.{scaleAt, settingsOf}
 use Rattle.document.specs.Document.{Entry, DocumentOf, Document, numberAt, documentAt, document, times, valuesNamed, memberOf, elementsOf, saysText, whenOnce, whenTriple, whenNth}
 use Rattle.document.specs.Document.DocumentOf.{word, number, string, array, object}
 use Rattle.document.specs.Document.Times.{never}

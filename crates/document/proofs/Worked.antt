@@ -16,7 +16,9 @@ use Rattle.sharding.specs.Specification.{allowed}
 use Rattle.card.specs.Layout.{bits32}
 use Rattle.card.specs.Answers.{recordChecks}
 use Rattle.card.specs.Reading.{signed32}
-use Rattle.info.specs.Settings.{extentsOf, extentsAt, offsetOf, offsetAt, sizeIn, chunkIn, offsetBy, offsetIn, volumeIn, typed, rawBy, formed, hashAt, hashIn, numberIn, shardingOf, numbersOf, numbersIn, shardingAt, shardingIn, settingsAt, scaleAt, settingsOf}
+use Rattle.scale.specs.Scale.{extentsOf, extentsAt, offsetOf, offsetAt, sizeIn, chunkIn, offsetBy, offsetIn, volumeIn, typed, formed, hashIn, numberIn, numbersOf, numbersIn, shardingAt, shardingIn, settingsAt}
+use Rattle.members.specs.Values.{rawBy, hashAt, shardingOf}
+use Rattle.info.specs.Settings.{scaleAt, settingsOf}
 use Rattle.info.specs.Answers.{noSettings, recordOf, infoChecks, infoAnswer}
 use Rattle.document.specs.Worked.{Case, cases}
 

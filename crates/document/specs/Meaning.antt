@@ -16,7 +16,7 @@ use Rattle.card.specs.Layout.{cardBytes}
 use Rattle.card.specs.Answers.{recordChecks, readAnswer, writeAnswer, writeLeft}
 use Rattle.card.specs.declared.Card.{Card}
 use Rattle.card.specs.declared.CardAnswer.the-variants.{Says, Refused}
-use Rattle.info.specs.declared.Settings.the-variants.{Are, Wrong}
+use Rattle.scale.specs.declared.Settings.the-variants.{Are, Wrong}
 use Rattle.document.specs.Document.{document}
 use Rattle.document.specs.Said.{settingsIn, saidAnswer}
 use Rattle.info.specs.Answers.{infoChecks, infoAnswer}

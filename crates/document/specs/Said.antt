@@ -14,19 +14,19 @@ use Rattle.card.specs.declared.CardAnswer.the-variants.{Says, Refused}
 use Rattle.wholes.specs.Numbers.{whenIs, aboveOf, belowOf}
 use Rattle.wholes.specs.declared.Number.{Number}
 use Rattle.wholes.specs.declared.Number.the-variants.{Is, Wrong}
-use Rattle.info.specs.declared.ExtentsIn.{ExtentsIn}
-use Rattle.info.specs.declared.ExtentsIn.the-variants.{Wrong as NoExtents}
-use Rattle.info.specs.declared.OffsetIn.{OffsetIn}
-use Rattle.info.specs.declared.OffsetIn.the-variants.{Is as OffsetIs, Wrong as NoOffset}
-use Rattle.info.specs.declared.VolumeIn.{VolumeIn}
-use Rattle.info.specs.declared.VolumeIn.the-variants.{Is as VolumeIs, Wrong as NoVolume}
-use Rattle.info.specs.declared.ShardingIn.{ShardingIn}
-use Rattle.info.specs.declared.ShardingIn.the-variants.{Wrong as NoSharding}
-use Rattle.info.specs.declared.Settings.{Settings}
-use Rattle.info.specs.declared.Settings.the-variants.{Are as SettingsAre, Wrong as NoSettings}
-use Rattle.info.specs.Words.{scalesName, sizeName, chunksName, offsetName, shardingName, typeName, preshiftName, hashName, minishardName, shardName, indexName, dataName, typeText, rawText, identityText, murmurText}
+use Rattle.scale.specs.declared.ExtentsIn.{ExtentsIn}
+use Rattle.scale.specs.declared.ExtentsIn.the-variants.{Wrong as NoExtents}
+use Rattle.scale.specs.declared.OffsetIn.{OffsetIn}
+use Rattle.scale.specs.declared.OffsetIn.the-variants.{Is as OffsetIs, Wrong as NoOffset}
+use Rattle.scale.specs.declared.VolumeIn.{VolumeIn}
+use Rattle.scale.specs.declared.VolumeIn.the-variants.{Is as VolumeIs, Wrong as NoVolume}
+use Rattle.members.specs.declared.ShardingIn.{ShardingIn}
+use Rattle.members.specs.declared.ShardingIn.the-variants.{Wrong as NoSharding}
+use Rattle.scale.specs.declared.Settings.{Settings}
+use Rattle.scale.specs.declared.Settings.the-variants.{Are as SettingsAre, Wrong as NoSettings}
+use Rattle.members.specs.Words.{scalesName, sizeName, chunksName, offsetName, shardingName, typeName, preshiftName, hashName, minishardName, shardName, indexName, dataName, typeText, rawText, identityText, murmurText}
 use Rattle.info.specs.Answers.{noSettings, recordOf}
-use Rattle.info.specs.Settings.{whenExtents, whenOffset, whenVolume, whenSharding, extentsOf, offsetOf, numbersOf}
+use Rattle.scale.specs.Scale.{whenExtents, whenOffset, whenVolume, whenSharding, extentsOf, offsetOf, numbersOf}
 use Rattle.document.specs.Document.{DocumentOf, Document, Times, times, memberOf, elementsOf, saysText, whenOnce, whenTriple, whenNth}
 use Rattle.document.specs.Document.DocumentOf.{word, number, string, array, object}
 use Rattle.document.specs.Document.Times.{never, once, twice}

@@ -5,7 +5,7 @@ use lib.IntN.{ℤ, pos, negsuc}
 use Rattle.sharding.specs.Specification.{volume}
 use Rattle.card.specs.declared.CardAnswer.{CardAnswer}
 use Rattle.card.specs.declared.CardAnswer.the-variants.{Says, Refused}
-use Rattle.info.specs.Words.{scalesName, sizeName, chunksName, offsetName, shardingName, typeName, preshiftName, hashName, minishardName, shardName, indexName, dataName, typeText, rawText, identityText}
+use Rattle.members.specs.Words.{scalesName, sizeName, chunksName, offsetName, shardingName, typeName, preshiftName, hashName, minishardName, shardName, indexName, dataName, typeText, rawText, identityText}
 
 -- ---- writing JSON: strings, objects and arrays of what is given as text
 

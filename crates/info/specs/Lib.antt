@@ -1,5 +1,3 @@
--- The info file: the names that it uses, its settings by places in the text, and what reading answers.
-pub mod Words
+-- The info file: its settings by places in the text, and what reading answers.
 pub mod Settings
-pub mod Parts
 pub mod Answers

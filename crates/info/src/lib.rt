@@ -5,36 +5,7 @@ ghost use mathlib.Core.Path.{_≡_};
 ghost use Rattle.info.specs.Answers.{infoAnswer};
 use card::Card;
 use card::CardAnswer;
-use grid::Extents;
-use grid::Offset;
-use grid::Volume;
-use sharding::Sharding;
-
-// Parts of the settings, if the text has them.
-pub enum ExtentsIn {
-    Are(Extents),
-    Wrong,
-}
-
-pub enum OffsetIn {
-    Is(Offset),
-    Wrong,
-}
-
-pub enum VolumeIn {
-    Is(Volume),
-    Wrong,
-}
-
-pub enum ShardingIn {
-    Is(Sharding),
-    Wrong,
-}
-
-pub enum Settings {
-    Are(Card),
-    Wrong,
-}
+use scale::Settings;
 
 // The settings of the scale as a card says them: refused with 19, 20, 1, 2 or 3.
 // The time is linear in the text: it is walked once as JSON, once along the outermost members, once along the scales to the one that
