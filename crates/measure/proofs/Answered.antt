@@ -30,7 +30,7 @@ use Rattle.stretch.specs.Reading.{RangedShard}
 use Rattle.unlisted.proofs.Counted.{sound-ranged}
 use Rattle.form.specs.Content.{formLength}
 use Rattle.minishard.specs.Writing.{capped}
-use Rattle.settle.specs.Writing.{SettleableShard}
+use Rattle.formlength.specs.Settleable.{SettleableShard}
 use Rattle.settle.proofs.WriteAnswers.{sound-settleable}
 use Rattle.measure.specs.declared.MeasureAnswer.{MeasureAnswer}
 use Rattle.measure.specs.declared.MeasureAnswer.the-variants.{Sound, Refused, Faulty}

@@ -26,7 +26,7 @@ use Rattle.pair.proofs.Laws.{sound-seamed}
 use Rattle.settle.specs.declared.SettleAnswer.{SettleAnswer}
 use Rattle.settle.specs.declared.SettleAnswer.the-variants as S
 use Rattle.settle.specs.Answers.{answerOf, lengthIn, settleIn, leftIn}
-use Rattle.settle.specs.Writing.{SettleableShard}
+use Rattle.formlength.specs.Settleable.{SettleableShard}
 use Rattle.settle.proofs.Answered.{length-by-check, settle-by-check, left-by-check}
 use Rattle.settle.proofs.WriteAnswers.{sound-settleable}
 use Rattle.pairform.specs.Answers.{pairUnlisted, pairLength, pairSettle, pairSettleLeft}

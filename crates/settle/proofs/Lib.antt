@@ -1,6 +1,5 @@
 -- Laws of settling, and demand 3.
 pub mod Refused
 pub mod Answered
-pub mod WriteWhole
 pub mod WriteAnswers
 pub mod Demand3

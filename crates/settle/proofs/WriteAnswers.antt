@@ -27,10 +27,10 @@ use Rattle.stretch.specs.Reading.{RangedShard}
 use Rattle.unlisted.proofs.Counted.{sound-ranged}
 use Rattle.form.specs.Content.{formOf, formLength}
 use Rattle.minishard.specs.Writing.{capped}
+use Rattle.formlength.specs.Settleable.{Settleable, SettleableShard}
 use Rattle.settle.specs.declared.SettleAnswer.{SettleAnswer}
 use Rattle.settle.specs.declared.SettleAnswer.the-variants.{Length, Refused, Faulty}
 use Rattle.settle.specs.Answers.{answerOf, losesBytes, lengthIn, settleIn, leftIn, lengthAnswer, settleAnswer, settleLeft}
-use Rattle.settle.specs.Writing.{Settleable, SettleableShard}
 use Rattle.settle.proofs.Answered.{none-lost, long-out, long-file, not-long, length-in, settle-in, left-in, length-by-check, settle-by-check, left-by-check}
 
 -- ---- the form fits

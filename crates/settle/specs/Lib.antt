@@ -1,3 +1,2 @@
 -- Settling (RULES U5, U6).
 pub mod Answers
-pub mod Writing

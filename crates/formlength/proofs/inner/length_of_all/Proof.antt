@@ -1,7 +1,7 @@
 use Prim.Native.Nat.{_-_}
-use Rattle.settle.proofs.WriteWhole.{Summing, summing}
-use Rattle.settle.proofs.inner.length_of_all.Statement.{statement}
-use Rattle.settle.proofs.inner.length_of_all.Tie as tie
+use Rattle.formlength.proofs.Lengths.{Summing, summing}
+use Rattle.formlength.proofs.inner.length_of_all.Statement.{statement}
+use Rattle.formlength.proofs.inner.length_of_all.Tie as tie
 
 abbrev Inv-loop : tie.InvT-loop
 Inv-loop spec index «data» n sum₀ m₀ sum m = Summing spec index «data» n m sum

@@ -1,6 +1,6 @@
-use Rattle.settle.proofs.WriteWhole.{reading}
-use Rattle.settle.proofs.inner.one_length.Statement.{statement}
-use Rattle.settle.proofs.inner.one_length.Tie as tie
+use Rattle.formlength.proofs.Lengths.{reading}
+use Rattle.formlength.proofs.inner.one_length.Statement.{statement}
+use Rattle.formlength.proofs.inner.one_length.Tie as tie
 
 pub one-length-spec : {M : Type 1} → statement M
 one-length-spec =

@@ -1,16 +1,15 @@
--- What the inner functions of settling take and make, over a shard index and the data behind it.
+-- What settling relies on, over a shard index and the data behind it, and the lengths that are added up.
 use Prim.Native.Nat.{ℕ, _+_, _*_, _-_, _%_, _≤_, _<_}
 use mathlib.Core.Path.{_≡_}
 use mathlib.Core.Bool.{true}
 use mathlib.Core.Logic.{_⊎_}
-use mathlib.Core.List.{List, [], _∷_}
+use mathlib.Core.List.{List}
 use lib.ListN.{length}
-use Rattle.endian.specs.Little.{row}
 use Rattle.sharding.specs.declared.Sharding.{Sharding}
 use Rattle.sharding.specs.Specification.{allowed, minishardCount}
 use Rattle.index.specs.Index.{entryStart, entryEnd, entryCount, idSteps, startSteps, sizes, idAt, startAt, endAt}
-use Rattle.shard.specs.Items.{Item, Led}
-use Rattle.form.specs.Form.{partsLength, entryBegin, entryFinish}
+use Rattle.shard.specs.Items.{Led}
+use Rattle.form.specs.Form.{partsLength}
 use Rattle.form.specs.Content.{contentFrom}
 use Rattle.minishard.specs.Writing.{minishardLength}
 
@@ -42,7 +41,3 @@ oneLength spec index d m = minishardLength spec d (entryStart index m) (entryCou
 
 abbrev pub wholeLength : Sharding → List ℕ → List ℕ → ℕ → ℕ
 wholeLength spec index d n = 16 * n + partsLength (contentFrom spec index d 0 n)
-
--- the entry in the settled shard index of a minishard at p
-unfoldable pub entryBytes : ℕ → List Item → List ℕ
-entryBytes p items = row (entryBegin p items ∷ entryFinish p items ∷ [])

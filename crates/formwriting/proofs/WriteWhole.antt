@@ -1,13 +1,9 @@
--- A whole shard: a minishard with its entry, and a turn over the minishards, writing them and adding up their lengths.
-use Prim.Native.Nat.{ℕ, suc, _+_, _*_, _-_, _/_, _^_, _≤_, _<_}
+-- A whole shard: a minishard with its entry, and a turn over the minishards that writes them.
+use Prim.Native.Nat.{ℕ, _+_, _*_, _-_, _/_, _^_, _≤_, _<_}
 use mathlib.Core.Path.{_≡_, refl, sym, ap, _∙_}
-use mathlib.Core.Bool.{true}
-use mathlib.Core.Logic.{_⊎_, ⊎-elim}
 use mathlib.Core.List.{List, [], _∷_, _++_, append-assoc, append-nil}
 use native.Mathlib.Omega.{arith}
-use native.Mathlib.Nat.{sub-zero, eq-or-lt-of-le, not-suc-le-zero}
-use native.Mathlib.Numerals.{add-one}
-use borrow.Author.Count.{falls}
+use native.Mathlib.Nat.{sub-zero, not-suc-le-zero}
 use borrow.Author.Needs.{needs}
 use mir.Val.{Fits}
 use mir.Syntax.{w64}
@@ -18,49 +14,24 @@ use Rattle.endian.specs.Place.{paste}
 use Rattle.endian.proofs.Little.{length-le, length-row}
 use Rattle.endian.proofs.Paste.{paste-nil, paste-front, paste-on, paste-then, paste-apart}
 use Rattle.sharding.specs.declared.Sharding.{Sharding}
-use Rattle.sharding.specs.Specification.{allowed, minishardCount}
+use Rattle.sharding.specs.Specification.{minishardCount}
 use Rattle.index.specs.Index.{entryStart, entryEnd, entryCount, mostShardBytes}
 use Rattle.shard.specs.Items.{Item}
-use Rattle.form.specs.Form.{chunksOf, chunksLength, idRow, startRow, sizeRow, indexOf, partOf, partLength, partsFrom, partsLength, entryBegin, entryFinish, entriesFrom, settled, settledLength}
+use Rattle.form.specs.Form.{chunksOf, chunksLength, idRow, startRow, sizeRow, indexOf, partOf, partLength, partsFrom, partsLength, entryBegin, entryFinish, entriesFrom, settled}
 use Rattle.form.specs.Sorted.{sortBy}
-use Rattle.form.specs.Content.{itemsAt, itemsOf, byId, contentFrom, contentOf, formOf, formLength}
-use Rattle.settle.specs.Writing.{Settleable, SettleableIn, SettleableParts, SettleableShard, oneLength, wholeLength, entryBytes}
-use Rattle.form.proofs.Measures.{length-part, length-items, chunks-by-id, length-by-id, part-by-id, length-shard-index, length-content-from, length-content}
-use Rattle.minishard.specs.Writing.{Readable, LeadsIn, Apart, minishardLength, capped}
-use Rattle.stored.proofs.StoredRows.{items-none, items-all}
+use Rattle.form.specs.Content.{itemsAt, itemsOf, byId, contentFrom, formOf, formLength}
+use Rattle.formlength.specs.Settleable.{SettleableIn, oneLength, wholeLength}
+use Rattle.formwriting.specs.Entry.{entryBytes}
+use Rattle.form.proofs.Measures.{length-part, length-items, chunks-by-id, length-by-id, part-by-id, length-shard-index, length-content-from}
+use Rattle.formlength.proofs.Lengths.{stored-length, sorted-length, none-items, ordered-read, readable-read, leads-read, none-length-read, content-none, from, from-cons, length-next, length-none, each-at, entry-at, permitted-shard, whole-content, whole-length, parts-counted}
+use Rattle.minishard.specs.Writing.{Apart, minishardLength}
 use Rattle.sorted.proofs.Copying.{paste-both}
 
 -- ---- one minishard and its entry
 
-stored-length : (spec : Sharding) (d : List ℕ) (s n : ℕ) → partLength (itemsAt spec d s n) ≡ minishardLength spec d s n
-unfolding partLength
-stored-length spec d s n = rw (length-items spec d s n)
-
-sorted-length : (spec : Sharding) (index d : List ℕ) (m : ℕ) → partLength (byId (itemsOf spec index d m)) ≡ oneLength spec index d m
-sorted-length spec index d m = part-by-id (itemsOf spec index d m) ∙ stored-length spec d (entryStart index m) (entryCount (entryStart index m) (entryEnd index m))
-
--- a minishard that is not empty has entries, and all of its minishard index
-readable : (spec : Sharding) (d : List ℕ) (s e : ℕ) → Settleable spec d s e → (s ≡ e → ⊥) → Readable d s (entryCount s e)
-readable spec d s e t h =
-    let o = t .ordered in
-    let w = t .whole in
-    let l : e ≤ length d = ⊎-elim (λ q. absurd (h q)) (λ q. q) (t .within) in
-    let k : s < e = ⊎-elim (λ q. absurd (h q)) (λ q. q) (apart s e o) in
-    record { some = omega arith; index = omega arith; inside = t .inside }
-  where
-    apart : (a b : ℕ) → a ≤ b → (a ≡ b) ⊎ (a < b)
-    apart a b q = eq-or-lt-of-le q
-
-none-items : (spec : Sharding) (d : List ℕ) (s e : ℕ) → s ≡ e → itemsAt spec d s (entryCount s e) ≡ []
-none-items spec d s e q = items-all spec d s (entryCount s e) ∙ items-none spec d s (entryCount s e) 0 (entryCount s e) (omega arith)
-
 none-sorted : (spec : Sharding) (d : List ℕ) (s e : ℕ) → s ≡ e → byId (itemsAt spec d s (entryCount s e)) ≡ []
 unfolding byId sortBy
 none-sorted spec d s e q = rw (none-items spec d s e q)
-
-none-length : (spec : Sharding) (d : List ℕ) (s e : ℕ) → s ≡ e → 0 ≡ minishardLength spec d s (entryCount s e)
-unfolding chunksLength
-none-length spec d s e q = rw (none-items spec d s e q) (omega arith)
 
 none-written : (spec : Sharding) (d : List ℕ) (s e p at at′ : ℕ) (o : List ℕ) → s ≡ e
     → paste at (row (0 ∷ 0 ∷ [])) o ≡ paste at (entryBytes p (byId (itemsAt spec d s (entryCount s e)))) (paste at′ (partOf p (byId (itemsAt spec d s (entryCount s e)))) o)
@@ -86,23 +57,8 @@ entry-written b e at o l u v =
 
 -- of a minishard whose entry was read: s and e are what was read
 module _ (spec : Sharding) (index d : List ℕ) (m : ℕ) {s e : ℕ} (es : s ≡ entryStart index m) (ee : e ≡ entryEnd index m) where
-  pub ordered-read : SettleableIn spec index d m → s ≤ e
-  ordered-read t = rw (es, ee) (t .ordered)
-
-  pub readable-read : SettleableIn spec index d m → (s ≡ e → ⊥) → Readable d s ((e - s) / 24)
-  readable-read t h = readable spec d s e (rw (es, ee) t) h
-
-  pub leads-read : SettleableIn spec index d m → LeadsIn spec d s ((e - s) / 24)
-  leads-read t = record { led = rw (es, ee) (t .led) }
-
   pub apart-read : SettleableIn spec index d m → Apart d s ((e - s) / 24)
   apart-read t = record { ids = rw (es, ee) (t .distinct) }
-
-  pub none-length-read : s ≡ e → 0 ≡ oneLength spec index d m
-  none-length-read q = none-length spec d (entryStart index m) (entryEnd index m) (rw (es, ee) at q)
-
-  pub none-capped-read : s ≡ e → 0 ≡ capped (oneLength spec index d m)
-  none-capped-read q = omega (arith, none-length-read q)
 
   pub none-read : (base p : ℕ) (o : List ℕ) {o₁ : List ℕ} → s ≡ e → o₁ ≡ paste (16 * m) (row (0 ∷ 0 ∷ [])) o
       → o₁ ≡ paste (16 * m) (entryBytes p (byId (itemsOf spec index d m))) (paste (base + p) (partOf p (byId (itemsOf spec index d m))) o)
@@ -110,9 +66,6 @@ module _ (spec : Sharding) (index d : List ℕ) (m : ℕ) {s e : ℕ} (es : s �
 
   pub length-read : {len : ℕ} → len ≡ minishardLength spec d s ((e - s) / 24) → len ≡ oneLength spec index d m
   length-read h = h ∙ rw (es, ee)
-
-  pub capped-read : {len : ℕ} → len ≡ capped (minishardLength spec d s ((e - s) / 24)) → len ≡ capped (oneLength spec index d m)
-  capped-read h = h ∙ rw (es, ee)
 
   pub room-read : (base p : ℕ) (out : List ℕ) → base + p + oneLength spec index d m ≤ length out → base + p + minishardLength spec d s ((e - s) / 24) ≤ length out
   room-read base p out h = rw (es, ee) h
@@ -132,19 +85,11 @@ module _ (spec : Sharding) (index d : List ℕ) (m : ℕ) {s e : ℕ} (es : s �
       let n = (e - s) / 24 in
       let a : p + len - 24 * n ≡ p + chunksLength (itemsAt spec d s n) = omega arith in
       let b : p + len ≡ p + minishardLength spec d s n = omega arith in
-      w₂ ∙ rw (a, b, w₁, ← some-entry spec d s n p (readable-read t h .some), es, ee)
+      w₂ ∙ rw (a, b, w₁, ← some-entry spec d s n p (readable-read spec index d m es ee t h .some), es, ee)
 
-pub ruleset reading = (entry-written, ordered-read, readable-read, leads-read, apart-read, none-length-read, none-capped-read, none-read, length-read, capped-read, room-read, most-read, end-read, one-read, needs)
+pub ruleset reading = (entry-written, ordered-read, readable-read, leads-read, apart-read, none-length-read, none-read, length-read, room-read, most-read, end-read, one-read, needs)
 
 -- ---- the shard
-
-content-cons : (spec : Sharding) (index d : List ℕ) (m k : ℕ) → contentFrom spec index d m (suc k) ≡ byId (itemsOf spec index d m) ∷ contentFrom spec index d (suc m) k
-unfolding contentFrom
-content-cons spec index d m k = refl
-
-content-none : (spec : Sharding) (index d : List ℕ) (m k : ℕ) → k ≡ 0 → contentFrom spec index d m k ≡ []
-unfolding contentFrom
-content-none spec index d m k e = rw e
 
 entries-cons : (p : ℕ) (xs : List Item) (c : List (List Item)) → row (entriesFrom p (xs ∷ c)) ≡ entryBytes p xs ++ row (entriesFrom (p + partLength xs) c)
 unfolding entriesFrom row entryBytes
@@ -162,33 +107,9 @@ parts-nil : (p : ℕ) (c : List (List Item)) → c ≡ [] → partsFrom p c ≡ 
 unfolding partsFrom
 parts-nil p c e = rw e
 
-length-nil : (c : List (List Item)) → c ≡ [] → partsLength c ≡ 0
-unfolding partsLength
-length-nil c e = rw e
-
-length-cons : (xs : List Item) (c : List (List Item)) → partsLength (xs ∷ c) ≡ partLength xs + partsLength c
-unfolding partsLength
-length-cons xs c = refl
-
 length-entry : (p : ℕ) (xs : List Item) → length (entryBytes p xs) ≡ 16
 unfolding entryBytes
 length-entry p xs = length-row (entryBegin p xs ∷ entryFinish p xs ∷ [])
-
--- minishards from m on
-abbrev pub from : Sharding → List ℕ → List ℕ → ℕ → ℕ → List (List Item)
-from spec index d n m = contentFrom spec index d m (n - m)
-
-module _ (spec : Sharding) (index d : List ℕ) (n m : ℕ) (l : m < n) where
-  from-cons : from spec index d n m ≡ byId (itemsOf spec index d m) ∷ from spec index d n (m + 1)
-  from-cons =
-      let e : n - m ≡ suc (n - (m + 1)) = omega arith in
-      rw (e, content-cons spec index d m (n - (m + 1)), add-one m)
-
-  length-next : partsLength (from spec index d n m) ≡ oneLength spec index d m + partsLength (from spec index d n (m + 1))
-  length-next = rw from-cons (length-cons _ _ ∙ rw (sorted-length spec index d m))
-
-length-none : (spec : Sharding) (index d : List ℕ) (n m : ℕ) → n ≤ m → partsLength (from spec index d n m) ≡ 0
-length-none spec index d n m l = length-nil (from spec index d n m) (content-none spec index d m (n - m) (omega arith))
 
 -- nothing is left to write
 paste-done : (at : ℕ) (xs d : List ℕ) {e : List ℕ} → xs ≡ [] → paste at xs d ≡ e → d ≡ e
@@ -265,74 +186,25 @@ module _ {spec : Sharding} {index d : List ℕ} {n : ℕ} {out₀ out : List ℕ
         paste-done (16 * n + p) (partsFrom p (from spec index d n m)) out (parts-nil p (from spec index d n m) z)
         (paste-done (16 * m) (row (entriesFrom p (from spec index d n m))) _ (entries-nil p (from spec index d n m) z) (h .left))
 
-module _ {spec : Sharding} {index d : List ℕ} {n m : ℕ} (a : SettleableParts spec index d n) (l : m < n) where
-  pub each-at : SettleableIn spec index d m
-  each-at = a .each m l
-
-  pub entry-at : 16 * m + 16 ≤ length index
-  entry-at = omega (arith, a .held)
-
 pub ruleset settling = (settling-first, settling-next, each-at, entry-at, one-room, one-most, place-fits, end-fits, end-is, all-there, needs)
-
--- ---- the loop that adds up the lengths, up to the first one that is refused
-
-pub record Summing (spec : Sharding) (index d : List ℕ) (n m sum : ℕ) : Type 0 where
-  pub below : m ≤ n
-  pub most : sum ≤ mostShardBytes + 1
-  pub left : capped (sum + partsLength (from spec index d n m)) ≡ capped (wholeLength spec index d n)
-
-pub summing-first : (spec : Sharding) (index d : List ℕ) (n : ℕ) {sum : ℕ} → sum ≡ capped (0 + 16 * n) → Summing spec index d n 0 sum
-summing-first spec index d n e = record { below = omega arith; most = omega arith; left = rw sub-zero (omega arith) }
-
-pub summing-next : {spec : Sharding} {index d : List ℕ} {n m sum : ℕ} → Summing spec index d n m sum → m < n → (len : ℕ) {sum′ : ℕ} → len ≡ capped (oneLength spec index d m) → sum′ ≡ capped (sum + len)
-    → Summing spec index d n (m + 1) sum′
-summing-next {spec} {index} {d} {n} {m} {sum} h l len {sum′} el e =
-    let t = length-next spec index d n m l in
-    let g : capped (sum + (oneLength spec index d m + partsLength (from spec index d n (m + 1)))) ≡ capped (wholeLength spec index d n) = rw t at (h .left) in
-    record { below = omega arith; most = omega arith; left = step sum (oneLength spec index d m) (partsLength (from spec index d n (m + 1))) len sum′ el e ∙ g }
-  where
-    step : (a x r len b : ℕ) → len ≡ capped x → b ≡ capped (a + len) → capped (b + r) ≡ capped (a + (x + r))
-    step a x r len b p q = omega arith
-
-pub summed : {spec : Sharding} {index d : List ℕ} {n m sum : ℕ} → Summing spec index d n m sum → n ≤ m → sum ≡ capped (wholeLength spec index d n)
-summed {spec} {index} {d} {n} {m} h l = let g = h .most in omega (arith, h .left, length-none spec index d n m l)
-
-pub ruleset summing = (summing-first, summing-next, summed, each-at, entry-at, falls, needs)
 
 -- ---- of n minishards, where n is the number that the specification gives
 
-pub permitted-shard : {spec : Sharding} {index d : List ℕ} → SettleableShard spec index d → allowed spec ≡ true
-permitted-shard h = h .permitted
-
 module _ (spec : Sharding) (index d : List ℕ) {n : ℕ} (e : n ≡ minishardCount spec) where
-  whole-content : contentFrom spec index d 0 n ≡ contentOf spec index d
-  unfolding contentOf
-  whole-content = rw e
-
-  whole-length : wholeLength spec index d n ≡ formLength spec index d
-  unfolding formLength settledLength
-  whole-length = rw whole-content (omega (arith, length-content spec index d))
-
   whole-form : settled (contentFrom spec index d 0 n) ≡ formOf spec index d
   unfolding formOf
-  whole-form = ap settled whole-content
-
-  pub parts-counted : SettleableShard spec index d → SettleableParts spec index d n
-  parts-counted h = rw e (h .parts)
+  whole-form = ap settled (whole-content spec index d e)
 
   pub room-counted : (out : List ℕ) → formLength spec index d ≤ length out → wholeLength spec index d n ≤ length out
-  room-counted out h = rw whole-length h
+  room-counted out h = rw (whole-length spec index d e) h
 
   pub most-counted : formLength spec index d ≤ mostShardBytes → wholeLength spec index d n ≤ mostShardBytes
-  most-counted h = rw whole-length h
+  most-counted h = rw (whole-length spec index d e) h
 
   pub length-counted : {r : ℕ} → r ≡ wholeLength spec index d n → r ≡ formLength spec index d
-  length-counted h = h ∙ whole-length
-
-  pub capped-counted : {r : ℕ} → r ≡ capped (wholeLength spec index d n) → r ≡ capped (formLength spec index d)
-  capped-counted h = h ∙ ap (λ (x : ℕ). capped x) whole-length
+  length-counted h = h ∙ whole-length spec index d e
 
   pub form-counted : (o : List ℕ) {out : List ℕ} → out ≡ paste 0 (settled (contentFrom spec index d 0 n)) o → out ≡ over (formOf spec index d) o
   form-counted o h = rw whole-form at h ∙ paste-front (formOf spec index d) o (length (formOf spec index d)) refl
 
-pub ruleset counting = (permitted-shard, parts-counted, room-counted, most-counted, length-counted, capped-counted, form-counted, needs)
+pub ruleset counting = (permitted-shard, parts-counted, room-counted, most-counted, length-counted, form-counted, needs)

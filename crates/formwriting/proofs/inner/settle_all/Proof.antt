@@ -1,7 +1,7 @@
 use Prim.Native.Nat.{_-_}
-use Rattle.settle.proofs.WriteWhole.{Settling, settling}
-use Rattle.settle.proofs.inner.settle_all.Statement.{statement}
-use Rattle.settle.proofs.inner.settle_all.Tie as tie
+use Rattle.formwriting.proofs.WriteWhole.{Settling, settling}
+use Rattle.formwriting.proofs.inner.settle_all.Statement.{statement}
+use Rattle.formwriting.proofs.inner.settle_all.Tie as tie
 
 abbrev Inv-loop : tie.InvT-loop
 Inv-loop spec index «data» n out₀ base m₀ p₀ out m p = Settling spec index «data» n out₀ out m p

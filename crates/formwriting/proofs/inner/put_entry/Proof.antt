@@ -1,6 +1,6 @@
-use Rattle.settle.proofs.WriteWhole.{reading}
-use Rattle.settle.proofs.inner.put_entry.Statement.{statement}
-use Rattle.settle.proofs.inner.put_entry.Tie as tie
+use Rattle.formwriting.proofs.WriteWhole.{reading}
+use Rattle.formwriting.proofs.inner.put_entry.Statement.{statement}
+use Rattle.formwriting.proofs.inner.put_entry.Tie as tie
 
 pub put-entry-spec : {M : Type 1} → statement M
 put-entry-spec =

@@ -1,6 +1,6 @@
-use Rattle.settle.proofs.WriteWhole.{reading}
-use Rattle.settle.proofs.inner.settle_one.Statement.{statement}
-use Rattle.settle.proofs.inner.settle_one.Tie as tie
+use Rattle.formwriting.proofs.WriteWhole.{reading}
+use Rattle.formwriting.proofs.inner.settle_one.Statement.{statement}
+use Rattle.formwriting.proofs.inner.settle_one.Tie as tie
 
 pub settle-one-spec : {M : Type 1} → statement M
 settle-one-spec =

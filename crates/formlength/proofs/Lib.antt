@@ -1,0 +1,2 @@
+-- Laws of the settled length.
+pub mod Lengths

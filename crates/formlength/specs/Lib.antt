@@ -1,0 +1,2 @@
+-- What settling relies on, and the lengths that are added up.
+pub mod Settleable

@@ -1,0 +1,2 @@
+// The length of the settled form of a shard.
+pub mod inner;

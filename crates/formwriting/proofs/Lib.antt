@@ -1,0 +1,2 @@
+-- Laws of writing a settled form.
+pub mod WriteWhole

@@ -1,0 +1,2 @@
+// Writing the settled form of a shard.
+pub mod inner;
