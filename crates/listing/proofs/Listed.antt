@@ -12,9 +12,10 @@ use Rattle.shard.specs.File.{indexLength, indexPart, dataPart}
 use Rattle.shard.specs.Items.{Item}
 use Rattle.shard.specs.Lists.{ListsAt, ListsItem}
 use Rattle.shard.proofs.Chunks.{item-at}
-use Rattle.listing.specs.Listing.{listingIn, listingOf}
+use Rattle.entries.specs.Entries.{listingIn}
+use Rattle.entries.proofs.Entries.{triple, length-entries, entry-number}
+use Rattle.listing.specs.Listing.{listingOf}
 use Rattle.listing.specs.Triples.{Says}
-use Rattle.listing.proofs.Entries.{triple, length-entries, entry-number}
 
 module _ (spec : Sharding) (file : List ℕ) (m : ℕ) (held : indexLength spec ≤ length file) where
   abbrev x : List ℕ

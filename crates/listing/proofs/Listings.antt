@@ -14,7 +14,7 @@ use Rattle.refusal.proofs.Tests.{neither, told-no, told-yes}
 use Rattle.refusal.proofs.Refusing.{first-both}
 use Rattle.refusal.proofs.Positions.{at-both}
 use Rattle.endian.specs.Place.{paste}
-use Rattle.endian.proofs.Paste.{paste-nil, paste-front}
+use Rattle.endian.proofs.Paste.{paste-front}
 use Rattle.sharding.specs.declared.Sharding.{Sharding}
 use Rattle.sharding.specs.Specification.{allowed, minishardCount, shardCount, noSuchShard}
 use Rattle.index.specs.declared.Fault.{Fault}
@@ -23,15 +23,16 @@ use Rattle.shard.specs.Faults.{faultOf}
 use Rattle.shard.specs.Checks.{minishardChecks}
 use Rattle.shard.specs.File.{indexLength, indexPart, dataPart, badFileLength, fileChecks}
 use Rattle.shard.specs.Sound.{SoundMinishard}
-use Rattle.index.specs.Reading.{Readable, ReadableIn}
+use Rattle.index.specs.Reading.{ReadableIn}
 use Rattle.shard.proofs.Judged.{passes-minishard}
 use Rattle.shard.proofs.Numbers.{or-none, unless-some, unless-none, minishard-number, minishard-answer, file-in, file-picks, file-answer, file-called}
 use Rattle.shard.proofs.Passed.{sound-readable}
 use Rattle.shard.proofs.Split.{restOf, rest-whole, rest-short, front-index, length-short, length-long, length-good, index-short}
+use Rattle.entries.specs.Entries.{listingIn}
+use Rattle.entries.proofs.Entries.{length-entries}
 use Rattle.listing.specs.declared.CountAnswer.{CountAnswer}
 use Rattle.listing.specs.declared.CountAnswer.the-variants.{Count, Refused, Faulty}
-use Rattle.listing.specs.Listing.{entriesFrom, listingIn, listingOf, listedCount, countIn, countChecks, countAnswer, listingAnswer, listingLeft}
-use Rattle.listing.proofs.Entries.{length-entries}
+use Rattle.listing.specs.Listing.{listingOf, listedCount, countIn, countChecks, countAnswer, listingAnswer, listingLeft}
 use Rattle.listing.proofs.Refused.{listing-picks, left-picks}
 
 -- how many chunks minishard m lists
@@ -64,29 +65,6 @@ module _ (spec : Sharding) (shard m : ℕ) (x d : List ℕ) {r : Fault} (p : r �
 pub parts-count : (spec : Sharding) (file : List ℕ) (shard m : ℕ) {n : ℕ} → n ≡ indexLength spec → {a : CountAnswer}
     → a ≡ countIn spec shard (take n file) (restOf n file) m → a ≡ countIn spec shard (indexPart spec file) (dataPart spec file) m
 parts-count spec file shard m {n} e r = rw (rest-whole n file, e) at r
-
--- ---- over two parts: the entry as it was read
-
-module _ (x d : List ℕ) (m : ℕ) {s e : ℕ} (u : s ≡ entryStart x m) (v : e ≡ entryEnd x m) where
-  pub read-order : ReadableIn x d m → s ≤ e
-  read-order r = rw (u, v) (r .ordered)
-
-  pub read-entries : ReadableIn x d m → (s ≡ e → ⊥) → Readable (length x) d s (entryCount s e)
-  read-entries r n = rw (u, v) (r .some (λ q. n (u ∙ q ∙ sym v)))
-
-  pub read-room : (out : List ℕ) → 3 * countOf x m ≤ length out → 3 * entryCount s e ≤ length out
-  read-room out h = rw (u, v) h
-
-  pub read-listing : (out : List ℕ) {out′ : List ℕ} → out′ ≡ paste 0 (entriesFrom (length x) d s (entryCount s e) 0 (entryCount s e)) out → out′ ≡ paste 0 (listingIn x d m) out
-  unfolding listingIn
-  read-listing out w = rw (u, v) at w
-
-  -- of an empty minishard nothing is written
-  pub read-empty : (out : List ℕ) → s ≡ e → out ≡ paste 0 (listingIn x d m) out
-  unfolding listingIn entriesFrom
-  read-empty out q =
-      let z : countOf x m ≡ 0 = omega arith in
-      rw z (sym (paste-nil 0 out))
 
 -- ---- in a file: 1, 5, 6, then as above
 

@@ -1,6 +1,6 @@
 -- The listing of a minishard, in stored order: three numbers for each entry (RULES L5, R2): 1, 5, 6,
 -- then 7 to 11 of that minishard, for a mesh also 15 to 17 and 21, with their position, then 13.
-use Prim.Native.Nat.{ℕ, zero, suc, _+_}
+use Prim.Native.Nat.{ℕ}
 use mathlib.Core.Bool.{_||_}
 use mathlib.Core.List.{List, [], _∷_, _++_}
 use lib.Dec.{leb}
@@ -9,26 +9,14 @@ use Rattle.refusal.specs.Checks.{Check, answeredAt, left}
 use Rattle.refusal.specs.Buffer.{room, over}
 use Rattle.sharding.specs.declared.Sharding.{Sharding}
 use Rattle.sharding.specs.Specification.{minishardCount, noSuchShard}
-use Rattle.index.specs.Index.{entryStart, entryEnd, entryCount, idSteps, startSteps, sizes, idAt, startAt}
+use Rattle.index.specs.Index.{entryStart, entryEnd, entryCount}
 use Rattle.shard.specs.Checks.{minishardChecks}
 use Rattle.shard.specs.File.{indexPart, dataPart, fileChecks}
+use Rattle.entries.specs.Entries.{listingIn}
 use Rattle.listing.specs.declared.CountAnswer.{CountAnswer}
 use Rattle.listing.specs.declared.CountAnswer.the-variants.{Count, Refused, Faulty}
 
--- k entries from entry i on, of the n at s in a file whose shard index has `base` bytes: id, place in the file, length
-unfoldable pub entriesFrom : ℕ → List ℕ → ℕ → ℕ → ℕ → ℕ → List ℕ
-entriesFrom base d s n i zero = []
-entriesFrom base d s n i (suc k) =
-    idAt (idSteps d s) i ∷ (base + startAt (startSteps d s n) (sizes d s n) i) ∷ sizes d s n i ∷ entriesFrom base d s n (suc i) k
-
--- the listing of minishard m of a shard of two parts
-unfoldable pub listingIn : List ℕ → List ℕ → ℕ → List ℕ
-listingIn index d m =
-    let s = entryStart index m in
-    let n = entryCount s (entryEnd index m) in
-    entriesFrom (length index) d s n 0 n
-
--- of a file
+-- the listing of minishard m of a file
 abbrev pub listingOf : Sharding → List ℕ → ℕ → List ℕ
 listingOf spec file m = listingIn (indexPart spec file) (dataPart spec file) m
 

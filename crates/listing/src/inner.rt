@@ -8,7 +8,7 @@ ghost use Rattle.index.specs.Index.{mostShardBytes};
 ghost use Rattle.shard.specs.File.{indexLength, indexPart, dataPart};
 ghost use Rattle.listing.specs.Listing.{countIn};
 use crate::CountAnswer;
-use crate::rows::count_in;
+use entries::rows::count_in;
 use judge::judge;
 use shard::inner::index_length;
 use sharding::Sharding;

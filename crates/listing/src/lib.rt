@@ -1,9 +1,9 @@
 // The listing of a minishard: how many chunks it lists, and the id, place and length of each.
 pub mod inner;
-pub mod rows;
 
 ghost use mathlib.Core.Path.{_≡_};
 ghost use Rattle.listing.specs.Listing.{countAnswer, listingAnswer, listingLeft};
+use entries::rows::put_listing;
 use shard::inner::MOST_SHARD_BYTES;
 use shard::inner::index_length;
 use sharding::Sharding;
@@ -58,7 +58,7 @@ pub fn listing(
                 return CountAnswer::Refused(13);
             }
             let n = index_length(spec);
-            rows::put_listing(&file[..n], &file[n..], minishard, out);
+            put_listing(&file[..n], &file[n..], minishard, out);
             CountAnswer::Count(3 * count)
         }
         CountAnswer::Refused(number) => CountAnswer::Refused(number),

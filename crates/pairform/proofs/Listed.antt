@@ -17,9 +17,10 @@ use Rattle.index.specs.Reading.{ReadableIn}
 use Rattle.shard.specs.File.{indexLength}
 use Rattle.seam.specs.Pair.{pairChecks, lengthNumber}
 use Rattle.seam.proofs.Pairs.{checks-seamed, number-seamed, seamed-index, seamed-data, seamed-front, seamed-rest, seam-measured, seam-short, pair-1, pair-5, pair-length, pair-inside}
+use Rattle.entries.specs.Entries.{listingIn}
 use Rattle.listing.specs.declared.CountAnswer.{CountAnswer}
 use Rattle.listing.specs.declared.CountAnswer.the-variants.{Count, Refused, Faulty}
-use Rattle.listing.specs.Listing.{listingIn, countIn, countAnswer, listingAnswer, listingLeft}
+use Rattle.listing.specs.Listing.{countIn, countAnswer, listingAnswer, listingLeft}
 use Rattle.listing.proofs.Listings as one
 use Rattle.pairform.specs.Answers.{noMinishard, pairCount, pairListing, pairListingLeft}
 

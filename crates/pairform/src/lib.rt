@@ -1,9 +1,9 @@
 // A shard of the earlier edition, an index file and a data file: its listings, its unlisted bytes and its settled form, as for the two joined.
 ghost use mathlib.Core.Path.{_≡_};
 ghost use Rattle.pairform.specs.Answers.{pairCount, pairListing, pairListingLeft, pairUnlisted, pairLength, pairSettle, pairSettleLeft};
+use entries::rows::put_listing;
 use listing::CountAnswer;
 use listing::inner::count_parts;
-use listing::rows::put_listing;
 use pair::check;
 use seam::inner::length_number;
 use settle::SettleAnswer;

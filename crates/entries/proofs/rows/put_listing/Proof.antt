@@ -1,8 +1,8 @@
 -- The listing of a minishard, by its entry.
 use borrow.Author.Needs.{needs}
-use Rattle.listing.proofs.Listings.{read-order, read-entries, read-room, read-listing, read-empty}
-use Rattle.listing.proofs.rows.put_listing.Statement.{statement}
-use Rattle.listing.proofs.rows.put_listing.Tie as tie
+use Rattle.entries.proofs.Reading.{read-order, read-entries, read-room, read-listing, read-empty}
+use Rattle.entries.proofs.rows.put_listing.Statement.{statement}
+use Rattle.entries.proofs.rows.put_listing.Tie as tie
 
 pub put-listing-spec : {M : Type 1} → statement M
 put-listing-spec =

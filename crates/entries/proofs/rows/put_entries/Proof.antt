@@ -6,11 +6,11 @@ use lib.ListN.{length}
 use borrow.Author.Needs.{needs}
 use Rattle.endian.specs.Place.{paste}
 use Rattle.index.specs.Index.{idSteps, startSteps, sizes}
-use Rattle.listing.specs.Listing.{entriesFrom}
+use Rattle.entries.specs.Entries.{entriesFrom}
 use Rattle.index.proofs.Tally.{Tally, tally-start, tally-place-fits, tally-turn}
-use Rattle.listing.proofs.Entries.{listing-first, listing-next, listing-last, listing-length}
-use Rattle.listing.proofs.rows.put_entries.Statement.{statement}
-use Rattle.listing.proofs.rows.put_entries.Tie as tie
+use Rattle.entries.proofs.Entries.{listing-first, listing-next, listing-last, listing-length}
+use Rattle.entries.proofs.rows.put_entries.Statement.{statement}
+use Rattle.entries.proofs.rows.put_entries.Tie as tie
 
 abbrev Inv-loop : tie.InvT-loop
 Inv-loop base d p n out₀ q t end₀ id₀ i₀ out end id i =

@@ -6,7 +6,7 @@ ghost use lib.ListN.{length};
 ghost use Rattle.endian.specs.Place.{paste};
 ghost use Rattle.index.specs.Index.{entryStart, entryEnd, entryCount};
 ghost use Rattle.index.specs.Reading.{Readable, ReadableIn};
-ghost use Rattle.listing.specs.Listing.{entriesFrom, listingIn};
+ghost use Rattle.entries.specs.Entries.{entriesFrom, listingIn};
 use endian::inner::read_u64;
 use index::entry_end;
 use index::entry_start;

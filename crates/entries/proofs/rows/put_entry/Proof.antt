@@ -2,9 +2,9 @@
 use borrow.Author.Needs.{needs}
 use native.Mathlib.Omega.{arith}
 use lib.ListN.{length-set}
-use Rattle.listing.proofs.Entries.{stored-three}
-use Rattle.listing.proofs.rows.put_entry.Statement.{statement}
-use Rattle.listing.proofs.rows.put_entry.Tie as tie
+use Rattle.entries.proofs.Entries.{stored-three}
+use Rattle.entries.proofs.rows.put_entry.Statement.{statement}
+use Rattle.entries.proofs.rows.put_entry.Tie as tie
 
 pub put-entry-spec : {M : Type 1} → statement M
 put-entry-spec =

@@ -10,7 +10,7 @@ use Rattle.endian.specs.Place.{paste}
 use Rattle.endian.proofs.Paste.{paste-nil, paste-cons, paste-on, store, length-paste}
 use Rattle.index.specs.Index.{idSteps, startSteps, sizes, idAt, startAt}
 use Rattle.index.proofs.Tally.{Tally, tally-id, tally-place}
-use Rattle.listing.specs.Listing.{entriesFrom}
+use Rattle.entries.specs.Entries.{entriesFrom}
 
 -- three stores
 pub stored-three : (d : List ℕ) (i x y z : ℕ) → 3 * i + 3 ≤ length d → set (set (set d (3 * i) x) (3 * i + 1) y) (3 * i + 2) z ≡ paste (3 * i) (x ∷ y ∷ z ∷ []) d
