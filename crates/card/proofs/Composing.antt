@@ -21,7 +21,8 @@ use Rattle.grid.specs.declared.Volume.{Volume}
 use Rattle.sharding.specs.Specification.{mesh, isMesh, minishardBits, shardBits}
 use Rattle.sharding.specs.declared.Sharding.{Sharding}
 use Rattle.card.specs.declared.Card.{Card}
-use Rattle.card.specs.Layout.{head, field, oneByte, three, bits32, shardingBytes, extentsBytes, noOffset, offsetTag, offsetBytes, volumeBytes, kindBytes, cardBytes}
+use Rattle.card.specs.Layout.{head, field, oneByte, three, shardingBytes, extentsBytes, offsetTag, offsetBytes, volumeBytes, kindBytes, cardBytes}
+use Rattle.cardfields.specs.Twos.{bits32, noOffset}
 
 -- ---- how long
 length-head : (tag n : ℕ) → length (head tag n) ≡ 3

@@ -20,7 +20,8 @@ use Rattle.sharding.specs.Specification.{allowed}
 use Rattle.card.specs.declared.Card.{Card}
 use Rattle.card.specs.declared.CardAnswer.the-variants.{Says, Refused}
 use Rattle.card.specs.Layout.{cardBytes}
-use Rattle.card.specs.Reading.{wellFormed, cardIn}
+use Rattle.cardform.specs.Form.{wellFormed}
+use Rattle.card.specs.Reading.{cardIn}
 use Rattle.card.specs.Answers.{recordChecks, fault, readChecks, readAnswer, writeChecks, writeAnswer, writeLeft}
 
 -- ---- 1, 2 and 3: a is whether the specification is allowed, z whether an extent is 0, b the number of key bits

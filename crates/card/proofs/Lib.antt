@@ -1,7 +1,5 @@
 -- The laws of deposit cards.
-pub mod Words
 pub mod Parsing
 pub mod Composing
 pub mod Judged
 pub mod Meaning
-pub mod Before

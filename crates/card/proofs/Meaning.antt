@@ -27,13 +27,16 @@ use Rattle.sharding.specs.declared.Sharding.{Sharding}
 use Rattle.sharding.proofs.Allowed.{allowed-within}
 use Rattle.card.specs.declared.Card.{Card}
 use Rattle.card.specs.declared.CardAnswer.the-variants.{Says, Refused}
-use Rattle.card.specs.Layout.{head, field, oneByte, three, bits32, shardingBytes, extentsBytes, isZero, noOffset, offsetTag, offsetBytes, volumeBytes, kindBytes, cardBytes, InI32, Ranged, Bytes}
-use Rattle.card.specs.Reading.{signed32, fieldAt, sixFields, extentsAt, offsetAt, offsetField, kindField, wellFormed, kindIn, shardingIn, zeros, offsetIn, volumeIn, cardIn}
+use Rattle.card.specs.Layout.{head, field, oneByte, three, shardingBytes, extentsBytes, offsetTag, offsetBytes, volumeBytes, kindBytes, cardBytes, Ranged, Bytes}
+use Rattle.cardfields.specs.Twos.{bits32, isZero, noOffset, InI32, signed32}
+use Rattle.cardfields.specs.Fields.{fieldAt, sixFields, offsetAt, offsetField, kindField}
+use Rattle.card.specs.Reading.{extentsAt, kindIn, shardingIn, zeros, offsetIn, volumeIn, cardIn}
+use Rattle.cardform.specs.Form.{wellFormed}
 use Rattle.card.specs.Answers.{recordChecks, fault, readAnswer, writeAnswer, writeLeft}
 use Rattle.card.specs.Meaning.{OneCard}
-use Rattle.card.proofs.Words.{bits-signed, signed-bits, bits-below, signed-in}
-use Rattle.card.proofs.Parsing.{CardLength, formed-length, formed-never}
-use Rattle.card.proofs.Parsing.CardLength.{bare, shifted, bareMesh, shiftedMesh}
+use Rattle.cardfields.proofs.Words.{bits-signed, signed-bits, bits-below, signed-in}
+use Rattle.cardform.proofs.Parsing.{CardLength, formed-length, formed-never}
+use Rattle.cardform.proofs.Parsing.CardLength.{bare, shifted, bareMesh, shiftedMesh}
 use Rattle.card.proofs.Judged.{faultless, read-first, write-first, left-first}
 
 -- ---- the bytes of a record are read back as the record

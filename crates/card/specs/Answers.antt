@@ -14,7 +14,8 @@ use Rattle.card.specs.declared.Card.{Card}
 use Rattle.card.specs.declared.CardAnswer.{CardAnswer}
 use Rattle.card.specs.declared.CardAnswer.the-variants.{Says, Refused}
 use Rattle.card.specs.Layout.{cardBytes}
-use Rattle.card.specs.Reading.{wellFormed, cardIn}
+use Rattle.cardform.specs.Form.{wellFormed}
+use Rattle.card.specs.Reading.{cardIn}
 
 -- 1, 2 and 3 of what a card says (RULES C4)
 unfoldable pub recordChecks : Card → List Check

@@ -1,9 +1,6 @@
 -- The bytes of a deposit card (RULES C1).
-use Prim.Native.Nat.{ℕ, suc, _-_, _^_, _<_}
-use mathlib.Core.Bool.{Bool, false, _&&_}
+use Prim.Native.Nat.{ℕ, _<_}
 use mathlib.Core.List.{List, [], _∷_, _++_}
-use lib.Dec.{eqb}
-use lib.IntN.{ℤ, pos, negsuc}
 use lib.ListN.{length, getD}
 use Rattle.refusal.specs.Choice.{pick}
 use Rattle.endian.specs.Little.{le}
@@ -13,6 +10,7 @@ use Rattle.grid.specs.declared.Offset.{Offset}
 use Rattle.grid.specs.declared.Volume.{Volume}
 use Rattle.sharding.specs.Specification.{mesh, isMesh, minishardBits, shardBits}
 use Rattle.sharding.specs.declared.Sharding.{Sharding}
+use Rattle.cardfields.specs.Twos.{bits32, noOffset, InI32}
 use Rattle.card.specs.declared.Card.{Card}
 
 -- "a one-byte tag, a two-byte little-endian length"
@@ -31,11 +29,6 @@ oneByte tag n = field tag (n ∷ [])
 unfoldable pub three : ℕ → ℕ → ℕ → List ℕ
 three x y z = le 4 x ++ (le 4 y ++ le 4 z)
 
--- a signed number as a 32-bit number, by two's complement: a negative one, -(n+1), stands as 2^32 more
-unfoldable pub bits32 : ℤ → ℕ
-bits32 (pos n) = n
-bits32 (negsuc n) = 2 ^ 32 - suc n
-
 -- tags 1 to 4
 unfoldable pub shardingBytes : Sharding → List ℕ
 shardingBytes s =
@@ -44,14 +37,6 @@ shardingBytes s =
 -- tags 5 and 6
 unfoldable pub extentsBytes : ℕ → Extents → List ℕ
 extentsBytes tag e = field tag (three (e .x) (e .y) (e .z))
-
-unfoldable pub isZero : ℤ → Bool
-isZero (pos n) = eqb n 0
-isZero (negsuc n) = false
-
--- "the offset is 0,0,0"
-unfoldable pub noOffset : Offset → Bool
-noOffset o = isZero (o .x) && (isZero (o .y) && isZero (o .z))
 
 -- tag 7
 unfoldable pub offsetTag : Offset → List ℕ
@@ -74,10 +59,6 @@ unfoldable pub cardBytes : Card → List ℕ
 cardBytes c = shardingBytes (c .sharding) ++ (volumeBytes (c .volume) ++ kindBytes (c .sharding))
 
 -- ---- a record that a card can hold: each number has the width of its field; that the kind is one of the two is for 1 to say
-abbrev pub InI32 : ℤ → Type 0
-InI32 (pos n) = n < 2 ^ 31
-InI32 (negsuc n) = n < 2 ^ 31
-
 pub record Ranged (c : Card) : Type 0 where
   pub preshift : c .sharding .preshift < 256
   pub hash : c .sharding .hash < 256

@@ -2,7 +2,6 @@
 // of a mesh in 50 or 65.
 pub mod inner;
 mod reading;
-pub mod twos;
 
 ghost use mathlib.Core.Path.{_≡_};
 ghost use Rattle.card.specs.Answers.{readAnswer};
@@ -24,7 +23,7 @@ pub enum CardAnswer {
 pub fn read_card(bytes: &[u8]) -> CardAnswer
     ensures answer { λ r. ⌜ r ≡ readAnswer (now (bytes .entry)) ⌝ }
 {
-    if !reading::well_formed(bytes) {
+    if !cardform::well_formed(bytes) {
         return CardAnswer::Refused(14);
     }
     let card = reading::card_in(bytes);

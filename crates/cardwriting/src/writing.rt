@@ -6,7 +6,7 @@ ghost use Rattle.endian.specs.Place.{paste};
 ghost use Rattle.refusal.specs.Buffer.{written, leftBy};
 ghost use Rattle.card.specs.Layout.{head, oneByte, three, shardingBytes, extentsBytes, offsetTag, offsetBytes, volumeBytes, kindBytes, cardBytes};
 use card::Card;
-use card::twos;
+use cardfields::twos;
 use endian::inner;
 use grid::Extents;
 use grid::Offset;

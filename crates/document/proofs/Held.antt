@@ -14,8 +14,9 @@ use Rattle.text.specs.Parts.{digits}
 use Rattle.grid.specs.Grid.{InU32}
 use Rattle.grid.specs.declared.Offset.{Offset}
 use Rattle.sharding.specs.Specification.{volume}
-use Rattle.card.specs.Layout.{bits32, InI32, Ranged}
-use Rattle.card.proofs.Words.{signed-in}
+use Rattle.cardfields.specs.Twos.{bits32, InI32}
+use Rattle.card.specs.Layout.{Ranged}
+use Rattle.cardfields.proofs.Words.{signed-in}
 use Rattle.text.specs.declared.Found.{Found}
 use Rattle.text.specs.declared.Found.the-variants.{At, Nothing}
 use Rattle.places.specs.declared.Given.{Given}

@@ -13,9 +13,8 @@ use Rattle.wholes.specs.Numbers.{decimalOn, decimalAt, goesOn, in32, digitsFrom
 use Rattle.grid.specs.Grid.{gridSize, gridOf, hasZero, zeroExtent}
 use Rattle.grid.specs.Key.{bitOf, used, step, steps, keyBits, tooManyBits}
 use Rattle.sharding.specs.Specification.{allowed}
-use Rattle.card.specs.Layout.{bits32}
+use Rattle.cardfields.specs.Twos.{bits32, signed32}
 use Rattle.card.specs.Answers.{recordChecks}
-use Rattle.card.specs.Reading.{signed32}
 use Rattle.scale.specs.Scale.{extentsOf, extentsAt, offsetOf, offsetAt, sizeIn, chunkIn, offsetBy, offsetIn, volumeIn, typed, formed, hashIn, numberIn, numbersOf, numbersIn, shardingAt, shardingIn, settingsAt}
 use Rattle.members.specs.Values.{rawBy, hashAt, shardingOf}
 use Rattle.info.specs.Settings.{scaleAt, settingsOf}

@@ -12,8 +12,11 @@ use Rattle.sharding.specs.Specification.{volume, mesh, allowed}
 use Rattle.sharding.specs.Place.{hashedId, minishardOf, shardOf}
 use Rattle.refusal.specs.Checks.{firstNumber, unless}
 use Rattle.card.specs.declared.Card.{Card}
-use Rattle.card.specs.Layout.{head, field, oneByte, three, isZero, shardingBytes, extentsBytes, noOffset, offsetBytes, volumeBytes, kindBytes, cardBytes}
-use Rattle.card.specs.Reading.{zeros, fieldAt, sixFields, kindField, extentsAt, wellFormed, kindIn, shardingIn, offsetIn, volumeIn, cardIn}
+use Rattle.card.specs.Layout.{head, field, oneByte, three, shardingBytes, extentsBytes, offsetBytes, volumeBytes, kindBytes, cardBytes}
+use Rattle.cardfields.specs.Twos.{isZero, noOffset}
+use Rattle.card.specs.Reading.{zeros, extentsAt, kindIn, shardingIn, offsetIn, volumeIn, cardIn}
+use Rattle.cardfields.specs.Fields.{fieldAt, sixFields, kindField}
+use Rattle.cardform.specs.Form.{wellFormed}
 use Rattle.card.specs.Answers.{recordChecks, readChecks, readAnswer}
 use Rattle.locate.specs.Lines.{ending, refusedLine, filed, keyed, lineFor, lineOf}
 use Rattle.locate.specs.Output.{cellAt, linesBy, cutAfter, textBy, cellsText, framed, printed, output}

@@ -22,8 +22,8 @@ use Rattle.card.specs.declared.Card.{Card}
 use Rattle.card.specs.declared.CardAnswer.the-variants.{Says, Refused}
 use Rattle.card.specs.Layout.{head, field, oneByte, shardingBytes, volumeBytes, kindBytes, cardBytes}
 use Rattle.card.specs.Answers.{writeLeft}
-use Rattle.card.specs.Before.{cardBytesBeforeMesh}
-use Rattle.card.proofs.Before.{same-bytes, same-record, mesh-card-is-14, other-before-mesh, new-card-is-1, other-bytes-same, written-mesh-is-14, written-is-new}
+use Rattle.oldcards.specs.Before.{cardBytesBeforeMesh}
+use Rattle.oldcards.proofs.Before.{same-bytes, same-record, mesh-card-is-14, other-before-mesh, new-card-is-1, other-bytes-same, written-mesh-is-14, written-is-new}
 use Rattle.document.proofs.Meaning.{meaning}
 use Rattle.manifests.specs.Mesh.{manifestTests}
 use Rattle.shard.specs.Faults.{entryTests}

@@ -57,7 +57,7 @@ use Rattle.card.specs.declared.Card.{Card}
 use Rattle.card.specs.declared.CardAnswer.the-variants.{Says, Refused}
 use Rattle.card.specs.Layout.{cardBytes, Ranged}
 use Rattle.card.specs.Answers.{recordChecks, readAnswer, writeAnswer, writeLeft}
-use Rattle.card.specs.Before.{cardBytesBeforeMesh, readAnswerBeforeMesh, MeshCard, recordChecksBefore, readAnswerBefore, NewCard}
+use Rattle.oldcards.specs.Before.{cardBytesBeforeMesh, readAnswerBeforeMesh, MeshCard, recordChecksBefore, readAnswerBefore, NewCard}
 use Rattle.info.specs.Answers.{infoAnswer}
 
 -- Order 2: "a shard that passed before settles to the bytes it did before". (RULES F16, U8)

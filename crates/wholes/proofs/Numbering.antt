@@ -18,7 +18,7 @@ use Rattle.text.specs.Bytes.{isDigit, inside}
 use Rattle.text.specs.Parts.{digits}
 use Rattle.text.proofs.Laws.{in-text, digit-zero, span-on, span-stop}
 use Rattle.text.proofs.Steps.{mark-room}
-use Rattle.card.specs.Layout.{bits32}
+use Rattle.cardfields.specs.Twos.{bits32}
 use Rattle.wholes.specs.declared.Number.{Number}
 use Rattle.wholes.specs.declared.Number.the-variants.{Is, Wrong}
 use Rattle.wholes.specs.Numbers.{decimalOn, decimalAt, goesOn, in32, digitsFrom, wholeFrom, naturalAt, negative, aboveOf, belowOf, coordinateAt}

@@ -8,7 +8,7 @@ use lib.ListN.{drop}
 use Rattle.refusal.specs.Choice.{pick}
 use Rattle.text.specs.Bytes.{byteAt, isDigit}
 use Rattle.text.specs.Parts.{digits}
-use Rattle.card.specs.Layout.{bits32}
+use Rattle.cardfields.specs.Twos.{bits32}
 use Rattle.wholes.specs.declared.Number.{Number}
 use Rattle.wholes.specs.declared.Number.the-variants.{Is, Wrong}
 

@@ -3,7 +3,7 @@ ghost use mathlib.Core.Path.{_≡_};
 ghost use mathlib.Core.Bool.{true};
 ghost use Prim.Native.Nat.{_-_, _<_};
 ghost use Rattle.text.specs.Bytes.{isDigit};
-ghost use Rattle.card.specs.Reading.{signed32};
+ghost use Rattle.cardfields.specs.Twos.{signed32};
 ghost use Rattle.wholes.specs.Numbers.{goesOn, digitsFrom, wholeFrom, naturalAt, aboveOf, belowOf, coordinateAt};
 
 // A whole number of 32 bits, if one is written there.

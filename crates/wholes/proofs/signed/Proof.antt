@@ -1,4 +1,4 @@
-use Rattle.card.proofs.Words.{words}
+use Rattle.cardfields.proofs.Words.{words}
 use Rattle.wholes.proofs.signed.Statement.{statement}
 use Rattle.wholes.proofs.signed.Tie as tie
 

@@ -1,7 +1,0 @@
--- `card::reading::field_at` meets its contract.
-use Rattle.card.proofs.Parsing.{parsing}
-use Rattle.card.proofs.reading.field_at.Statement.{statement}
-use Rattle.card.proofs.reading.field_at.Tie as tie
-
-pub field-at-spec : {M : Type 1} → statement M
-field-at-spec = tie.close (tie.spec (λ c κs. search parsing) (λ c. search parsing) (λ c κs. search parsing) (λ c. search parsing))

@@ -1,7 +1,0 @@
--- `card::reading::kind_field` meets its contract.
-use Rattle.card.proofs.Parsing.{parsing}
-use Rattle.card.proofs.reading.kind_field.Statement.{statement}
-use Rattle.card.proofs.reading.kind_field.Tie as tie
-
-pub kind-field-spec : {M : Type 1} → statement M
-kind-field-spec = tie.close (tie.spec (λ c κs. search parsing) (λ c. search parsing) (λ c κs. search parsing) (λ c. search parsing))

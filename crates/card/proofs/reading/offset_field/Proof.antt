@@ -1,7 +1,0 @@
--- `card::reading::offset_field` meets its contract.
-use Rattle.card.proofs.Parsing.{parsing}
-use Rattle.card.proofs.reading.offset_field.Statement.{statement}
-use Rattle.card.proofs.reading.offset_field.Tie as tie
-
-pub offset-field-spec : {M : Type 1} → statement M
-offset-field-spec = tie.close (tie.spec (λ c κs. search parsing) (λ c κs. search parsing) (λ c κs. search parsing) (λ c. search parsing))

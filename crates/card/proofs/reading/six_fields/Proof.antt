@@ -1,7 +1,0 @@
--- `card::reading::six_fields` meets its contract.
-use Rattle.card.proofs.Parsing.{parsing}
-use Rattle.card.proofs.reading.six_fields.Statement.{statement}
-use Rattle.card.proofs.reading.six_fields.Tie as tie
-
-pub six-fields-spec : {M : Type 1} → statement M
-six-fields-spec = tie.close (tie.spec (λ c κs. search parsing) (λ c κs. search parsing) (λ c κs. search parsing) (λ c κs. search parsing) (λ c κs. search parsing) (λ c κs. search parsing) (λ c. search parsing))

@@ -1,7 +1,0 @@
--- `card::reading::well_formed` meets its contract.
-use Rattle.card.proofs.Parsing.{parsing}
-use Rattle.card.proofs.reading.well_formed.Statement.{statement}
-use Rattle.card.proofs.reading.well_formed.Tie as tie
-
-pub well-formed-spec : {M : Type 1} → statement M
-well-formed-spec = tie.close (tie.spec (λ c κs. search parsing) (λ c. search parsing) (λ c κs. search parsing) (λ c κs. search parsing) (λ c. search parsing) (λ c κs. search parsing) (λ c κs. search parsing) (λ c. search parsing) (λ c κs. search parsing) (λ c κs. search parsing) (λ c κs. search parsing) (λ c. search parsing) (λ c. search parsing))
