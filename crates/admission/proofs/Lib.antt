@@ -1,4 +1,3 @@
--- Laws of the state of an intake, and of the refusals of its calls.
+-- Laws of the refusals of the calls of an intake.
 pub mod Passing
-pub mod States
 pub mod Tested

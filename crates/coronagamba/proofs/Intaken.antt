@@ -4,7 +4,7 @@ use mathlib.Core.Path.{_≡_, ap, _∙_}
 use mathlib.Core.List.{List}
 use lib.ListN.{set}
 use borrow.Author.Needs.{needs}
-use Rattle.admission.specs.declared.Intake.{Intake}
+use Rattle.intakestate.specs.declared.Intake.{Intake}
 use Rattle.intake.specs.declared.IntakeAnswer.{IntakeAnswer}
 use Rattle.intake.specs.declared.IntakeAnswer.the-variants.{Next, Refused}
 use Rattle.intake.specs.declared.CloseAnswer.{CloseAnswer}

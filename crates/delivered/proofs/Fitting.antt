@@ -17,9 +17,10 @@ use Rattle.shard.specs.File.{indexLength}
 use Rattle.waiting.specs.Held.{pair, indexHeld}
 use Rattle.waiting.proofs.Writing.{length-index}
 use Rattle.waiting.proofs.Pairs.{pair-kept}
-use Rattle.admission.specs.declared.Intake.{Intake}
-use Rattle.admission.specs.State.{sane, Usable}
-use Rattle.admission.specs.Refusals.{otherLengths, unusable, countIn, announceChecks}
+use Rattle.intakestate.specs.declared.Intake.{Intake}
+use Rattle.intakestate.specs.State.{sane, Usable}
+use Rattle.intaketests.specs.Tests.{otherLengths, unusable, countIn}
+use Rattle.admission.specs.Refusals.{announceChecks}
 use Rattle.admission.proofs.Passing.{opens, announces, hands}
 use Rattle.intake.specs.declared.IntakeAnswer.the-variants.{Next}
 use Rattle.intake.specs.Calls.{endedLeft, turnedLeft, announced, announceAnswer, announceLeft, announceWaiting, partLeft}

@@ -8,7 +8,7 @@ use lib.ListN.{length, length-append}
 use Rattle.endian.specs.Place.{paste}
 use Rattle.endian.proofs.Paste.{paste-nil, paste-on}
 use Rattle.shard.specs.File.{indexLength}
-use Rattle.admission.specs.declared.Intake.{Intake}
+use Rattle.intakestate.specs.declared.Intake.{Intake}
 use Rattle.admission.proofs.Passing.{hands}
 use Rattle.intake.specs.Calls.{taken, partLeft}
 use Rattle.intake.proofs.Answered.{part-left}

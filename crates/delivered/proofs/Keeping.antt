@@ -21,9 +21,10 @@ use Rattle.shard.specs.File.{indexLength}
 use Rattle.shard.specs.Items.{Item}
 use Rattle.form.specs.Form.{chunksOf, chunksLength, partLength, partsLength, settled}
 use Rattle.waiting.specs.Held.{pair}
-use Rattle.admission.specs.declared.Intake.{Intake}
-use Rattle.admission.specs.State.{announcedLength}
-use Rattle.admission.proofs.Passing.{opens, announces, not-below, closes}
+use Rattle.intakestate.specs.declared.Intake.{Intake}
+use Rattle.intakestate.specs.State.{announcedLength}
+use Rattle.admission.proofs.Passing.{opens, announces, closes}
+use Rattle.intaketests.proofs.Passing.{not-below}
 use Rattle.intake.specs.declared.IntakeAnswer.the-variants.{Next}
 use Rattle.intake.specs.declared.CloseAnswer.the-variants.{Closed}
 use Rattle.intake.specs.Calls.{endedLeft, opened, openLeft, turned, turnedLeft, noted, announced, announceAnswer, announceLeft, announceWaiting, taken, closeAnswer, closeLeft}

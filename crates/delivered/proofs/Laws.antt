@@ -24,9 +24,10 @@ use Rattle.form.proofs.Rows.{InForm}
 use Rattle.form.proofs.ReadBack.{Readable, content-back}
 use Rattle.form.proofs.SoundContent.{Listed}
 use Rattle.form.proofs.FormSound.{settled-sound}
-use Rattle.admission.specs.State.{announcedLength}
-use Rattle.admission.proofs.Passing.{volume-allowed, volume-kind, Opens, opens, closes}
-use Rattle.admission.specs.declared.Intake.{Intake}
+use Rattle.intakestate.specs.State.{announcedLength}
+use Rattle.intakestate.proofs.Passing.{volume-allowed, volume-kind}
+use Rattle.admission.proofs.Passing.{Opens, opens, closes}
+use Rattle.intakestate.specs.declared.Intake.{Intake}
 use Rattle.intake.specs.declared.CloseAnswer.the-variants.{Closed}
 use Rattle.intake.specs.Calls.{closed, closeAnswer, closeLeft}
 use Rattle.intake.proofs.Answered.{close-closed}

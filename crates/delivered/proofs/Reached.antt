@@ -17,10 +17,12 @@ use Rattle.sharding.specs.Place.{shardOf, minishardOf}
 use Rattle.shard.specs.File.{indexLength}
 use Rattle.waiting.specs.Held.{pair, idHeld, sizeHeld}
 use Rattle.waiting.proofs.Pairs.{pair-id, pair-size}
-use Rattle.admission.specs.declared.Intake.{Intake}
-use Rattle.admission.specs.State.{most, announcedLength, notVolume, fresh, placed, begun, spans, waits, going, sane}
-use Rattle.admission.specs.Refusals.{outOfOrder, countIn}
-use Rattle.admission.proofs.Passing.{volume-allowed, Fresh, fresh-parts, going-parts, Sane, sane-parts, unusable-parts, Opens, Announces, not-below, foreign-ours}
+use Rattle.intakestate.specs.declared.Intake.{Intake}
+use Rattle.intakestate.specs.State.{most, announcedLength, notVolume, fresh, placed, begun, spans, waits, going, sane}
+use Rattle.intaketests.specs.Tests.{outOfOrder, countIn}
+use Rattle.intakestate.proofs.Passing.{volume-allowed, Fresh, fresh-parts, going-parts, Sane, sane-parts}
+use Rattle.intaketests.proofs.Passing.{unusable-parts, not-below, foreign-ours}
+use Rattle.admission.proofs.Passing.{Opens, Announces}
 use Rattle.intake.specs.Calls.{opened, turned, announced, taken}
 use Rattle.intake.proofs.Stepped.{turned-count}
 use Rattle.delivered.proofs.Keeping.{turned-there}

@@ -14,9 +14,10 @@ use Rattle.sharding.specs.Place.{shardOf, minishardOf}
 use Rattle.shard.specs.Items.{Item}
 use Rattle.form.specs.Sorted.{Member, Rising}
 use Rattle.form.specs.Content.{idOf}
-use Rattle.admission.specs.declared.Intake.{Intake}
-use Rattle.admission.specs.Refusals.{outOfOrder}
-use Rattle.admission.proofs.Passing.{announces, not-below, foreign-ours}
+use Rattle.intakestate.specs.declared.Intake.{Intake}
+use Rattle.intaketests.specs.Tests.{outOfOrder}
+use Rattle.admission.proofs.Passing.{announces}
+use Rattle.intaketests.proofs.Passing.{not-below, foreign-ours}
 use Rattle.intake.specs.Calls.{turned, announced, taken}
 use Rattle.intake.proofs.Refused.{announce-told}
 use Rattle.delivered.specs.Delivered.{Delivery, joined, asItem, asItems, inMinishard, Precedes, InOrder}

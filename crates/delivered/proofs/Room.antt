@@ -17,10 +17,11 @@ use Rattle.shard.specs.File.{indexLength}
 use Rattle.shard.specs.Items.{Item}
 use Rattle.form.specs.Form.{partsLength, settled, settledLength}
 use Rattle.form.proofs.Measures.{length-settled}
-use Rattle.admission.specs.declared.Intake.{Intake}
-use Rattle.admission.specs.State.{announcedLength}
-use Rattle.admission.specs.Refusals.{outOfOrder, countIn, noRoom, openChecks}
-use Rattle.admission.proofs.Passing.{not-below}
+use Rattle.intakestate.specs.declared.Intake.{Intake}
+use Rattle.intakestate.specs.State.{announcedLength}
+use Rattle.intaketests.specs.Tests.{outOfOrder, countIn, noRoom}
+use Rattle.admission.specs.Refusals.{openChecks}
+use Rattle.intaketests.proofs.Passing.{not-below}
 use Rattle.intake.proofs.Stepped.{turned-count}
 use Rattle.delivered.specs.Delivered.{Delivery, asItems, inMinishard, gathered}
 use Rattle.delivered.specs.Runs.{Desk, Takes}

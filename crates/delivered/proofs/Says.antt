@@ -12,10 +12,12 @@ use Rattle.refusal.specs.Checks.{firstNumber, unless}
 use Rattle.sharding.specs.declared.Sharding.{Sharding}
 use Rattle.sharding.specs.Place.{shardOf, minishardOf}
 use Rattle.shard.specs.Items.{Item}
-use Rattle.admission.specs.declared.Intake.{Intake}
-use Rattle.admission.specs.State.{sane}
-use Rattle.admission.specs.Refusals.{otherLengths, foreign, unusable, outOfOrder, announceChecks, partChecks, closeChecks}
-use Rattle.admission.proofs.Passing.{volume-allowed, sane-parts, Closes, closes}
+use Rattle.intakestate.specs.declared.Intake.{Intake}
+use Rattle.intakestate.specs.State.{sane}
+use Rattle.intaketests.specs.Tests.{otherLengths, foreign, unusable, outOfOrder}
+use Rattle.admission.specs.Refusals.{announceChecks, partChecks, closeChecks}
+use Rattle.intakestate.proofs.Passing.{volume-allowed, sane-parts}
+use Rattle.admission.proofs.Passing.{Closes, closes}
 use Rattle.intake.specs.declared.IntakeAnswer.the-variants.{Next, Refused}
 use Rattle.intake.specs.declared.CloseAnswer.the-variants.{Closed, Refused as NotClosed}
 use Rattle.intake.specs.Calls.{turned, announced, announceAnswer, taken, partAnswer, closed, closeAnswer, closeLeft}

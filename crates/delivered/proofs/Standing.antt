@@ -20,7 +20,7 @@ use Rattle.form.specs.Form.{chunksOf, chunksLength, idRow, startRow, sizeRow, i
 use Rattle.form.proofs.Measures.{length-chunks, length-shard-index, length-settled}
 use Rattle.waiting.specs.Held.{pair, idHeld, sizeHeld, stepsHeld, sizesHeld, startsFrom, indexHeld}
 use Rattle.waiting.proofs.Pairs.{length-pair}
-use Rattle.admission.specs.declared.Intake.{Intake}
+use Rattle.intakestate.specs.declared.Intake.{Intake}
 use Rattle.intake.specs.Calls.{endedLeft}
 use Rattle.delivered.proofs.Appends.{entryOf, empties, among-length, among-settled}
 

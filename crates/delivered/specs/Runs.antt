@@ -9,7 +9,7 @@ use Rattle.sharding.specs.declared.Sharding.{Sharding}
 use Rattle.sharding.specs.Place.{shardOf}
 use Rattle.shard.specs.Sound.{SoundShard}
 use Rattle.form.specs.Content.{fileContent, fileForm}
-use Rattle.admission.specs.declared.Intake.{Intake}
+use Rattle.intakestate.specs.declared.Intake.{Intake}
 use Rattle.intake.specs.declared.IntakeAnswer.the-variants.{Next, Refused}
 use Rattle.intake.specs.declared.CloseAnswer.the-variants.{Refused as NotClosed}
 use Rattle.intake.specs.Calls.{openAnswer, openLeft, announceAnswer, announceLeft, announceWaiting, partAnswer, partLeft, closed, closeAnswer, closeLeft}

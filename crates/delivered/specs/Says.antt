@@ -10,7 +10,7 @@ use Rattle.sharding.specs.Specification.{noSuchShard}
 use Rattle.sharding.specs.Place.{shardOf, minishardOf}
 use Rattle.shard.specs.Items.{Item}
 use Rattle.form.specs.Form.{settled}
-use Rattle.admission.specs.State.{most, notVolume}
+use Rattle.intakestate.specs.State.{most, notVolume}
 use Rattle.delivered.specs.Delivered.{Delivery, joined, asItems, inMinishard, gathered}
 
 -- 25: the id is not above the last one that came, by minishard and then by id

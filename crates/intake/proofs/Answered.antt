@@ -14,10 +14,12 @@ use Rattle.sharding.specs.Specification.{allowed}
 use Rattle.sharding.specs.Place.{minishardOf}
 use Rattle.shard.specs.File.{indexLength}
 use Rattle.waiting.specs.Held.{pair}
-use Rattle.admission.specs.declared.Intake.{Intake}
-use Rattle.admission.specs.State.{most, announcedLength, Usable}
-use Rattle.admission.specs.Refusals.{countIn, openChecks, announceChecks, partChecks, closeChecks}
-use Rattle.admission.proofs.Passing.{volume-allowed, opens, hands, closes}
+use Rattle.intakestate.specs.declared.Intake.{Intake}
+use Rattle.intakestate.specs.State.{most, announcedLength, Usable}
+use Rattle.intaketests.specs.Tests.{countIn}
+use Rattle.admission.specs.Refusals.{openChecks, announceChecks, partChecks, closeChecks}
+use Rattle.intakestate.proofs.Passing.{volume-allowed}
+use Rattle.admission.proofs.Passing.{opens, hands, closes}
 use Rattle.intake.specs.declared.IntakeAnswer.the-variants.{Next, Refused}
 use Rattle.intake.specs.declared.CloseAnswer.the-variants.{Closed, Refused as NotClosed}
 use Rattle.intake.specs.Calls.{endedLeft, turnedLeft, opened, openAnswer, openLeft, announced, announceAnswer, announceLeft, announceWaiting, taken, partAnswer, partLeft, closed, closeAnswer, closeLeft}

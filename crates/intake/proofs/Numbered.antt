@@ -9,8 +9,9 @@ use borrow.Author.Needs.{needs}
 use Rattle.sharding.specs.declared.Sharding.{Sharding}
 use Rattle.sharding.specs.Specification.{minishardBits, shardBits, Within}
 use Rattle.sharding.proofs.Allowed.{allowed-within}
-use Rattle.admission.specs.declared.Intake.{Intake}
-use Rattle.admission.proofs.Passing.{unusable-parts, hands}
+use Rattle.intakestate.specs.declared.Intake.{Intake}
+use Rattle.intaketests.proofs.Passing.{unusable-parts}
+use Rattle.admission.proofs.Passing.{hands}
 use Rattle.intake.specs.declared.IntakeAnswer.the-variants.{Next}
 use Rattle.intake.specs.Calls.{taken, partAnswer}
 use Rattle.intake.specs.Numbers.{narrow, numbersOf, specOf, stateOf}

@@ -7,8 +7,8 @@ use lib.ListN.{length}
 use Rattle.refusal.specs.Checks.{firstNumber, unless, Refuses}
 use Rattle.refusal.proofs.Refusing.{refuses, keeping}
 use Rattle.sharding.specs.declared.Sharding.{Sharding}
-use Rattle.admission.specs.declared.Intake.{Intake}
-use Rattle.admission.specs.State.{announcedLength}
+use Rattle.intakestate.specs.declared.Intake.{Intake}
+use Rattle.intakestate.specs.State.{announcedLength}
 use Rattle.admission.specs.Refusals.{openChecks, announceChecks, partChecks, closeChecks}
 use Rattle.intake.specs.declared.IntakeAnswer.the-variants.{Next, Refused}
 use Rattle.intake.specs.declared.CloseAnswer.the-variants.{Closed, Refused as NotClosed}

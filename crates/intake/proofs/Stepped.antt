@@ -17,9 +17,10 @@ use Rattle.sharding.specs.Specification.{allowed}
 use Rattle.sharding.specs.Place.{minishardOf}
 use Rattle.shard.specs.File.{indexLength}
 use Rattle.waiting.specs.Held.{pair, indexHeld}
-use Rattle.admission.specs.declared.Intake.{Intake}
-use Rattle.admission.specs.State.{Usable}
-use Rattle.admission.specs.Refusals.{countIn, announceChecks}
+use Rattle.intakestate.specs.declared.Intake.{Intake}
+use Rattle.intakestate.specs.State.{Usable}
+use Rattle.intaketests.specs.Tests.{countIn}
+use Rattle.admission.specs.Refusals.{announceChecks}
 use Rattle.admission.proofs.Passing.{announces}
 use Rattle.intake.specs.Calls.{endedLeft, turned, turnedLeft, announced}
 

@@ -11,9 +11,10 @@ use Rattle.sharding.specs.declared.Sharding.{Sharding}
 use Rattle.sharding.specs.Place.{minishardOf}
 use Rattle.shard.specs.File.{indexLength}
 use Rattle.waiting.specs.Held.{pair, indexHeld}
-use Rattle.admission.specs.declared.Intake.{Intake}
-use Rattle.admission.specs.State.{announcedLength}
-use Rattle.admission.specs.Refusals.{countIn, openChecks, announceChecks, partChecks, closeChecks}
+use Rattle.intakestate.specs.declared.Intake.{Intake}
+use Rattle.intakestate.specs.State.{announcedLength}
+use Rattle.intaketests.specs.Tests.{countIn}
+use Rattle.admission.specs.Refusals.{openChecks, announceChecks, partChecks, closeChecks}
 use Rattle.intake.specs.declared.IntakeAnswer.{IntakeAnswer}
 use Rattle.intake.specs.declared.IntakeAnswer.the-variants.{Next, Refused}
 use Rattle.intake.specs.declared.CloseAnswer.{CloseAnswer}

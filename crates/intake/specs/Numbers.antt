@@ -4,7 +4,7 @@ use mathlib.Core.List.{List, [], _∷_}
 use lib.ListN.{getD}
 use Rattle.sharding.specs.declared.Sharding.{Sharding}
 use Rattle.sharding.specs.Specification.{minishardBits, shardBits}
-use Rattle.admission.specs.declared.Intake.{Intake}
+use Rattle.intakestate.specs.declared.Intake.{Intake}
 
 -- a number for which the state has 8 bits; one that has none there is 255, which no specification allows and no call leaves
 abbrev pub narrow : ℕ → ℕ

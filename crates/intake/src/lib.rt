@@ -4,12 +4,12 @@ mod steps;
 
 ghost use mathlib.Core.Path.{_≡_};
 ghost use Rattle.intake.specs.Calls.{openAnswer, openLeft, announceAnswer, announceLeft, announceWaiting, partAnswer, partLeft, closeAnswer, closeLeft};
-use admission::Intake;
 use admission::inner::announce_refusal;
-use admission::inner::announced_length;
 use admission::inner::close_refusal;
 use admission::inner::open_refusal;
 use admission::inner::part_refusal;
+use intakestate::Intake;
+use intaketests::inner::announced_length;
 use sharding::Sharding;
 
 // What a call answers: the state for the next one, or the refusal, which changes neither the state nor a buffer.

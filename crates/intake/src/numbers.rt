@@ -2,7 +2,7 @@
 ghost use mathlib.Core.Path.{_≡_};
 ghost use Prim.Native.Nat.{_<_};
 ghost use Rattle.intake.specs.Numbers.{narrow, numbersOf, specOf, stateOf};
-use admission::Intake;
+use intakestate::Intake;
 use sharding::Sharding;
 
 // A number for which the state has 8 bits.

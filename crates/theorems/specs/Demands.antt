@@ -57,7 +57,7 @@ use Rattle.seam.specs.declared.RangeAnswer.the-variants as R
 use Rattle.seam.specs.Range.{rangeChecks, rangeAnswer}
 use Rattle.pair.specs.Answers.{otherShard, pairCheck, pairLookup, pairFragment}
 use Rattle.pairform.specs.Answers.{noMinishard, pairCount, pairListing, pairListingLeft, pairUnlisted, pairLength, pairSettle, pairSettleLeft}
-use Rattle.admission.specs.declared.Intake.{Intake}
+use Rattle.intakestate.specs.declared.Intake.{Intake}
 use Rattle.admission.specs.Refusals.{openChecks, announceChecks, partChecks, closeChecks}
 use Rattle.intake.specs.declared.IntakeAnswer.the-variants as I
 use Rattle.intake.specs.declared.CloseAnswer.the-variants as X

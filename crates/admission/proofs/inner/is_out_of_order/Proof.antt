@@ -1,9 +1,0 @@
-use Rattle.admission.proofs.Tested.{asking}
-use Rattle.admission.proofs.inner.is_out_of_order.Statement.{statement}
-use Rattle.admission.proofs.inner.is_out_of_order.Tie as tie
-
-pub is-out-of-order-spec : {M : Type 1} → statement M
-is-out-of-order-spec =
-    tie.close
-    (tie.spec
-    (λ c. search asking))

@@ -1,9 +1,0 @@
-use Rattle.admission.proofs.States.{testing}
-use Rattle.admission.proofs.state.is_fresh.Statement.{statement}
-use Rattle.admission.proofs.state.is_fresh.Tie as tie
-
-pub is-fresh-spec : {M : Type 1} → statement M
-is-fresh-spec =
-    tie.close
-    (tie.spec
-    (λ c. search testing))

@@ -1,0 +1,2 @@
+// What refuses a call of an intake, each test by itself.
+pub mod inner;
