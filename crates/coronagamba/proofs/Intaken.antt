@@ -10,7 +10,7 @@ use Rattle.intake.specs.declared.IntakeAnswer.the-variants.{Next, Refused}
 use Rattle.intake.specs.declared.CloseAnswer.{CloseAnswer}
 use Rattle.intake.specs.declared.CloseAnswer.the-variants.{Closed, Refused as NotClosed}
 use Rattle.intake.specs.Calls.{announceAnswer, announceLeft, announceWaiting, partAnswer, partLeft, closeAnswer, closeLeft}
-use Rattle.intake.specs.Numbers.{numbersOf, stateOf}
+use Rattle.intakenumbers.specs.Numbers.{numbersOf, stateOf}
 use Rattle.coronagamba.specs.Intakes.{intakeWord, stateAfter, partAfter, closeWord, closedAfter, shardLengthAfter}
 use Rattle.coronagamba.proofs.Told.{told, after}
 

@@ -1,12 +1,12 @@
 // Intake: a new volume shard, written while its chunks come in parts.
 ghost use mathlib.Core.Path.{_≡_};
 ghost use Rattle.intake.specs.Calls.{openAnswer, openLeft, announceAnswer, announceLeft, announceWaiting, partAnswer, partLeft, closeAnswer, closeLeft};
-ghost use Rattle.intake.specs.Numbers.{stateOf};
+ghost use Rattle.intakenumbers.specs.Numbers.{stateOf};
 ghost use Rattle.coronagamba.specs.Intakes.{intakeWord, stateAfter, partAfter, closeWord, closedAfter, shardLengthAfter};
 use intake::CloseAnswer;
 use intake::IntakeAnswer;
-use intake::numbers::numbers_of;
-use intake::numbers::state_of;
+use intakenumbers::numbers_of;
+use intakenumbers::state_of;
 use sharding::Sharding;
 
 // Opens a new volume shard, which will grow at the front of `out`; `waiting` will hold the ids and

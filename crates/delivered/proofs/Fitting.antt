@@ -23,7 +23,8 @@ use Rattle.intaketests.specs.Tests.{otherLengths, unusable, countIn}
 use Rattle.admission.specs.Refusals.{announceChecks}
 use Rattle.admission.proofs.Passing.{opens, announces, hands}
 use Rattle.intake.specs.declared.IntakeAnswer.the-variants.{Next}
-use Rattle.intake.specs.Calls.{endedLeft, turnedLeft, announced, announceAnswer, announceLeft, announceWaiting, partLeft}
+use Rattle.intakesteps.specs.Steps.{endedLeft, turnedLeft, announced}
+use Rattle.intake.specs.Calls.{announceAnswer, announceLeft, announceWaiting, partLeft}
 use Rattle.intake.proofs.Answered.{announce-left, announce-waiting, part-left}
 use Rattle.intake.proofs.Refused.{open-told, announce-told, part-told}
 use Rattle.delivered.specs.Delivered.{Delivery}

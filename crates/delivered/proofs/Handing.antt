@@ -10,7 +10,8 @@ use Rattle.endian.proofs.Paste.{paste-nil, paste-on}
 use Rattle.shard.specs.File.{indexLength}
 use Rattle.intakestate.specs.declared.Intake.{Intake}
 use Rattle.admission.proofs.Passing.{hands}
-use Rattle.intake.specs.Calls.{taken, partLeft}
+use Rattle.intakesteps.specs.Steps.{taken}
+use Rattle.intake.specs.Calls.{partLeft}
 use Rattle.intake.proofs.Answered.{part-left}
 use Rattle.intake.proofs.Refused.{part-told}
 use Rattle.delivered.specs.Delivered.{joined}

@@ -27,8 +27,9 @@ use Rattle.admission.proofs.Passing.{opens, announces, closes}
 use Rattle.intaketests.proofs.Passing.{not-below}
 use Rattle.intake.specs.declared.IntakeAnswer.the-variants.{Next}
 use Rattle.intake.specs.declared.CloseAnswer.the-variants.{Closed}
-use Rattle.intake.specs.Calls.{endedLeft, opened, openLeft, turned, turnedLeft, noted, announced, announceAnswer, announceLeft, announceWaiting, taken, closeAnswer, closeLeft}
-use Rattle.intake.proofs.Stepped.{turned-count}
+use Rattle.intakesteps.specs.Steps.{endedLeft, opened, turned, turnedLeft, noted, announced, taken}
+use Rattle.intake.specs.Calls.{openLeft, announceAnswer, announceLeft, announceWaiting, closeAnswer, closeLeft}
+use Rattle.intakesteps.proofs.Stepped.{turned-count}
 use Rattle.intake.proofs.Answered.{open-left, announce-left, announce-waiting, close-left}
 use Rattle.intake.proofs.Refused.{open-told, announce-told, close-told}
 use Rattle.delivered.specs.Delivered.{Delivery, joined, asItem, asItems}

@@ -29,7 +29,8 @@ use Rattle.intakestate.proofs.Passing.{volume-allowed, volume-kind}
 use Rattle.admission.proofs.Passing.{Opens, opens, closes}
 use Rattle.intakestate.specs.declared.Intake.{Intake}
 use Rattle.intake.specs.declared.CloseAnswer.the-variants.{Closed}
-use Rattle.intake.specs.Calls.{closed, closeAnswer, closeLeft}
+use Rattle.intakesteps.specs.Steps.{closed}
+use Rattle.intake.specs.Calls.{closeAnswer, closeLeft}
 use Rattle.intake.proofs.Answered.{close-closed}
 use Rattle.intake.proofs.Refused.{open-told, close-told}
 use Rattle.delivered.specs.Delivered.{Delivery, asItems, inMinishard, gathered, deliveredForm, InOrder}

@@ -23,8 +23,8 @@ use Rattle.intaketests.specs.Tests.{outOfOrder, countIn}
 use Rattle.intakestate.proofs.Passing.{volume-allowed, Fresh, fresh-parts, going-parts, Sane, sane-parts}
 use Rattle.intaketests.proofs.Passing.{unusable-parts, not-below, foreign-ours}
 use Rattle.admission.proofs.Passing.{Opens, Announces}
-use Rattle.intake.specs.Calls.{opened, turned, announced, taken}
-use Rattle.intake.proofs.Stepped.{turned-count}
+use Rattle.intakesteps.specs.Steps.{opened, turned, announced, taken}
+use Rattle.intakesteps.proofs.Stepped.{turned-count}
 use Rattle.delivered.proofs.Keeping.{turned-there}
 
 positive : (k : ℕ) → (k ≡ 0 → ⊥) → 0 < k

@@ -18,7 +18,7 @@ use Rattle.intakestate.specs.declared.Intake.{Intake}
 use Rattle.intaketests.specs.Tests.{outOfOrder}
 use Rattle.admission.proofs.Passing.{announces}
 use Rattle.intaketests.proofs.Passing.{not-below, foreign-ours}
-use Rattle.intake.specs.Calls.{turned, announced, taken}
+use Rattle.intakesteps.specs.Steps.{turned, announced, taken}
 use Rattle.intake.proofs.Refused.{announce-told}
 use Rattle.delivered.specs.Delivered.{Delivery, joined, asItem, asItems, inMinishard, Precedes, InOrder}
 use Rattle.delivered.specs.Runs.{Desk, Takes, Delivers, no-chunk, chunk}

@@ -22,7 +22,7 @@ use Rattle.intakestate.specs.State.{announcedLength}
 use Rattle.intaketests.specs.Tests.{outOfOrder, countIn, noRoom}
 use Rattle.admission.specs.Refusals.{openChecks}
 use Rattle.intaketests.proofs.Passing.{not-below}
-use Rattle.intake.proofs.Stepped.{turned-count}
+use Rattle.intakesteps.proofs.Stepped.{turned-count}
 use Rattle.delivered.specs.Delivered.{Delivery, asItems, inMinishard, gathered}
 use Rattle.delivered.specs.Runs.{Desk, Takes}
 use Rattle.delivered.specs.Says.{tooLong, noPairLeft, openSays}

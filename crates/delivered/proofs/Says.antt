@@ -20,7 +20,8 @@ use Rattle.intakestate.proofs.Passing.{volume-allowed, sane-parts}
 use Rattle.admission.proofs.Passing.{Closes, closes}
 use Rattle.intake.specs.declared.IntakeAnswer.the-variants.{Next, Refused}
 use Rattle.intake.specs.declared.CloseAnswer.the-variants.{Closed, Refused as NotClosed}
-use Rattle.intake.specs.Calls.{turned, announced, announceAnswer, taken, partAnswer, closed, closeAnswer, closeLeft}
+use Rattle.intakesteps.specs.Steps.{turned, announced, taken, closed}
+use Rattle.intake.specs.Calls.{announceAnswer, partAnswer, closeAnswer, closeLeft}
 use Rattle.intake.proofs.Answered.{close-left}
 use Rattle.intake.proofs.Refused.{announce-told, close-told}
 use Rattle.delivered.specs.Delivered.{Delivery, joined}

@@ -21,7 +21,7 @@ use Rattle.form.proofs.Measures.{length-chunks, length-shard-index, length-sett
 use Rattle.waiting.specs.Held.{pair, idHeld, sizeHeld, stepsHeld, sizesHeld, startsFrom, indexHeld}
 use Rattle.waiting.proofs.Pairs.{length-pair}
 use Rattle.intakestate.specs.declared.Intake.{Intake}
-use Rattle.intake.specs.Calls.{endedLeft}
+use Rattle.intakesteps.specs.Steps.{endedLeft}
 use Rattle.delivered.proofs.Appends.{entryOf, empties, among-length, among-settled}
 
 -- ---- what a list begins with, and what stands behind that: what stood there in another list, its base

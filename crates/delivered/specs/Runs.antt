@@ -12,7 +12,8 @@ use Rattle.form.specs.Content.{fileContent, fileForm}
 use Rattle.intakestate.specs.declared.Intake.{Intake}
 use Rattle.intake.specs.declared.IntakeAnswer.the-variants.{Next, Refused}
 use Rattle.intake.specs.declared.CloseAnswer.the-variants.{Refused as NotClosed}
-use Rattle.intake.specs.Calls.{openAnswer, openLeft, announceAnswer, announceLeft, announceWaiting, partAnswer, partLeft, closed, closeAnswer, closeLeft}
+use Rattle.intake.specs.Calls.{openAnswer, openLeft, announceAnswer, announceLeft, announceWaiting, partAnswer, partLeft, closeAnswer, closeLeft}
+use Rattle.intakesteps.specs.Steps.{closed}
 use Rattle.delivered.specs.Delivered.{Delivery, asItems, gathered}
 
 -- the state and the two buffers between calls

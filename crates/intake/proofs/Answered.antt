@@ -22,7 +22,8 @@ use Rattle.intakestate.proofs.Passing.{volume-allowed}
 use Rattle.admission.proofs.Passing.{opens, hands, closes}
 use Rattle.intake.specs.declared.IntakeAnswer.the-variants.{Next, Refused}
 use Rattle.intake.specs.declared.CloseAnswer.the-variants.{Closed, Refused as NotClosed}
-use Rattle.intake.specs.Calls.{endedLeft, turnedLeft, opened, openAnswer, openLeft, announced, announceAnswer, announceLeft, announceWaiting, taken, partAnswer, partLeft, closed, closeAnswer, closeLeft}
+use Rattle.intakesteps.specs.Steps.{endedLeft, turnedLeft, opened, announced, taken, closed}
+use Rattle.intake.specs.Calls.{openAnswer, openLeft, announceAnswer, announceLeft, announceWaiting, partAnswer, partLeft, closeAnswer, closeLeft}
 
 -- ---- of any call: n is the number of the refusal that the code found
 

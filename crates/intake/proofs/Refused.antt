@@ -12,7 +12,8 @@ use Rattle.intakestate.specs.State.{announcedLength}
 use Rattle.admission.specs.Refusals.{openChecks, announceChecks, partChecks, closeChecks}
 use Rattle.intake.specs.declared.IntakeAnswer.the-variants.{Next, Refused}
 use Rattle.intake.specs.declared.CloseAnswer.the-variants.{Closed, Refused as NotClosed}
-use Rattle.intake.specs.Calls.{opened, openAnswer, openLeft, announced, announceAnswer, announceLeft, announceWaiting, taken, partAnswer, partLeft, closed, closeAnswer, closeLeft}
+use Rattle.intakesteps.specs.Steps.{opened, announced, taken, closed}
+use Rattle.intake.specs.Calls.{openAnswer, openLeft, announceAnswer, announceLeft, announceWaiting, partAnswer, partLeft, closeAnswer, closeLeft}
 
 -- ---- an answer that is no refusal
 

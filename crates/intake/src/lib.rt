@@ -1,7 +1,4 @@
 // Intake from the scanner: a new volume shard, written in its settled form while its chunks come in parts.
-pub mod numbers;
-mod steps;
-
 ghost use mathlib.Core.Path.{_≡_};
 ghost use Rattle.intake.specs.Calls.{openAnswer, openLeft, announceAnswer, announceLeft, announceWaiting, partAnswer, partLeft, closeAnswer, closeLeft};
 use admission::inner::announce_refusal;
@@ -9,6 +6,7 @@ use admission::inner::close_refusal;
 use admission::inner::open_refusal;
 use admission::inner::part_refusal;
 use intakestate::Intake;
+use intakesteps::inner;
 use intaketests::inner::announced_length;
 use sharding::Sharding;
 
@@ -34,8 +32,8 @@ pub fn open(spec: Sharding, shard: u64, out: &mut [u8], waiting: &[u8]) -> Intak
     if number != 0 {
         return IntakeAnswer::Refused(number);
     }
-    steps::put_entries(spec, out);
-    IntakeAnswer::Next(steps::first(spec, shard, output, waiting.len()))
+    inner::put_entries(spec, out);
+    IntakeAnswer::Next(inner::first(spec, shard, output, waiting.len()))
 }
 
 // Announces the next chunk and its size: by rising minishard, then rising id.
@@ -54,7 +52,7 @@ pub fn announce(
     if number != 0 {
         return IntakeAnswer::Refused(number);
     }
-    IntakeAnswer::Next(steps::admit(state, id, size, out, waiting))
+    IntakeAnswer::Next(inner::admit(state, id, size, out, waiting))
 }
 
 // Hands over the next bytes of the announced chunk.
@@ -66,7 +64,7 @@ pub fn part(state: Intake, bytes: &[u8], out: &mut [u8], waiting: &[u8]) -> Inta
     if number != 0 {
         return IntakeAnswer::Refused(number);
     }
-    IntakeAnswer::Next(steps::take(state, bytes, out))
+    IntakeAnswer::Next(inner::take(state, bytes, out))
 }
 
 // Closes the shard: the answer has the length of its settled form, with which `out` then begins.
@@ -78,10 +76,10 @@ pub fn close(state: Intake, out: &mut [u8], waiting: &[u8]) -> CloseAnswer
     if number != 0 {
         return CloseAnswer::Refused(number);
     }
-    steps::end_minishard(state, out, waiting);
+    inner::end_minishard(state, out, waiting);
     let length = announced_length(state);
     CloseAnswer::Closed {
-        state: steps::last(state),
+        state: inner::last(state),
         length,
     }
 }

@@ -9,7 +9,8 @@ use Rattle.sharding.specs.declared.Sharding.{Sharding}
 use Rattle.shard.specs.Items.{Item}
 use Rattle.admission.specs.Refusals.{openChecks, announceChecks, partChecks, closeChecks}
 use Rattle.intake.specs.declared.CloseAnswer.the-variants.{Closed}
-use Rattle.intake.specs.Calls.{closed, closeAnswer, closeLeft}
+use Rattle.intakesteps.specs.Steps.{closed}
+use Rattle.intake.specs.Calls.{closeAnswer, closeLeft}
 use Rattle.delivered.specs.Delivered.{Delivery, asItems, deliveredForm, InOrder}
 use Rattle.delivered.specs.Runs.{Desk, afterClose, Takes, ClosedShard, Over}
 use Rattle.delivered.specs.Says.{owing, openSays, announceSays, partSays, closeSays}

@@ -1,0 +1,19 @@
+use Rattle.intakenumbers.proofs.Numbered.{stating}
+use Rattle.intakenumbers.proofs.spec_of.Statement.{statement}
+use Rattle.intakenumbers.proofs.spec_of.Tie as tie
+
+pub spec-of-spec : {M : Type 1} → statement M
+spec-of-spec =
+    tie.close
+    (tie.spec
+    (λ c. search stating)
+    (λ c κs. search stating)
+    (λ c. search stating)
+    (λ c κs. search stating)
+    (λ c. search stating)
+    (λ c κs. search stating)
+    (λ c. search stating)
+    (λ c κs. search stating)
+    (λ c. search stating)
+    (λ c κs. search stating)
+    (λ c. search stating))

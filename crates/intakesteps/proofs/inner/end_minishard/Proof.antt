@@ -1,0 +1,17 @@
+use Rattle.intakesteps.proofs.Stepped.{ending}
+use Rattle.intakesteps.proofs.inner.end_minishard.Statement.{statement}
+use Rattle.intakesteps.proofs.inner.end_minishard.Tie as tie
+
+pub end-minishard-spec : {M : Type 1} → statement M
+end-minishard-spec =
+    tie.close
+    (tie.spec
+    (λ c. search ending)
+    (λ c κs. search ending)
+    (λ c κs. search ending)
+    (λ c. search ending)
+    (λ c. search ending)
+    (λ c. search ending)
+    (λ c κs. search ending)
+    (λ c. search ending)
+    (λ c. search ending))

@@ -1,0 +1,2 @@
+// What the calls of an intake do once no test refuses them.
+pub mod inner;
