@@ -14,7 +14,7 @@ use Rattle.shard.specs.Items.{MayLead}
 use Rattle.form.specs.Form.{partOf}
 use Rattle.form.specs.Content.{itemsAt, byId}
 use Rattle.form.proofs.Stored.{by-id-stored}
-use Rattle.sortrows.proofs.Cases.{Either, is, not, either}
+use Rattle.threerows.proofs.Cases.{Either, is, not, either}
 use Rattle.minishard.specs.Writing.{Readable, Stored, MayStand, Climbs, minishardLength}
 use Rattle.minishard.proofs.Lengths.{lengths-alone}
 

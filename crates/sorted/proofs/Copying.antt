@@ -20,10 +20,9 @@ use Rattle.shard.specs.Items.{leadLength, Led}
 use Rattle.shard.proofs.Items.{item-size, item-lead, item-bytes}
 use Rattle.form.specs.Form.{chunksOf, chunksLength, startRow}
 use Rattle.form.proofs.Sorting.{member-at}
-use Rattle.sortrows.specs.declared.Entry.{Entry}
-use Rattle.sortrows.specs.Rows.{entryAt, entriesAt}
-use Rattle.sortrows.specs.Heap.{noEntry, nth}
-use Rattle.sortrows.proofs.Bytes.{length-entries, entry-is, entry-eq}
+use Rattle.threerows.specs.declared.Entry.{Entry}
+use Rattle.threerows.specs.Rows.{entryAt, entriesAt, noEntry, nth}
+use Rattle.threerows.proofs.Bytes.{length-entries, entry-is, entry-eq}
 use Rattle.sorted.specs.Reordered.{itemFrom, named, InData}
 
 -- ---- reads beside a write

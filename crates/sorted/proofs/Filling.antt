@@ -10,10 +10,9 @@ use lib.Seq.{getD-set-same, getD-set-other, ext-getD}
 use Rattle.endian.specs.Little.{leAt}
 use Rattle.index.specs.Index.{idSteps, startSteps, sizes}
 use Rattle.index.proofs.Tally.{Tally, tally-start, tally-id, tally-place, tally-turn}
-use Rattle.sortrows.specs.Rows.{entriesAt, FitEntry, Only}
-use Rattle.sortrows.specs.Heap.{noEntry, nth}
-use Rattle.sortrows.proofs.Cases.{Either, is, not, either}
-use Rattle.sortrows.proofs.Bytes.{length-entries, entry-eq, only-none, only-then}
+use Rattle.threerows.specs.Rows.{entriesAt, FitEntry, Only, noEntry, nth}
+use Rattle.threerows.proofs.Cases.{Either, is, not, either}
+use Rattle.threerows.proofs.Bytes.{length-entries, entry-eq, only-none, only-then}
 use Rattle.sorted.specs.Reordered.{storedAt, storedFrom, storedEntries}
 
 -- ---- the entries in rows

@@ -14,10 +14,10 @@ use Rattle.shard.specs.Items.{Item, itemOf, itemAt, Led}
 use Rattle.form.specs.Sorted.{notAbove, insertBy, sortBy, Member, Distinct}
 use Rattle.form.specs.Content.{itemsFrom, itemsAt, byId}
 use Rattle.form.proofs.Sorting.{sort-mem, length-sort}
-use Rattle.sortrows.specs.declared.Entry.{Entry}
-use Rattle.sortrows.specs.Rows.{idOf, sortById}
-use Rattle.sortrows.specs.Heap.{noEntry}
-use Rattle.sortrows.proofs.Cases.{Either, is, not, either, apart}
+use Rattle.threerows.specs.declared.Entry.{Entry}
+use Rattle.threerows.specs.Rows.{idOf, noEntry}
+use Rattle.sortrows.specs.Rows.{sortById}
+use Rattle.threerows.proofs.Cases.{Either, is, not, either, apart}
 use Rattle.sortrows.proofs.Places.{at-mem, apart-distinct}
 use Rattle.minishard.specs.Writing.{Readable, LeadsIn, Apart}
 use Rattle.sorted.specs.Reordered.{storedAt, storedFrom, storedEntries, itemFrom, named, InData}

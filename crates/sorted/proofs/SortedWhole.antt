@@ -19,10 +19,10 @@ use Rattle.form.specs.Sorted.{Member, Distinct}
 use Rattle.form.specs.Content.{itemsAt, byId}
 use Rattle.form.proofs.Sorting.{rising-sort, rising-later}
 use Rattle.form.proofs.Measures.{length-chunks, length-ids, length-starts, chunks-by-id}
-use Rattle.sortrows.specs.declared.Entry.{Entry}
-use Rattle.sortrows.specs.Rows.{idOf, entriesAt, rowsOf, sortById, Only}
-use Rattle.sortrows.specs.Heap.{noEntry, nth}
-use Rattle.sortrows.proofs.Bytes.{length-entries, entry-is, only-then, rows-written}
+use Rattle.threerows.specs.declared.Entry.{Entry}
+use Rattle.threerows.specs.Rows.{idOf, entriesAt, rowsOf, Only, noEntry, nth}
+use Rattle.sortrows.specs.Rows.{sortById}
+use Rattle.threerows.proofs.Bytes.{length-entries, entry-is, only-then, rows-written}
 use Rattle.minishard.specs.Writing.{Readable, LeadsIn, Apart, minishardLength, capped}
 use Rattle.sorted.specs.Reordered.{storedEntries, itemFrom, named, InData, SortedRows, RisingRow, stepsFrom}
 use Rattle.sorted.proofs.Naming.{named-sorted, length-sorted, distinct-stored, inside-sorted}

@@ -13,8 +13,8 @@ use Rattle.endian.proofs.Paste.{paste-nil, paste-on}
 use Rattle.sharding.specs.declared.Sharding.{Sharding}
 use Rattle.shard.specs.Items.{itemOf}
 use Rattle.form.specs.Form.{idRow}
-use Rattle.sortrows.specs.Rows.{entriesFrom, entriesAt}
-use Rattle.sortrows.proofs.Bytes.{kept}
+use Rattle.threerows.specs.Rows.{entriesFrom, entriesAt}
+use Rattle.threerows.proofs.Bytes.{kept}
 use Rattle.sorted.specs.Reordered.{named, RisingRow, stepsFrom}
 
 -- ---- ids turned into steps

@@ -7,8 +7,9 @@ use Rattle.sharding.specs.declared.Sharding.{Sharding}
 use Rattle.index.specs.Index.{idSteps, startSteps, sizes, idAt, startAt}
 use Rattle.shard.specs.Items.{Item, itemOf, Led}
 use Rattle.form.specs.Sorted.{Member}
-use Rattle.sortrows.specs.declared.Entry.{Entry}
-use Rattle.sortrows.specs.Rows.{entriesAt, sortById, Only}
+use Rattle.threerows.specs.declared.Entry.{Entry}
+use Rattle.threerows.specs.Rows.{entriesAt, Only}
+use Rattle.sortrows.specs.Rows.{sortById}
 
 -- entry i of the minishard index of n entries at s
 unfoldable pub storedAt : List ℕ → ℕ → ℕ → ℕ → Entry

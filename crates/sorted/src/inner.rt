@@ -8,7 +8,7 @@ ghost use Rattle.endian.specs.Place.{paste};
 ghost use Rattle.index.specs.Index.{mostShardBytes};
 ghost use Rattle.form.specs.Form.{chunksOf, chunksLength, startRow, partOf};
 ghost use Rattle.form.specs.Content.{itemsAt, byId};
-ghost use Rattle.sortrows.specs.Rows.{entriesAt, Only};
+ghost use Rattle.threerows.specs.Rows.{entriesAt, Only};
 ghost use Rattle.minishard.specs.Writing.{Readable, LeadsIn, Apart, minishardLength};
 ghost use Rattle.sorted.specs.Reordered.{storedEntries, named, InData, RisingRow, stepsFrom, SortedRows};
 use endian::inner::copy_bytes;
@@ -18,11 +18,11 @@ use minishard::inner::may_stand;
 use minishard::inner::part_length;
 use shard::inner::lead_length;
 use sharding::Sharding;
-use sortrows::Entry;
-use sortrows::inner::get;
-use sortrows::inner::put;
 use sortrows::inner::sort_rows;
 use stored::inner::settle_stored;
+use threerows::Entry;
+use threerows::inner::get;
+use threerows::inner::put;
 
 // The entries with absolute numbers, as they stand, in three rows at q.
 fn put_rows(data: &[u8], s: usize, n: usize, out: &mut [u8], q: usize)
