@@ -16,7 +16,7 @@ use Rattle.refusal.specs.Checks.{firstNumber, unless}
 use Rattle.refusal.specs.Buffer.{written}
 use Rattle.refusal.specs.declared.Written.the-variants.{Length, Refused as WriteRefused}
 use Rattle.endian.proofs.Little.{leAt-le, le-leAt, leAt-bound}
-use Rattle.endian.proofs.Copy.{part-length}
+use Rattle.endian.proofs.Part.{part-length}
 use Rattle.endian.proofs.Buffer.{written-short, written-fits, leftBy-fits}
 use Rattle.refusal.proofs.Tests.{both}
 use Rattle.grid.specs.declared.Offset.{Offset}

@@ -3,6 +3,6 @@ pub mod Little
 pub mod Holds
 pub mod Paste
 pub mod Mapped
-pub mod Copy
+pub mod Part
 pub mod Buffer
 pub mod Signs

@@ -1,2 +1,2 @@
-// The byte layer: little-endian numbers at places of byte slices, and copying.
+// The byte layer: little-endian numbers at places of byte slices.
 pub mod inner;

@@ -13,7 +13,7 @@ use lib.Seq.{drop-cons, drop-length, take-append-le, take-take, length-take-le}
 use Rattle.endian.specs.Little.{le, leAt, row}
 use Rattle.endian.specs.Place.{paste}
 use Rattle.endian.proofs.Little.{length-le, leAt-drop, leAt-take}
-use Rattle.endian.proofs.Copy.{part-length}
+use Rattle.endian.proofs.Part.{part-length}
 use Rattle.endian.proofs.Paste.{paste-nil, paste-on, paste-apart, paste-reach, drop-paste, length-paste}
 use Rattle.sharding.specs.declared.Sharding.{Sharding}
 use Rattle.shard.specs.Items.{leadLength, Led}

@@ -11,7 +11,7 @@ ghost use Rattle.form.specs.Content.{itemsAt, byId};
 ghost use Rattle.threerows.specs.Rows.{entriesAt, Only};
 ghost use Rattle.minishard.specs.Writing.{Readable, LeadsIn, Apart, minishardLength};
 ghost use Rattle.sorted.specs.Reordered.{storedEntries, named, InData, RisingRow, stepsFrom, SortedRows};
-use endian::inner::copy_bytes;
+use copying::inner::copy_bytes;
 use endian::inner::put_u64;
 use endian::inner::read_u64;
 use minishard::inner::may_stand;

@@ -12,7 +12,7 @@ use lib.ListN.{length, take, drop}
 use Rattle.endian.specs.Little.{leAt}
 use Rattle.endian.specs.Place.{paste}
 use Rattle.endian.specs.Range.{sumTo}
-use Rattle.endian.proofs.Copy.{part-length}
+use Rattle.endian.proofs.Part.{part-length}
 use Rattle.endian.proofs.Paste.{paste-nil, paste-on}
 use Rattle.endian.proofs.Ranges.{sum-none, sum-step, sum-grows, sum-done}
 use Rattle.index.specs.Index.{sizes, chunkAt}

@@ -13,7 +13,7 @@ use Rattle.endian.specs.Little.{le, leAt, row}
 use Rattle.endian.specs.Place.{paste}
 use Rattle.endian.specs.Range.{sumTo}
 use Rattle.endian.proofs.Little.{le-leAt, leAt-bound, length-le}
-use Rattle.endian.proofs.Copy.{part-length}
+use Rattle.endian.proofs.Part.{part-length}
 use Rattle.endian.proofs.Paste.{paste-then}
 use Rattle.sharding.specs.declared.Sharding.{Sharding}
 use Rattle.index.specs.Index.{idSteps, startSteps, sizes, idAt, endAt, chunkAt}

@@ -5,7 +5,7 @@ ghost use lib.ListN.{length};
 ghost use Rattle.endian.specs.Little.{row};
 ghost use Rattle.endian.specs.Place.{paste};
 ghost use Rattle.waiting.specs.Held.{pair, stepsHeld, sizesHeld, startsFrom, indexHeld};
-use endian::inner::fill_zero;
+use copying::inner::fill_zero;
 use endian::inner::put_u64;
 use endian::inner::read_u64;
 

@@ -5,10 +5,11 @@ use mathlib.Core.List.{List, [], _∷_, _++_}
 use native.Mathlib.Omega.{arith}
 use native.Mathlib.Nat.{add-zero, sub-zero}
 use borrow.Author.Needs.{needs}
-use lib.ListN.{length, getD, take, drop, set, replicate, length-take, length-drop}
+use lib.ListN.{length, getD, take, drop, set, replicate}
 use lib.Seq.{drop-cons, take-add, drop-drop}
 use Rattle.endian.specs.Place.{paste}
+use Rattle.endian.proofs.Part.{part-length}
 use Rattle.endian.proofs.Paste.{paste-nil, paste-cons, paste-then, paste-holds}
 
 -- a turn that writes one byte, x, the first of what is left
 paste-step : (at i x : ℕ) (xs ys d : List ℕ) → ys ≡ x ∷ xs → at + i < length d
@@ -25,9 +26,6 @@ take-none : (n : ℕ) (s : List ℕ) → n ≡ 0 → take n s ≡ []
 take-none n s e = rw e
 
 -- ---- a part of a list
-
-pub part-length : (s : List ℕ) (from len : ℕ) → from + len ≤ length s → length (take len (drop from s)) ≡ len
-part-length s from len h = simp (length-take, length-drop) (omega arith)
 
 -- the next byte of a part
 part-cons : (s : List ℕ) (from len i : ℕ) → from + len ≤ length s → i < len

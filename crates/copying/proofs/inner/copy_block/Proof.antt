@@ -1,7 +1,7 @@
 use borrow.Author.Needs.{needs}
-use Rattle.endian.proofs.Copy.{copies}
-use Rattle.endian.proofs.inner.copy_block.Statement.{statement}
-use Rattle.endian.proofs.inner.copy_block.Tie as tie
+use Rattle.copying.proofs.Copy.{copies}
+use Rattle.copying.proofs.inner.copy_block.Statement.{statement}
+use Rattle.copying.proofs.inner.copy_block.Tie as tie
 
 returns : tie.Need-returns
 returns c = search copies
