@@ -13,12 +13,13 @@ use Rattle.refusal.proofs.Picks.{by-picks}
 use Rattle.grid.specs.declared.Volume.{Volume}
 use Rattle.grid.specs.declared.Extents.{Extents}
 use Rattle.grid.specs.declared.Cell.{Cell}
-use Rattle.grid.specs.declared.KeyAnswer.the-variants.{Key}
+use Rattle.morton.specs.declared.KeyAnswer.the-variants.{Key}
 use Rattle.grid.specs.Grid.{gridOf, zeroExtent, inGrid}
-use Rattle.grid.specs.Key.{tooManyBits, keyOf}
-use Rattle.grid.specs.Answers.{noCell, keyAnswer}
+use Rattle.morton.specs.Key.{tooManyBits, keyOf}
+use Rattle.grid.specs.Answers.{noCell}
+use Rattle.morton.specs.Answers.{keyAnswer}
 use Rattle.batch.specs.Batch.{eachInGrid, keysOf, keysChecks, keysAnswer}
-use Rattle.grid.proofs.Answered.{key-by-picks}
+use Rattle.morton.proofs.Answered.{key-by-picks}
 
 key-alone : (v : Volume) (c : Cell) → zeroExtent v ≡ false → inGrid (gridOf v) c ≡ true → tooManyBits (gridOf v) ≡ false
     → keyAnswer v c ≡ Key (keyOf (gridOf v) c)

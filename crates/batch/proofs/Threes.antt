@@ -18,7 +18,7 @@ use Rattle.grid.specs.declared.Volume.{Volume}
 use Rattle.grid.specs.declared.Extents.{Extents}
 use Rattle.grid.specs.declared.Cell.{Cell}
 use Rattle.grid.specs.Grid.{gridOf, zeroExtent, inGrid}
-use Rattle.grid.specs.Key.{tooManyBits, keyOf}
+use Rattle.morton.specs.Key.{tooManyBits, keyOf}
 use Rattle.batch.specs.Batch.{cellAt, cellsOf, eachInGrid, keysOf, keysChecks, keysAnswer, keysLeft}
 
 pub length-cells : (s : List ℕ) → length (cellsOf s) ≡ length s / 3

@@ -11,7 +11,7 @@ use Rattle.grid.specs.declared.Volume.{Volume}
 use Rattle.grid.specs.declared.Extents.{Extents}
 use Rattle.grid.specs.declared.Cell.{Cell}
 use Rattle.grid.specs.Grid.{gridOf, zeroExtent, inGrid}
-use Rattle.grid.specs.Key.{tooManyBits, keyOf}
+use Rattle.morton.specs.Key.{tooManyBits, keyOf}
 
 -- the cells of lent numbers, x, y and z of each in turn; one or two numbers left over are no cell (RULES G9)
 unfoldable pub cellsOf : List ℕ → List Cell

@@ -4,7 +4,7 @@ ghost use mathlib.Core.List.{map};
 ghost use Prim.Native.Nat.{_+_, _/_, _≤_};
 ghost use lib.ListN.{length};
 ghost use Rattle.endian.specs.Place.{paste};
-ghost use Rattle.grid.specs.Key.{keyBits, keyOf};
+ghost use Rattle.morton.specs.Key.{keyBits, keyOf};
 ghost use Rattle.batch.specs.Batch.{cellAt, cellsOf, eachInGrid, keysAnswer, keysLeft};
 use grid::Cell;
 use grid::Extents;
@@ -46,7 +46,7 @@ fn fill_keys(grid: Extents, cells: &[u32], keys: &mut [u64])
     let n = cells.len() / 3;
     let mut i = 0;
     while i < n {
-        keys[i] = inner::key(grid, cell_at(cells, 3 * i));
+        keys[i] = morton::inner::key(grid, cell_at(cells, 3 * i));
         i += 1;
     }
 }
@@ -64,7 +64,7 @@ pub fn keys_of(volume: Volume, cells: &[u32], keys: &mut [u64]) -> Written
     if !all_inside(grid, cells) {
         return Written::Refused(2);
     }
-    if inner::too_many_bits(grid) {
+    if morton::inner::too_many_bits(grid) {
         return Written::Refused(3);
     }
     if keys.len() < cells.len() / 3 {

@@ -15,7 +15,7 @@ use Rattle.refusal.proofs.Picks.{AllIn, all-in}
 use Rattle.refusal.proofs.Refusing.{answered-both}
 use Rattle.refusal.proofs.Tests.{told-no, told-yes}
 use Rattle.grid.specs.Grid.{gridOf, zeroExtent}
-use Rattle.grid.specs.Key.{keyBits, tooManyBits}
+use Rattle.morton.specs.Key.{keyBits, tooManyBits}
 use Rattle.sharding.specs.Specification.{allowed}
 use Rattle.card.specs.declared.Card.{Card}
 use Rattle.card.specs.declared.CardAnswer.the-variants.{Says, Refused}

@@ -21,7 +21,7 @@ use Rattle.endian.proofs.Buffer.{written-short, written-fits, leftBy-fits}
 use Rattle.refusal.proofs.Tests.{both}
 use Rattle.grid.specs.declared.Offset.{Offset}
 use Rattle.grid.specs.Grid.{InU32, gridOf, zeroExtent}
-use Rattle.grid.specs.Key.{tooManyBits}
+use Rattle.morton.specs.Key.{tooManyBits}
 use Rattle.sharding.specs.Specification.{volume, mesh, isMesh, minishardBits, shardBits, allowed, Within}
 use Rattle.sharding.specs.declared.Sharding.{Sharding}
 use Rattle.sharding.proofs.Allowed.{allowed-within}

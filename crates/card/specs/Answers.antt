@@ -8,7 +8,7 @@ use Rattle.refusal.specs.Buffer.{room, over}
 use Rattle.refusal.specs.declared.Written.{Written}
 use Rattle.refusal.specs.declared.Written.the-variants.{Length, Refused as WriteRefused}
 use Rattle.grid.specs.Grid.{gridOf, zeroExtent}
-use Rattle.grid.specs.Key.{tooManyBits}
+use Rattle.morton.specs.Key.{tooManyBits}
 use Rattle.sharding.specs.Specification.{allowed}
 use Rattle.card.specs.declared.Card.{Card}
 use Rattle.card.specs.declared.CardAnswer.{CardAnswer}

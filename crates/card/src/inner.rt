@@ -15,7 +15,7 @@ pub fn judge(card: Card) -> u8
     if grid::inner::zero_extent(volume) {
         return 2;
     }
-    if 64 < grid::inner::volume_key_bits(volume) {
+    if 64 < morton::inner::volume_key_bits(volume) {
         return 3;
     }
     0

@@ -4,10 +4,10 @@ use mathlib.Core.List.{List, [], _∷_}
 use lib.IntN.{ℤ}
 use Rattle.grid.specs.declared.GridAnswer.{GridAnswer}
 use Rattle.grid.specs.declared.GridAnswer.the-variants.{Grid, Refused as GridRefused}
-use Rattle.grid.specs.declared.KeyAnswer.{KeyAnswer}
-use Rattle.grid.specs.declared.KeyAnswer.the-variants.{Key, Refused as KeyRefused}
-use Rattle.grid.specs.declared.CellAnswer.{CellAnswer}
-use Rattle.grid.specs.declared.CellAnswer.the-variants.{At, Refused as CellRefused}
+use Rattle.morton.specs.declared.KeyAnswer.{KeyAnswer}
+use Rattle.morton.specs.declared.KeyAnswer.the-variants.{Key, Refused as KeyRefused}
+use Rattle.morton.specs.declared.CellAnswer.{CellAnswer}
+use Rattle.morton.specs.declared.CellAnswer.the-variants.{At, Refused as CellRefused}
 use Rattle.bounds.specs.declared.BoundsAnswer.{BoundsAnswer}
 use Rattle.bounds.specs.declared.BoundsAnswer.the-variants.{Within, Refused as BoundsRefused}
 

@@ -1,7 +1,8 @@
 // Volumes, cells and keys.
 ghost use mathlib.Core.Path.{_≡_};
 ghost use mathlib.Core.List.{[], _∷_};
-ghost use Rattle.grid.specs.Answers.{gridAnswer, keyAnswer, cellAnswer};
+ghost use Rattle.grid.specs.Answers.{gridAnswer};
+ghost use Rattle.morton.specs.Answers.{keyAnswer, cellAnswer};
 ghost use Rattle.bounds.specs.Answers.{boundsAnswer};
 ghost use Rattle.batch.specs.Batch.{cellsOf, keysAnswer, keysLeft};
 ghost use Rattle.spread.specs.Row.{rowOf};
@@ -11,10 +12,10 @@ ghost use Rattle.coronagamba.specs.Cells.{gridWord, gridAfter, keyWord, 
 use bounds::BoundsAnswer;
 use bounds::Point;
 use grid::Cell;
-use grid::CellAnswer;
 use grid::GridAnswer;
-use grid::KeyAnswer;
 use grid::Volume;
+use morton::CellAnswer;
+use morton::KeyAnswer;
 use refusal::Written;
 
 // How many cells the volume has. Writes the numbers along x, y and z to `grid`.
@@ -40,7 +41,7 @@ pub extern "C" fn coronagamba_key_of(volume: Volume, cell: Cell, key: &mut u64) 
     ensures answer { λ r. ⌜ r ≡ keyWord (keyAnswer volume cell) ⌝ }
     ensures key { λ _. ⌜ now (key .exit) ≡ keyAfter (keyAnswer volume cell) (now (key .entry)) ⌝ }
 {
-    match grid::key_of(volume, cell) {
+    match morton::key_of(volume, cell) {
         KeyAnswer::Key(k) => {
             *key = k;
             0
@@ -136,7 +137,7 @@ pub extern "C" fn coronagamba_cell_of(volume: Volume, key: u64, cell: &mut [u32;
     ensures answer { λ r. ⌜ r ≡ cellWord (cellAnswer volume key) ⌝ }
     ensures cell { λ _. ⌜ now (cell .exit) ≡ cellAfter (cellAnswer volume key) (now (cell .entry)) ⌝ }
 {
-    match grid::cell_of(volume, key) {
+    match morton::cell_of(volume, key) {
         CellAnswer::At(c) => {
             *cell = [c.x, c.y, c.z];
             0

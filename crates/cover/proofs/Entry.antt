@@ -17,8 +17,8 @@ use Rattle.bounds.specs.declared.Point.{Point}
 use Rattle.grid.specs.declared.Extents.{Extents}
 use Rattle.grid.specs.declared.Volume.{Volume}
 use Rattle.grid.specs.Grid.{gridOf, zeroExtent}
-use Rattle.grid.specs.Key.{keyBits, tooManyBits}
-use Rattle.grid.proofs.Laws.{few-bits-are, many-bits-are}
+use Rattle.morton.specs.Key.{keyBits, tooManyBits}
+use Rattle.morton.proofs.Laws.{few-bits-are, many-bits-are}
 use Rattle.overlap.specs.declared.Part.{Part}
 use Rattle.overlap.specs.Cover.{coverKeys, coverChecks, coverAnswer, coverLeft}
 use Rattle.overlap.specs.Marked.{leftBits, partKeys, width, Framed, Whole}

@@ -18,7 +18,7 @@ pub fn cover(volume: Volume, lower: Point, upper: Point, out: &mut [u64]) -> Wri
     if grid::inner::zero_extent(volume) {
         return Written::Refused(2);
     }
-    if 64 < grid::inner::volume_key_bits(volume) {
+    if 64 < morton::inner::volume_key_bits(volume) {
         return Written::Refused(3);
     }
     let whole = spans::whole(volume, lower, upper);

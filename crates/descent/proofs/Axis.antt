@@ -9,9 +9,10 @@ use lib.Pow.{pow-pos, pow-add, ones-split, ones-lt, high as div-of}
 use lib.Bits.{bitAnd, and-step}
 use Rattle.grid.specs.declared.Extents.{Extents}
 use Rattle.grid.specs.declared.Cell.{Cell}
-use Rattle.grid.specs.Key.{bitOf, used, count, keyOf}
-use Rattle.grid.specs.Turn.{put, AxisBits}
-use Rattle.grid.proofs.From.{keyFrom, key-is, used-yes}
+use Rattle.axisbits.specs.Axis.{bitOf, used, count, put, AxisBits}
+use Rattle.morton.specs.Key.{keyOf}
+use Rattle.morton.proofs.From.{keyFrom, key-is}
+use Rattle.axisbits.proofs.Used.{used-yes}
 
 bit-lt : (v i : ℕ) → bitOf v i < 2
 unfolding bitOf

@@ -10,8 +10,8 @@ use lib.Bits.{bitAnd}
 use lib.Dec.{leb}
 use Rattle.grid.specs.declared.Extents.{Extents}
 use Rattle.grid.specs.declared.Cell.{Cell}
-use Rattle.grid.specs.Key.{keyOf, cellOf, keyBits}
-use Rattle.grid.proofs.From.{key-of-cell, key-below}
+use Rattle.morton.specs.Key.{keyOf, cellOf, keyBits}
+use Rattle.morton.proofs.From.{key-of-cell, key-below}
 use Rattle.overlap.specs.declared.Along.{Along}
 use Rattle.overlap.specs.declared.Part.{Part}
 use Rattle.overlap.specs.Cover.{passing}

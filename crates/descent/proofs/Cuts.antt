@@ -11,7 +11,8 @@ use lib.Dec.{ltb, leb}
 use lib.ListN.{length, length-append}
 use Rattle.grid.specs.declared.Cell.{Cell}
 use Rattle.grid.specs.declared.Extents.{Extents}
-use Rattle.grid.specs.Key.{cellOf, keyBits, count}
+use Rattle.morton.specs.Key.{cellOf, keyBits}
+use Rattle.axisbits.specs.Axis.{count}
 use Rattle.refusal.proofs.Tests.{both, neither}
 use Rattle.overlap.specs.declared.Along.{Along}
 use Rattle.overlap.specs.declared.Part.{Part}

@@ -8,10 +8,11 @@ use native.Mathlib.Nat.{pow-suc, le-refl, le-trans, lt-of-lt-of-le, div-eq-of-lt
 use lib.Pow.{pow-add, pow-lt, pow-mono, pow-pos}
 use Rattle.grid.specs.declared.Extents.{Extents}
 use Rattle.grid.specs.declared.Cell.{Cell}
-use Rattle.grid.specs.Key.{bitOf, used, keyOf, cellOf, keyBits}
-use Rattle.grid.specs.Turn.{put, low, AxisBits}
-use Rattle.grid.proofs.From.{keyFrom, cellFrom, afterTurn, key-is, cell-is, low-lt, cell-of-key, key-of-cell, unused}
-use Rattle.grid.proofs.Lengths.{axis-bits-are, key-bits-sum}
+use Rattle.axisbits.specs.Axis.{bitOf, used, put, low, AxisBits}
+use Rattle.morton.specs.Key.{keyOf, cellOf, keyBits}
+use Rattle.morton.proofs.From.{keyFrom, cellFrom, afterTurn, key-is, cell-is, low-lt, cell-of-key, key-of-cell}
+use Rattle.axisbits.proofs.Used.{unused, axis-bits-are}
+use Rattle.morton.proofs.Lengths.{key-bits-sum}
 use Rattle.descent.proofs.HighBit.{Halved, halve-x, halve-y, halve-z}
 
 abbrev pub cube : ℕ → ℕ → ℕ → Extents

@@ -7,9 +7,11 @@ use native.Mathlib.Nat.{le-refl, lt-trans, zero-add}
 use lib.Pow.{pow-add, pow-lt}
 use Rattle.grid.specs.declared.Extents.{Extents}
 use Rattle.grid.specs.declared.Cell.{Cell}
-use Rattle.grid.specs.Key.{bitOf, used, count, keyOf, keyBits}
-use Rattle.grid.specs.Turn.{put, Top}
-use Rattle.grid.proofs.From.{bitsFrom, keyFrom, key-is, bits-is, key-from-none, bits-from-none, used-yes, unused, more}
+use Rattle.axisbits.specs.Axis.{bitOf, used, count, put}
+use Rattle.morton.specs.Key.{keyOf, keyBits}
+use Rattle.morton.specs.Turn.{Top}
+use Rattle.morton.proofs.From.{bitsFrom, keyFrom, key-is, bits-is, key-from-none, bits-from-none, more}
+use Rattle.axisbits.proofs.Used.{used-yes, unused}
 
 -- the bit b at the top of a key of m bits stays at the top
 put-top : (u : Bool) (a k b m : ℕ) → put u a (k + b * 2 ^ m) ≡ put u a k + b * 2 ^ (count u + m)

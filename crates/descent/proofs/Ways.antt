@@ -14,7 +14,7 @@ use Rattle.endian.specs.Place.{paste}
 use Rattle.endian.proofs.Paste.{paste-nil, length-paste, paste-then}
 use Rattle.grid.specs.declared.Cell.{Cell}
 use Rattle.grid.specs.declared.Extents.{Extents}
-use Rattle.grid.specs.Key.{keyOf}
+use Rattle.morton.specs.Key.{keyOf}
 use Rattle.overlap.specs.declared.Part.{Part}
 use Rattle.overlap.specs.Marked.{Sized, missed, partKeys, firstCell, lastCell, Framed}
 use Rattle.halves.specs.Box.{counting, boxKeys, Corners, SplitAt, bitsLeft, Axes, Owns, lastBelow, firstAbove}

@@ -15,7 +15,7 @@ use Rattle.json.specs.Rfc.{JsonText}
 use Rattle.json.proofs.Agree.{json-sound, json-complete}
 use Rattle.json.proofs.Encoded.{json-utf8}
 use Rattle.grid.specs.Grid.{gridOf, zeroExtent}
-use Rattle.grid.specs.Key.{tooManyBits}
+use Rattle.morton.specs.Key.{tooManyBits}
 use Rattle.sharding.specs.Specification.{volume, allowed}
 use Rattle.card.specs.declared.Card.{Card}
 use Rattle.card.specs.declared.CardAnswer.the-variants.{Says, Refused}

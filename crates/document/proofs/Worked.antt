@@ -11,7 +11,8 @@ use Rattle.json.specs.Grammar.{scalarAt, itemsAt, listAt, memberAt, valueAt, en
 use Rattle.places.specs.Places.{nextElement, nextMember, orStart, valueOf, firstIn, itemsBy, elements, members, isText, keep, isName, named, only, member, onceOf, needed, pickNth, element, threeOf, loneOf}
 use Rattle.wholes.specs.Numbers.{decimalOn, decimalAt, goesOn, in32, digitsFrom, wholeFrom, naturalAt, negative, aboveOf, belowOf, coordinateAt}
 use Rattle.grid.specs.Grid.{gridSize, gridOf, hasZero, zeroExtent}
-use Rattle.grid.specs.Key.{bitOf, used, step, steps, keyBits, tooManyBits}
+use Rattle.axisbits.specs.Axis.{bitOf, used}
+use Rattle.morton.specs.Key.{step, steps, keyBits, tooManyBits}
 use Rattle.sharding.specs.Specification.{allowed}
 use Rattle.cardfields.specs.Twos.{bits32, signed32}
 use Rattle.card.specs.Answers.{recordChecks}

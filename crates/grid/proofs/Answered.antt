@@ -1,31 +1,13 @@
--- Each answer as a choice for each of its checks, in their order: what a proof that follows the code, test by test, shows.
-use Prim.Native.Nat.{ℕ}
+-- The answer as a choice by its check: what a proof that follows the code, test by test, shows.
 use mathlib.Core.Path.{_≡_, refl}
-use mathlib.Core.Bool.{not}
 use Rattle.refusal.specs.Choice.{pick}
 use Rattle.refusal.proofs.Picks.{by-picks}
 use Rattle.grid.specs.declared.Volume.{Volume}
-use Rattle.grid.specs.declared.Cell.{Cell}
 use Rattle.grid.specs.declared.GridAnswer.the-variants.{Grid, Refused as GridRefused}
-use Rattle.grid.specs.declared.KeyAnswer.the-variants.{Key, Refused as KeyRefused}
-use Rattle.grid.specs.declared.CellAnswer.the-variants.{At, Refused as CellRefused}
 use Rattle.grid.specs.Grid.{gridOf, zeroExtent}
-use Rattle.grid.specs.Key.{tooManyBits, keyOf, cellOf, isKey}
-use Rattle.grid.specs.Answers.{noCell, gridChecks, gridAnswer, keyChecks, keyAnswer, cellChecks, cellAnswer}
+use Rattle.grid.specs.Answers.{gridChecks, gridAnswer}
 
 module _ (v : Volume) where
   pub grid-by-picks : gridAnswer v ≡ pick (zeroExtent v) (GridRefused 2) (Grid (gridOf v))
   unfolding gridAnswer gridChecks
   grid-by-picks = by-picks GridRefused (gridChecks v) _ refl
-
-  pub key-by-picks : (c : Cell) → keyAnswer v c
-      ≡ pick (noCell v c) (KeyRefused 2) (pick (tooManyBits (gridOf v)) (KeyRefused 3) (Key (keyOf (gridOf v) c)))
-  unfolding keyAnswer keyChecks
-  key-by-picks c = by-picks KeyRefused (keyChecks v c) _ refl
-
-  pub cell-by-picks : (key : ℕ) → cellAnswer v key
-      ≡ pick (zeroExtent v) (CellRefused 2)
-      (pick (tooManyBits (gridOf v)) (CellRefused 3)
-      (pick (not (isKey (gridOf v) key)) (CellRefused 4) (At (cellOf (gridOf v) key))))
-  unfolding cellAnswer cellChecks
-  cell-by-picks key = by-picks CellRefused (cellChecks v key) _ refl

@@ -1,8 +1,3 @@
 pub mod Answered
 pub mod Covers
-pub mod From
-pub mod Lengths
-pub mod Turns
 pub mod Ways
-pub mod Laws
-pub mod Cases

@@ -1,4 +1,2 @@
 pub mod Grid
-pub mod Key
-pub mod Turn
 pub mod Answers

@@ -1,11 +1,7 @@
-// Volumes cut into chunks: the grid of cells, and the key of each cell.
-mod axis;
+// Volumes cut into chunks: the grid of cells.
 pub mod inner;
-pub mod keys;
 pub mod sizes;
 
-pub use keys::cell_of;
-pub use keys::key_of;
 pub use sizes::grid_of;
 
 // How far something reaches along each axis, in voxels or in cells.
@@ -42,15 +38,5 @@ pub struct Volume {
 
 pub enum GridAnswer {
     Grid(Extents),
-    Refused(u8),
-}
-
-pub enum KeyAnswer {
-    Key(u64),
-    Refused(u8),
-}
-
-pub enum CellAnswer {
-    At(Cell),
     Refused(u8),
 }

@@ -10,7 +10,7 @@ use borrow.Author.Needs.{needs}
 use borrow.Author.Tests.{eqb-true, eqb-false}
 use mir.Syntax.{w64}
 use mir.Val.{Fits}
-use Rattle.grid.proofs.Ways.{one-shl}
+use Rattle.axisbits.proofs.Used.{one-shl}
 use Rattle.halves.specs.Box.{Axes, Owns, lastBelow, firstAbove}
 use Rattle.halves.proofs.Boxes.{z-owns, y-owns, x-owns}
 use Rattle.halves.proofs.Differ.{top-zeros, top-held, top-all, some-differ, split-at}

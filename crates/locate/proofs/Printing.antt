@@ -16,13 +16,13 @@ use Rattle.endian.specs.Little.{le, leAt}
 use Rattle.endian.specs.Place.{paste}
 use Rattle.endian.proofs.Paste.{paste-nil, paste-on, paste-then}
 use Rattle.grid.specs.Grid.{gridOf, zeroExtent, inGrid}
-use Rattle.grid.specs.Key.{keyBits, keyOf}
+use Rattle.morton.specs.Key.{keyBits, keyOf}
 use Rattle.grid.specs.Answers.{noCell}
 use Rattle.grid.specs.declared.Cell.{Cell}
 use Rattle.grid.specs.declared.Extents.{Extents}
-use Rattle.grid.specs.declared.KeyAnswer.the-variants.{Key, Refused as KeyRefused}
-use Rattle.grid.proofs.Answered.{key-by-picks}
-use Rattle.grid.proofs.Laws.{few-bits}
+use Rattle.morton.specs.declared.KeyAnswer.the-variants.{Key, Refused as KeyRefused}
+use Rattle.morton.proofs.Answered.{key-by-picks}
+use Rattle.morton.proofs.Laws.{few-bits}
 use Rattle.digits.specs.Digits.{decimal}
 use Rattle.names.specs.Shards.{shardName}
 use Rattle.digits.proofs.Numerals.{decimal-twenty}

@@ -4,8 +4,10 @@ use mathlib.Core.Path.{_≡_, refl}
 use mathlib.Core.List.{List, [], _∷_, _++_}
 use Rattle.endian.specs.Little.{le, leAt}
 use Rattle.grid.specs.Grid.{gridSize, gridOf, hasZero, zeroExtent, inGrid}
-use Rattle.grid.specs.Key.{bitOf, used, step, steps, keyOf, keyBits, tooManyBits}
-use Rattle.grid.specs.Answers.{noCell, keyChecks, keyAnswer}
+use Rattle.axisbits.specs.Axis.{bitOf, used}
+use Rattle.morton.specs.Key.{step, steps, keyOf, keyBits, tooManyBits}
+use Rattle.grid.specs.Answers.{noCell}
+use Rattle.morton.specs.Answers.{keyChecks, keyAnswer}
 use Rattle.digits.specs.Digits.{digitByte, digits, countTo, digitCount, decimal}
 use Rattle.names.specs.Shards.{shardDigits, fileName}
 use Rattle.sharding.specs.Specification.{volume, mesh, allowed}

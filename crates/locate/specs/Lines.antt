@@ -2,13 +2,13 @@
 use Prim.Native.Nat.{ℕ}
 use mathlib.Core.List.{List, [], _∷_, _++_}
 use Rattle.refusal.specs.Choice.{pick}
-use Rattle.grid.specs.Answers.{keyAnswer}
+use Rattle.morton.specs.Answers.{keyAnswer}
 use Rattle.grid.specs.Grid.{inGrid}
-use Rattle.grid.specs.Key.{keyOf}
+use Rattle.morton.specs.Key.{keyOf}
 use Rattle.grid.specs.declared.Cell.{Cell}
 use Rattle.grid.specs.declared.Extents.{Extents}
-use Rattle.grid.specs.declared.KeyAnswer.{KeyAnswer}
-use Rattle.grid.specs.declared.KeyAnswer.the-variants.{Key, Refused as KeyRefused}
+use Rattle.morton.specs.declared.KeyAnswer.{KeyAnswer}
+use Rattle.morton.specs.declared.KeyAnswer.the-variants.{Key, Refused as KeyRefused}
 use Rattle.digits.specs.Digits.{decimal}
 use Rattle.names.specs.Shards.{shardName}
 use Rattle.sharding.specs.Place.{placeOf}

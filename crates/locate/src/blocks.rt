@@ -5,7 +5,7 @@ ghost use Prim.Native.Nat.{_+_, _*_, _/_, _≤_};
 ghost use lib.ListN.{length};
 ghost use Rattle.endian.specs.Place.{paste};
 ghost use Rattle.grid.specs.Grid.{gridOf};
-ghost use Rattle.grid.specs.Key.{keyBits};
+ghost use Rattle.morton.specs.Key.{keyBits};
 ghost use Rattle.sharding.specs.Specification.{allowed};
 ghost use Rattle.spread.specs.Spread.{Spreads};
 ghost use Rattle.spread.specs.Parts.{Planned};

@@ -9,7 +9,7 @@ use lib.ListN.{length, getD}
 use Rattle.refusal.specs.Choice.{pick}
 use Rattle.refusal.specs.Checks.{Check, check, answered}
 use Rattle.grid.specs.Grid.{gridOf, zeroExtent}
-use Rattle.grid.specs.Key.{tooManyBits}
+use Rattle.morton.specs.Key.{tooManyBits}
 use Rattle.grid.specs.declared.Offset.{Offset}
 use Rattle.sharding.specs.declared.Sharding.{Sharding}
 use Rattle.sharding.specs.Specification.{volume, mesh, mostMinishardBits, minishardBits}

@@ -9,9 +9,10 @@ use Rattle.refusal.specs.declared.Written.the-variants.{Length, Refused}
 use Rattle.bounds.specs.declared.Point.{Point}
 use Rattle.grid.specs.declared.Volume.{Volume}
 use Rattle.grid.specs.Grid.{gridSize, gridOf, hasZero, zeroExtent, inGrid}
-use Rattle.grid.specs.Key.{bitOf, used, count, step, steps, keyBits, tooManyBits, into, stepBack, stepsBack, cellOf, isKey}
+use Rattle.axisbits.specs.Axis.{bitOf, used, count}
+use Rattle.morton.specs.Key.{step, steps, keyBits, tooManyBits, into, stepBack, stepsBack, cellOf, isKey}
 use Rattle.bounds.specs.Bounds.{beginOf, endOf, beginPoint, endPoint}
-use Rattle.grid.proofs.Cases.{plain, shifted}
+use Rattle.morton.proofs.Cases.{plain, shifted}
 use Rattle.overlap.specs.Cover.{larger, smaller, shares, meets, covers, keep, passing, coverKeys, coverChecks, coverAnswer, coverLeft}
 
 pub data Case : Type 0 where

@@ -19,12 +19,12 @@ use Rattle.refusal.proofs.Refusing.{by-none}
 use Rattle.grid.specs.declared.Cell.{Cell}
 use Rattle.bounds.specs.declared.Point.{Point}
 use Rattle.grid.specs.declared.Volume.{Volume}
-use Rattle.grid.specs.declared.KeyAnswer.the-variants.{Key}
+use Rattle.morton.specs.declared.KeyAnswer.the-variants.{Key}
 use Rattle.grid.specs.Grid.{gridOf, zeroExtent, InU32}
-use Rattle.grid.specs.Key.{keyBits, tooManyBits, cellOf, isKey}
-use Rattle.grid.specs.Answers.{keyAnswer}
+use Rattle.morton.specs.Key.{keyBits, tooManyBits, cellOf, isKey}
+use Rattle.morton.specs.Answers.{keyAnswer}
 use Rattle.bounds.specs.Bounds.{beginOf, endOf, beginPoint, endPoint}
-use Rattle.grid.proofs.Laws.{celled, key-back}
+use Rattle.morton.proofs.Laws.{celled, key-back}
 use Rattle.overlap.specs.Cover.{larger, shares, meets, covers, keep, passing, coverKeys, coverChecks, coverAnswer, coverLeft}
 use Rattle.overlap.specs.Meaning.{From, SharesVoxel, RisingFrom, reversed, apart, outside}
 use Rattle.overlap.proofs.Lists.{passing-none}

@@ -10,7 +10,7 @@ use mir.Facts.{toZ-ofZ}
 use Rattle.bounds.specs.declared.Point.{Point}
 use Rattle.grid.specs.declared.Volume.{Volume}
 use Rattle.grid.specs.Grid.{gridSize}
-use Rattle.grid.specs.Turn.{AxisBits}
+use Rattle.axisbits.specs.Axis.{AxisBits}
 use Rattle.grid.proofs.Ways.{chunk-x, chunk-y, chunk-z}
 use Rattle.overlap.specs.declared.Along.{Along}
 use Rattle.overlap.specs.Marked.{before, Spans, Whole}

@@ -15,12 +15,13 @@ use Rattle.grid.specs.declared.Extents.{Extents}
 use Rattle.bounds.specs.declared.Point.{Point}
 use Rattle.grid.specs.declared.Volume.{Volume}
 use Rattle.grid.specs.Grid.{gridOf, gridSize, inGrid}
-use Rattle.grid.specs.Key.{used, cellOf, keyBits, isKey}
-use Rattle.grid.specs.Turn.{AxisBits}
+use Rattle.axisbits.specs.Axis.{used, AxisBits}
+use Rattle.morton.specs.Key.{cellOf, keyBits, isKey}
 use Rattle.bounds.specs.Bounds.{beginOf, endOf, beginPoint, endPoint}
 use Rattle.grid.proofs.Covers.{next, cell-begins-inside, begins-inside-is-cell, grid-size-reached, grid-size-reaches}
-use Rattle.grid.proofs.From.{cellFrom, afterTurn, cell-is, used-yes, unused}
-use Rattle.grid.proofs.Lengths.{key-bits-sum}
+use Rattle.morton.proofs.From.{cellFrom, afterTurn, cell-is}
+use Rattle.axisbits.proofs.Used.{used-yes, unused}
+use Rattle.morton.proofs.Lengths.{key-bits-sum}
 use Rattle.overlap.specs.declared.Along.{Along}
 use Rattle.overlap.specs.declared.Part.{Part}
 use Rattle.overlap.specs.Cover.{shares, meets, covers, coverKeys}

@@ -14,7 +14,7 @@ use Rattle.grid.specs.declared.Cell.{Cell}
 use Rattle.bounds.specs.declared.Point.{Point}
 use Rattle.grid.specs.declared.Volume.{Volume}
 use Rattle.grid.specs.Grid.{gridOf, zeroExtent}
-use Rattle.grid.specs.Key.{keyBits, tooManyBits, cellOf, isKey}
+use Rattle.morton.specs.Key.{keyBits, tooManyBits, cellOf, isKey}
 use Rattle.bounds.specs.Bounds.{beginPoint, endPoint}
 
 -- ---- a cell and the box

@@ -10,8 +10,8 @@ use Rattle.grid.specs.declared.Extents.{Extents}
 use Rattle.bounds.specs.declared.Point.{Point}
 use Rattle.grid.specs.declared.Volume.{Volume}
 use Rattle.grid.specs.Grid.{gridOf, gridSize}
-use Rattle.grid.specs.Key.{cellOf}
-use Rattle.grid.specs.Turn.{AxisBits}
+use Rattle.morton.specs.Key.{cellOf}
+use Rattle.axisbits.specs.Axis.{AxisBits}
 use Rattle.bounds.specs.Bounds.{beginOf, endOf}
 use Rattle.overlap.specs.Cover.{shares, passing, coverKeys}
 use Rattle.overlap.specs.declared.Along.{Along}

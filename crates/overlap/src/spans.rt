@@ -28,7 +28,7 @@ fn span(offset: i32, size: u32, chunk: u32, lower: i64, upper: i64) -> Along
     requires { ⌜ 0 < chunk ⌝ }
     ensures { λ r. ⌜ Spans offset size chunk lower upper r ⌝ }
 {
-    let bits = grid::inner::axis_bits(grid::inner::grid_size(size, chunk));
+    let bits = axisbits::axis::axis_bits(grid::inner::grid_size(size, chunk));
     let begin = voxels_before(offset, size, lower);
     let end = voxels_before(offset, size, upper);
     if end <= begin {

@@ -4,7 +4,7 @@ ghost use mathlib.Core.List.{map};
 ghost use Prim.Native.Nat.{_+_, _/_, _≤_};
 ghost use lib.ListN.{length};
 ghost use Rattle.endian.specs.Place.{paste};
-ghost use Rattle.grid.specs.Key.{keyBits, keyOf};
+ghost use Rattle.morton.specs.Key.{keyBits, keyOf};
 ghost use Rattle.batch.specs.Batch.{cellAt, cellsOf, keysAnswer, keysLeft};
 ghost use Rattle.spread.specs.Spread.{Spreads};
 ghost use Rattle.spread.specs.Parts.{Planned};
@@ -68,7 +68,7 @@ pub fn keys_of(volume: Volume, cells: &[u32], keys: &mut [u64]) -> Written
     if !batch::all_inside(grid, cells) {
         return Written::Refused(2);
     }
-    if grid::inner::too_many_bits(grid) {
+    if morton::inner::too_many_bits(grid) {
         return Written::Refused(3);
     }
     if keys.len() < cells.len() / 3 {

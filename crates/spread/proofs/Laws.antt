@@ -14,7 +14,7 @@ use Rattle.grid.specs.declared.Volume.{Volume}
 use Rattle.grid.specs.declared.Extents.{Extents}
 use Rattle.grid.specs.declared.Cell.{Cell}
 use Rattle.grid.specs.Grid.{gridOf, zeroExtent, InU32}
-use Rattle.grid.specs.Key.{keyOf, tooManyBits}
+use Rattle.morton.specs.Key.{keyOf, tooManyBits}
 use Rattle.batch.specs.Batch.{eachInGrid, keysOf, keysChecks, keysAnswer, keysLeft}
 use Rattle.spread.specs.Spread.{Spreads, Placed}
 use Rattle.spread.specs.Parts.{lowKey, restKey, Shared}

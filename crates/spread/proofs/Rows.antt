@@ -17,7 +17,7 @@ use Rattle.grid.specs.declared.Volume.{Volume}
 use Rattle.grid.specs.declared.Extents.{Extents}
 use Rattle.grid.specs.declared.Cell.{Cell}
 use Rattle.grid.specs.Grid.{gridOf, zeroExtent, inGrid}
-use Rattle.grid.specs.Key.{tooManyBits}
+use Rattle.morton.specs.Key.{tooManyBits}
 use Rattle.grid.proofs.Ways.{inside-all, in-z}
 use Rattle.batch.specs.Batch.{eachInGrid, keysOf, keysChecks, keysAnswer}
 use Rattle.spread.specs.Spread.{spread}

@@ -9,9 +9,9 @@ use mir.Val.{Fits}
 use Rattle.grid.specs.declared.Extents.{Extents}
 use Rattle.grid.specs.declared.Cell.{Cell}
 use Rattle.grid.specs.Grid.{gridSize}
-use Rattle.grid.specs.Key.{keyBits, keyOf}
-use Rattle.grid.specs.Turn.{AxisBits}
-use Rattle.grid.proofs.From.{key-below}
+use Rattle.morton.specs.Key.{keyBits, keyOf}
+use Rattle.axisbits.specs.Axis.{AxisBits}
+use Rattle.morton.proofs.From.{key-below}
 use Rattle.spread.specs.declared.Plan.{Plan}
 use Rattle.spread.specs.Spread.{spread}
 use Rattle.spread.specs.Parts.{lowKey, coarseGrid, coarseCell, restKey, Planned}

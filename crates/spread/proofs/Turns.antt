@@ -8,11 +8,12 @@ use lib.Pow.{pow-add, pow-pos}
 use Rattle.grid.specs.declared.Extents.{Extents}
 use Rattle.grid.specs.declared.Cell.{Cell}
 use Rattle.grid.specs.Grid.{gridSize, InU32}
-use Rattle.grid.specs.Key.{bitOf, used, keyOf, keyBits}
-use Rattle.grid.specs.Turn.{put, AxisBits}
+use Rattle.axisbits.specs.Axis.{bitOf, used, put, AxisBits}
+use Rattle.morton.specs.Key.{keyOf, keyBits}
 use Rattle.grid.proofs.Covers.{grid-size-reached, grid-size-reaches}
-use Rattle.grid.proofs.From.{keyFrom, key-is, used-yes, unused, key-from-none}
-use Rattle.grid.proofs.Lengths.{axis-bits-are, key-bits-sum}
+use Rattle.morton.proofs.From.{keyFrom, key-is, key-from-none}
+use Rattle.axisbits.proofs.Used.{used-yes, unused, axis-bits-are}
+use Rattle.morton.proofs.Lengths.{key-bits-sum}
 use Rattle.spread.specs.Spread.{spread}
 use Rattle.spread.specs.Parts.{lowKey, coarseGrid, coarseCell, restKey, Shared}
 use Rattle.spread.proofs.Spreading.{spread-first, bit-past}

@@ -4,7 +4,7 @@ use mathlib.Core.Path.{_≡_}
 use Rattle.grid.specs.declared.Extents.{Extents}
 use Rattle.grid.specs.declared.Cell.{Cell}
 use Rattle.grid.specs.Grid.{gridSize, InU32}
-use Rattle.grid.specs.Key.{keyBits, keyOf}
+use Rattle.morton.specs.Key.{keyBits, keyOf}
 use Rattle.spread.specs.declared.Plan.{Plan}
 use Rattle.spread.specs.Spread.{spread}
 

@@ -1,16 +1,16 @@
 // The key of a cell by the table.
 ghost use mathlib.Core.Path.{_≡_};
 ghost use Prim.Native.Nat.{_*_, _%_, _^_, _<_, _≤_};
-ghost use Rattle.grid.specs.Key.{keyBits, keyOf};
+ghost use Rattle.morton.specs.Key.{keyBits, keyOf};
 ghost use Rattle.spread.specs.Spread.{spread, Spreads};
 ghost use Rattle.spread.specs.Parts.{lowKey, coarseGrid, coarseCell, restKey, Planned};
 use crate::Plan;
+use axisbits::axis::axis_bits;
 use grid::Cell;
 use grid::Extents;
-use grid::inner::axis_bits;
 use grid::inner::grid_size;
-use grid::inner::key;
-use grid::inner::key_bits;
+use morton::inner::key;
+use morton::inner::key_bits;
 
 // ---- the plan
 

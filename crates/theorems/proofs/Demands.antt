@@ -5,7 +5,7 @@ use mathlib.Core.Logic.{_⊎_, inl, inr}
 use mathlib.Core.List.{List}
 use Prim.Native.Nat.{ℕ}
 use native.Mathlib.Omega.{arith, by-contra}
-use Rattle.grid.proofs.Laws.{keyed, cell-gives-key-gives-cell, accepted-key}
+use Rattle.morton.proofs.Laws.{keyed, cell-gives-key-gives-cell, accepted-key}
 use Rattle.sharding.specs.declared.Sharding.{Sharding}
 use Rattle.shard.specs.File.{indexPart, dataPart}
 use Rattle.shard.proofs.Leads.{volume-leads}

@@ -9,12 +9,14 @@ use Rattle.refusal.specs.Checks.{firstNumber, firstPosition, unless}
 use Rattle.endian.specs.Little.{le, leAt, row}
 use Rattle.endian.specs.Range.{sumTo, every, anyBelow, first}
 use Rattle.grid.specs.Grid.{gridSize, gridOf, hasZero, zeroExtent, inGrid}
-use Rattle.grid.specs.Key.{bitOf, used, count, step, steps, keyOf, keyBits, tooManyBits, into, stepBack, stepsBack, cellOf, isKey}
+use Rattle.axisbits.specs.Axis.{bitOf, used, count}
+use Rattle.morton.specs.Key.{step, steps, keyOf, keyBits, tooManyBits, into, stepBack, stepsBack, cellOf, isKey}
 use Rattle.bounds.specs.Bounds.{beginOf, endOf, beginPoint, endPoint, boundsOf}
-use Rattle.grid.specs.Answers.{noCell, gridChecks, gridAnswer, keyChecks, keyAnswer, cellChecks, cellAnswer}
+use Rattle.grid.specs.Answers.{noCell, gridChecks, gridAnswer}
+use Rattle.morton.specs.Answers.{keyChecks, keyAnswer, cellChecks, cellAnswer}
 use Rattle.bounds.specs.Answers.{boundsChecks, boundsAnswer}
-use Rattle.grid.specs.declared.CellAnswer.the-variants.{At, Refused as NoCell}
-use Rattle.grid.proofs.Laws.{only-key-0}
+use Rattle.morton.specs.declared.CellAnswer.the-variants.{At, Refused as NoCell}
+use Rattle.morton.proofs.Laws.{only-key-0}
 use Rattle.sharding.specs.Specification.{allowed}
 use Rattle.sharding.specs.Place.{hashedId, shardOf, minishardOf, placeChecks, placeAnswer}
 use Rattle.digits.specs.Digits.{digitByte, digits}

@@ -15,15 +15,16 @@ use Rattle.bounds.specs.declared.Point.{Point}
 use Rattle.grid.specs.declared.Volume.{Volume}
 use Rattle.grid.specs.declared.GridAnswer.{GridAnswer}
 use Rattle.grid.specs.declared.GridAnswer.the-variants.{Grid}
-use Rattle.grid.specs.declared.KeyAnswer.{KeyAnswer}
-use Rattle.grid.specs.declared.KeyAnswer.the-variants.{Key, Refused as NoKey}
-use Rattle.grid.specs.declared.CellAnswer.{CellAnswer}
-use Rattle.grid.specs.declared.CellAnswer.the-variants.{At, Refused as NoCell}
+use Rattle.morton.specs.declared.KeyAnswer.{KeyAnswer}
+use Rattle.morton.specs.declared.KeyAnswer.the-variants.{Key, Refused as NoKey}
+use Rattle.morton.specs.declared.CellAnswer.{CellAnswer}
+use Rattle.morton.specs.declared.CellAnswer.the-variants.{At, Refused as NoCell}
 use Rattle.bounds.specs.declared.BoundsAnswer.{BoundsAnswer}
 use Rattle.bounds.specs.declared.BoundsAnswer.the-variants.{Within}
 use Rattle.grid.specs.Grid.{gridOf}
-use Rattle.grid.specs.Key.{keyBits}
-use Rattle.grid.specs.Answers.{gridAnswer, keyAnswer, cellAnswer}
+use Rattle.morton.specs.Key.{keyBits}
+use Rattle.grid.specs.Answers.{gridAnswer}
+use Rattle.morton.specs.Answers.{keyAnswer, cellAnswer}
 use Rattle.bounds.specs.Answers.{boundsAnswer}
 use Rattle.sharding.specs.declared.Sharding.{Sharding}
 use Rattle.sharding.specs.declared.PlaceAnswer.{PlaceAnswer}

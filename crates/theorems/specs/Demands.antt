@@ -14,12 +14,13 @@ use Rattle.grid.specs.declared.Volume.{Volume}
 use Rattle.grid.specs.declared.Cell.{Cell}
 use Rattle.bounds.specs.declared.Point.{Point}
 use Rattle.grid.specs.declared.GridAnswer.the-variants as G
-use Rattle.grid.specs.declared.KeyAnswer.the-variants as K
-use Rattle.grid.specs.declared.CellAnswer.the-variants as C
+use Rattle.morton.specs.declared.KeyAnswer.the-variants as K
+use Rattle.morton.specs.declared.CellAnswer.the-variants as C
 use Rattle.bounds.specs.declared.BoundsAnswer.the-variants as B
 use Rattle.grid.specs.Grid.{gridOf, InU32}
-use Rattle.grid.specs.Key.{keyBits, keyOf}
-use Rattle.grid.specs.Answers.{noCell, gridChecks, gridAnswer, keyChecks, keyAnswer, cellChecks, cellAnswer}
+use Rattle.morton.specs.Key.{keyBits, keyOf}
+use Rattle.grid.specs.Answers.{noCell, gridChecks, gridAnswer}
+use Rattle.morton.specs.Answers.{keyChecks, keyAnswer, cellChecks, cellAnswer}
 use Rattle.bounds.specs.Answers.{boundsChecks, boundsAnswer}
 use Rattle.batch.specs.Batch.{keysChecks, keysAnswer, keysLeft}
 use Rattle.overlap.specs.Cover.{coverChecks, coverAnswer, coverLeft}

@@ -12,10 +12,10 @@ use Rattle.grid.specs.declared.Cell.{Cell}
 use Rattle.grid.specs.declared.Extents.{Extents}
 use Rattle.bounds.specs.declared.Point.{Point}
 use Rattle.grid.specs.declared.Volume.{Volume}
-use Rattle.grid.specs.declared.KeyAnswer.the-variants.{Key}
+use Rattle.morton.specs.declared.KeyAnswer.the-variants.{Key}
 use Rattle.grid.specs.Grid.{gridOf, zeroExtent, InU32}
-use Rattle.grid.specs.Key.{tooManyBits, keyOf, cellOf, isKey}
-use Rattle.grid.specs.Answers.{keyAnswer}
+use Rattle.morton.specs.Key.{tooManyBits, keyOf, cellOf, isKey}
+use Rattle.morton.specs.Answers.{keyAnswer}
 use Rattle.batch.specs.Batch.{eachInGrid, keysOf, keysAnswer, keysLeft}
 use Rattle.spread.specs.Spread.{Spreads, Placed}
 use Rattle.spread.specs.Parts.{lowKey, restKey, Shared}

@@ -6,7 +6,7 @@ use native.Mathlib.Omega.{arith}
 use borrow.Author.Needs.{needs}
 use lib.ListN.{length, drop}
 use Rattle.endian.specs.Place.{paste}
-use Rattle.grid.specs.Key.{keyOf}
+use Rattle.morton.specs.Key.{keyOf}
 use Rattle.batch.specs.Batch.{cellsOf}
 use Rattle.batch.proofs.Threes.{key-next, key-last}
 use Rattle.scan.proofs.fill.Statement.{statement}

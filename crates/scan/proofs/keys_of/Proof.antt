@@ -1,7 +1,8 @@
 -- `scan::keys_of` meets its contract, which is that of `batch::keys_of`: each way out is a check's number, or none.
 use native.Mathlib.Omega.{arith}
 use borrow.Author.Needs.{needs}
-use Rattle.grid.proofs.Ways.{tested, few}
+use Rattle.grid.proofs.Ways.{tested}
+use Rattle.morton.proofs.Ways.{few}
 use Rattle.batch.proofs.Threes.{keys-2-extent, keys-2-cell, keys-3, keys-13, keys-0, keys-refused, keys-kept, written-cells, keys-over}
 use Rattle.scan.proofs.keys_of.Statement.{statement}
 use Rattle.scan.proofs.keys_of.Tie as tie

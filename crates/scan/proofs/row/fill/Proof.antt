@@ -6,7 +6,7 @@ use native.Mathlib.Omega.{arith}
 use borrow.Author.Needs.{needs}
 use lib.ListN.{length}
 use Rattle.endian.specs.Place.{paste}
-use Rattle.grid.specs.Key.{keyOf}
+use Rattle.morton.specs.Key.{keyOf}
 use Rattle.spread.specs.Spread.{spread}
 use Rattle.spread.specs.Parts.{restKey}
 use Rattle.spread.specs.Row.{cellsFrom}

@@ -3,7 +3,7 @@ use mathlib.Core.Path.{refl}
 use native.Mathlib.Omega.{arith}
 use borrow.Author.Needs.{needs}
 use lib.Pow.{pow-pos}
-use Rattle.grid.proofs.Ways.{one-shl}
+use Rattle.axisbits.proofs.Used.{one-shl}
 use Rattle.spread.proofs.inner.power.Statement.{statement}
 use Rattle.spread.proofs.inner.power.Tie as tie
 

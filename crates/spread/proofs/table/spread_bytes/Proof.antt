@@ -1,6 +1,6 @@
 -- `spread::table::spread_bytes` meets its contract: all entries are computed here.
 use mathlib.Core.Path.{refl}
-use Rattle.grid.specs.Key.{bitOf}
+use Rattle.axisbits.specs.Axis.{bitOf}
 use Rattle.spread.specs.Spread.{spread}
 use Rattle.spread.proofs.Entries.{spreads}
 use Rattle.spread.proofs.table.spread_bytes.Statement.{statement}

@@ -1,0 +1,2 @@
+// One axis of a grid: which bits of its coordinates a key has.
+pub mod axis;

@@ -1,0 +1,30 @@
+-- What each entry point answers: its checks in their fixed order (RULES R2), or else the result.
+use Prim.Native.Nat.{ℕ}
+use mathlib.Core.Bool.{not}
+use mathlib.Core.List.{List, [], _∷_}
+use Rattle.refusal.specs.Checks.{Check, check, answered}
+use Rattle.grid.specs.declared.Volume.{Volume}
+use Rattle.grid.specs.declared.Cell.{Cell}
+use Rattle.grid.specs.Grid.{gridOf, zeroExtent}
+use Rattle.grid.specs.Answers.{noCell}
+use Rattle.morton.specs.declared.KeyAnswer.{KeyAnswer}
+use Rattle.morton.specs.declared.KeyAnswer.the-variants.{Key, Refused as KeyRefused}
+use Rattle.morton.specs.declared.CellAnswer.{CellAnswer}
+use Rattle.morton.specs.declared.CellAnswer.the-variants.{At, Refused as CellRefused}
+use Rattle.morton.specs.Key.{tooManyBits, keyOf, cellOf, isKey}
+
+-- ---- the key of a cell
+
+unfoldable pub keyChecks : Volume → Cell → List Check
+keyChecks v c = check 2 (noCell v c) ∷ check 3 (tooManyBits (gridOf v)) ∷ []
+
+unfoldable pub keyAnswer : Volume → Cell → KeyAnswer
+keyAnswer v c = answered KeyRefused (keyChecks v c) (Key (keyOf (gridOf v) c))
+
+-- ---- the cell of a key
+
+unfoldable pub cellChecks : Volume → ℕ → List Check
+cellChecks v key = check 2 (zeroExtent v) ∷ check 3 (tooManyBits (gridOf v)) ∷ check 4 (not (isKey (gridOf v) key)) ∷ []
+
+unfoldable pub cellAnswer : Volume → ℕ → CellAnswer
+cellAnswer v key = answered CellRefused (cellChecks v key) (At (cellOf (gridOf v) key))
