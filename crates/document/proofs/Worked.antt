@@ -5,7 +5,8 @@ use Rattle.refusal.specs.Checks.{firstNumber, unless}
 use Rattle.text.specs.Bytes.{choose, same, under, inside, isWs, isDigit, spanIn}
 use Rattle.text.specs.Parts.{andThen, follow, markAt, closeAt, wordAt}
 use Rattle.text.specs.Numbers.{someDigits, intAt, fracAt, isSign, isE, signAt, expAt, unsignedAt, numberAt}
-use Rattle.strings.specs.Chars.{isHex, isShort, isTail, isSecond, utf8Len, escapeLen, charLen, charsAt, stringAt}
+use Rattle.characters.specs.Chars.{isHex, isShort, isTail, isSecond, utf8Len, escapeLen, charLen}
+use Rattle.strings.specs.Chars.{charsAt, stringAt}
 use Rattle.strings.specs.Names.{hexValue, unitAt, utf8, shortByte, isPair, unitBytes, charBytes, unescaped, eqList}
 use Rattle.json.specs.Grammar.{scalarAt, itemsAt, listAt, memberAt, valueAt, endsAt, isJson}
 use Rattle.places.specs.Places.{nextElement, nextMember, orStart, valueOf, firstIn, itemsBy, elements, members, isText, keep, isName, named, only, member, onceOf, needed, pickNth, element, threeOf, loneOf}

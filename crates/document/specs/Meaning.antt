@@ -7,7 +7,7 @@ use lib.ListN.{length, take}
 use Rattle.refusal.specs.Checks.{firstNumber, Refuses}
 use Rattle.refusal.specs.declared.Written.the-variants.{Length}
 use Rattle.text.specs.Bytes.{byteAt}
-use Rattle.strings.specs.Chars.{Utf8}
+use Rattle.characters.specs.Chars.{Utf8}
 use Rattle.json.specs.Grammar.{deepest}
 use Rattle.json.specs.Rfc.{Value, Listed, Member, JsonText, places, valuePlace}
 use Rattle.places.specs.Places.{elements, members, valueOf}

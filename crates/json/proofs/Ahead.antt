@@ -11,7 +11,8 @@ use Rattle.text.specs.Numbers.{isSign, someDigits, intAt, fracAt, signAt, expAt
 use Rattle.text.specs.declared.Found.{Found}
 use Rattle.text.specs.declared.Found.the-variants.{At, Nothing}
 use Rattle.text.proofs.Laws.{le-span, span-on, digit-zero}
-use Rattle.strings.specs.Chars.{charLen, charsAt, stringAt}
+use Rattle.characters.specs.Chars.{charLen}
+use Rattle.strings.specs.Chars.{charsAt, stringAt}
 use Rattle.json.specs.Grammar.{scalarAt, itemsAt, listAt, memberAt, valueAt}
 
 -- if r is `At e`, e is at least k

@@ -14,7 +14,7 @@ use Rattle.text.specs.Numbers.{isSign, isE, someDigits, intAt, fracAt, signAt, 
 use Rattle.text.specs.declared.Found.{Found}
 use Rattle.text.specs.declared.Found.the-variants.{At, Nothing}
 use Rattle.text.proofs.Laws.{if-yes, if-no, if-case, then-case, nowhere, is-same, in-text, span-on, span-stop, digit-zero}
-use Rattle.strings.specs.Chars.{Utf8}
+use Rattle.characters.specs.Chars.{Utf8}
 use Rattle.strings.proofs.Encoded.{encoded-both, encoded-low, encoded-step, or-case, same-low, inside-low, string-encoded}
 use Rattle.json.specs.Rfc.{Ws, Items, Listed, Member, ValueOf, Value, JsonText}
 

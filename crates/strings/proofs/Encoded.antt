@@ -10,8 +10,8 @@ use lib.ListN.{length, getD}
 use Rattle.refusal.proofs.Tests.{both}
 use Rattle.text.specs.Bytes.{choose, same, under, inside, byteAt}
 use Rattle.text.proofs.Laws.{if-yes, is-same, to-same}
-use Rattle.strings.specs.Chars.{isHex, isShort, utf8Len, escapeLen, charLen, Chars, String, utf8At, Utf8}
-use Rattle.strings.proofs.Characters.{is-under}
+use Rattle.characters.specs.Chars.{isHex, isShort, utf8Len, escapeLen, charLen, utf8At, Utf8}
+use Rattle.strings.specs.Chars.{Chars, String}
 
 pub encoded-both : (s : List ℕ) (i j e : ℕ) → Utf8 s i j → Utf8 s j e → Utf8 s i e
 encoded-both s i j e Utf8.done r = r

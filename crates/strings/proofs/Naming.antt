@@ -9,11 +9,11 @@ use lib.ListN.{length, getD, take, drop, drop-of-length-le}
 use lib.Seq.{drop-cons}
 use borrow.Author.Tests.{ltb-true, ltb-false, leb-true, eq-eqb, ne-eqb}
 use Rattle.text.specs.Bytes.{choose, byteAt, same, under, inside}
-use Rattle.strings.specs.Chars.{charLen, utf8Len}
+use Rattle.characters.specs.Chars.{charLen, utf8Len}
 use Rattle.strings.specs.Names.{unitAt, utf8, isPair, unitBytes, charBytes, unescaped, eqList, asciiOf, asciiAt}
 use lib.Dec.{leb, ltb, eqb}
 use Rattle.text.proofs.Laws.{if-yes, if-no, if-eq, if-ne, to-not-same}
-use Rattle.strings.proofs.Characters.{is-under, not-under, char-here}
+use Rattle.characters.proofs.Laws.{is-under, not-under, char-here}
 use Rattle.refusal.proofs.Tests.{both}
 
 -- l is a alone, a byte below 128; or it begins with a number of at least 128, and a is no such byte

@@ -5,7 +5,7 @@ use mathlib.Core.Bool.{Bool, true, false, not, _&&_}
 use lib.Dec.{ltb, eqb}
 use lib.ListN.{length, getD, take, drop}
 use Rattle.text.specs.Bytes.{choose, byteAt, same, under, inside, isDigit}
-use Rattle.strings.specs.Chars.{isPlain, charLen}
+use Rattle.characters.specs.Chars.{isPlain, charLen}
 
 -- the value of a hexadecimal digit, and of the four from i on
 unfoldable pub hexValue : ℕ → ℕ

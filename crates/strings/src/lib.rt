@@ -1,5 +1,4 @@
 // Strings of a JSON text: where they end, and whether they say a name.
-mod chars;
 mod names;
 
 ghost use mathlib.Core.Path.{_≡_};
@@ -8,6 +7,7 @@ ghost use Prim.Native.Nat.{_+_};
 ghost use lib.ListN.{length};
 ghost use Rattle.strings.specs.Chars.{stringAt};
 ghost use Rattle.strings.specs.Names.{unescaped, eqList, ascii};
+use characters::chars;
 use text::Found;
 
 pub fn skip_string(s: &[u8], at: usize) -> Found

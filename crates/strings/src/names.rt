@@ -94,7 +94,7 @@ pub fn differs(s: &[u8], i: usize, name: &[u8]) -> bool
 {
     let b = text::byte(s, i);
     let a = text::byte(name, 0);
-    let plain = crate::chars::is_plain(b);
+    let plain = characters::chars::is_plain(b);
     plain & !(b == a)
 }
 

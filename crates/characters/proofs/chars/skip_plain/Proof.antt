@@ -1,10 +1,10 @@
 use Prim.Native.Nat.{_-_}
 use lib.ListN.{length}
 use Rattle.text.proofs.Steps.{Along}
-use Rattle.strings.specs.Chars.{isPlain}
-use Rattle.strings.proofs.Steps.{plainly}
-use Rattle.strings.proofs.chars.skip_plain.Statement.{statement}
-use Rattle.strings.proofs.chars.skip_plain.Tie as tie
+use Rattle.characters.specs.Chars.{isPlain}
+use Rattle.characters.proofs.Steps.{plainly}
+use Rattle.characters.proofs.chars.skip_plain.Statement.{statement}
+use Rattle.characters.proofs.chars.skip_plain.Tie as tie
 
 abbrev Inv-loop : tie.InvT-loop
 Inv-loop s at i₀ i = Along isPlain s at i

@@ -3,7 +3,7 @@ ghost use mathlib.Core.Path.{_≡_};
 ghost use Prim.Native.Nat.{_+_, _<_};
 ghost use lib.ListN.{getD, length};
 ghost use Rattle.text.specs.Bytes.{span};
-ghost use Rattle.strings.specs.Chars.{isHex, isShort, isPlain, isTail, isSecond, utf8Len, escapeLen, charLen};
+ghost use Rattle.characters.specs.Chars.{isHex, isShort, isPlain, isTail, isSecond, utf8Len, escapeLen, charLen};
 
 fn is_hex(b: u8) -> bool
     ensures { λ r. ⌜ r ≡ isHex b ⌝ }

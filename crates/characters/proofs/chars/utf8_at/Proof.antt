@@ -1,6 +1,6 @@
-use Rattle.strings.proofs.Steps.{measuring}
-use Rattle.strings.proofs.chars.utf8_at.Statement.{statement}
-use Rattle.strings.proofs.chars.utf8_at.Tie as tie
+use Rattle.characters.proofs.Steps.{measuring}
+use Rattle.characters.proofs.chars.utf8_at.Statement.{statement}
+use Rattle.characters.proofs.chars.utf8_at.Tie as tie
 
 pub utf8-at-spec : {M : Type 1} → statement M
 utf8-at-spec =

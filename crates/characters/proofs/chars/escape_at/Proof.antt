@@ -1,6 +1,6 @@
-use Rattle.strings.proofs.Steps.{measuring}
-use Rattle.strings.proofs.chars.escape_at.Statement.{statement}
-use Rattle.strings.proofs.chars.escape_at.Tie as tie
+use Rattle.characters.proofs.Steps.{measuring}
+use Rattle.characters.proofs.chars.escape_at.Statement.{statement}
+use Rattle.characters.proofs.chars.escape_at.Tie as tie
 
 pub escape-at-spec : {M : Type 1} → statement M
 escape-at-spec =

@@ -1,6 +1,6 @@
-use Rattle.strings.proofs.Steps.{measuring}
-use Rattle.strings.proofs.chars.char_len.Statement.{statement}
-use Rattle.strings.proofs.chars.char_len.Tie as tie
+use Rattle.characters.proofs.Steps.{measuring}
+use Rattle.characters.proofs.chars.char_len.Statement.{statement}
+use Rattle.characters.proofs.chars.char_len.Tie as tie
 
 pub char-len-spec : {M : Type 1} → statement M
 char-len-spec =
