@@ -20,8 +20,9 @@ use Rattle.card.specs.declared.CardAnswer.the-variants.{Says, Refused}
 use Rattle.card.specs.Answers.{fault, readAnswer}
 use Rattle.card.proofs.Meaning.{read-faultless}
 use Rattle.locate.specs.declared.Block.{Block}
-use Rattle.locate.specs.Output.{cellsText, framed}
-use Rattle.locate.specs.Blocks.{cardLength, blockBytes, Located, Printed, Said, Started}
+use Rattle.locatetext.specs.Output.{cellsText, framed}
+use Rattle.locatetext.specs.Blocks.{cardLength, blockBytes}
+use Rattle.locate.specs.Reading.{Located, Printed, Said, Started}
 
 -- ---- a text at the front of a buffer, and the part of the buffer that it fills
 pub front-over : (s d : List ℕ) {e : List ℕ} → e ≡ paste 0 s d → e ≡ over s d

@@ -1,5 +1,2 @@
--- The laws of what `locate` prints.
-pub mod Printing
-pub mod Joining
+-- The laws of what `locate` hands on.
 pub mod Handed
-pub mod Worked

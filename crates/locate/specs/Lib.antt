@@ -1,4 +1,2 @@
--- What the program `locate` prints.
-pub mod Lines
-pub mod Output
-pub mod Blocks
+-- What the program `locate` reads and prints, part by part.
+pub mod Reading

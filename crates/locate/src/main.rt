@@ -1,21 +1,21 @@
 // Reads a deposit card and then cells from standard input, and prints where each cell's chunk is stored: its key, the
 // shard's file and the minishard.
-mod blocks;
-mod frame;
-mod lines;
-
 ghost use mathlib.Core.Path.{_≡_};
 ghost use lib.ListN.{length};
 ghost use Rattle.refusal.specs.Buffer.{over};
 ghost use Rattle.grid.specs.Grid.{gridOf};
 ghost use Rattle.card.specs.Answers.{fault};
-ghost use Rattle.locate.specs.Lines.{refusedLine};
-ghost use Rattle.locate.specs.Blocks.{blockBytes, Located, Printed, Said, Started};
+ghost use Rattle.locatelines.specs.Lines.{refusedLine};
+ghost use Rattle.locatetext.specs.Blocks.{blockBytes};
+ghost use Rattle.locate.specs.Reading.{Located, Printed, Said, Started};
 use card::Card;
 use card::CardAnswer;
 use grid::Extents;
 use libc::STDIN_FILENO;
 use libc::STDOUT_FILENO;
+use locatelines::lines;
+use locatetext::blocks;
+use locatetext::frame;
 
 // How many bytes of cells were read, and how many of text they gave.
 struct Block {

@@ -1,0 +1,2 @@
+-- The laws of the lines that `locate` prints.
+pub mod Printing

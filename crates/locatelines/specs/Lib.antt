@@ -1,0 +1,3 @@
+-- The lines that `locate` prints.
+pub mod Lines
+pub mod Cells

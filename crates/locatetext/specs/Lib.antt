@@ -1,0 +1,3 @@
+-- What the program `locate` prints.
+pub mod Output
+pub mod Blocks
