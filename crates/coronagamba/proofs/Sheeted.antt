@@ -14,10 +14,10 @@ use Rattle.measure.specs.declared.MeasureAnswer.{MeasureAnswer}
 use Rattle.measure.specs.declared.MeasureAnswer.the-variants as M
 use Rattle.measure.specs.Answers.{measureAnswer, pairMeasure}
 use Rattle.measure.proofs.Answered.{named-fault}
-use Rattle.holdings.specs.declared.Sheet.{Sheet}
+use Rattle.shardsheet.specs.declared.Sheet.{Sheet}
 use Rattle.holdings.specs.declared.SheetAnswer.{SheetAnswer}
 use Rattle.holdings.specs.declared.SheetAnswer.the-variants.{Total, Refused}
-use Rattle.holdings.specs.Sheet.{rows}
+use Rattle.shardsheet.specs.Sheet.{rows}
 use Rattle.holdings.specs.Answers.{joinAnswer, addAnswer, pairAddAnswer}
 use Rattle.word.specs.Word.{word}
 use Rattle.coronagamba.specs.Sheets.{measureWord, countsOf, countsAfter, sheetOf, sheetWord, rowsAfter}

@@ -6,10 +6,10 @@ use lib.ListN.{getD}
 use Rattle.measure.specs.declared.Counts.{Counts}
 use Rattle.measure.specs.declared.MeasureAnswer.{MeasureAnswer}
 use Rattle.measure.specs.declared.MeasureAnswer.the-variants.{Sound, Refused, Faulty}
-use Rattle.holdings.specs.declared.Sheet.{Sheet}
+use Rattle.shardsheet.specs.declared.Sheet.{Sheet}
 use Rattle.holdings.specs.declared.SheetAnswer.{SheetAnswer}
 use Rattle.holdings.specs.declared.SheetAnswer.the-variants.{Total, Refused as SheetRefused}
-use Rattle.holdings.specs.Sheet.{rows}
+use Rattle.shardsheet.specs.Sheet.{rows}
 use Rattle.word.specs.Word.{word}
 
 -- ---- the measure of a shard

@@ -2,9 +2,9 @@
 ghost use mathlib.Core.Path.{_≡_};
 ghost use Rattle.measure.specs.Answers.{measureAnswer, pairMeasure};
 ghost use Rattle.holdings.specs.Answers.{joinAnswer, addAnswer, pairAddAnswer};
-ghost use Rattle.holdings.specs.Sheet.{rows};
+ghost use Rattle.shardsheet.specs.Sheet.{rows};
 ghost use Rattle.coronagamba.specs.Sheets.{measureWord, countsOf, countsAfter, sheetOf, sheetWord, rowsAfter};
-use holdings::Sheet;
+use shardsheet::Sheet;
 use holdings::SheetAnswer;
 use measure::Counts;
 use measure::MeasureAnswer;

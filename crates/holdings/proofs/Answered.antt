@@ -19,12 +19,14 @@ use Rattle.measure.specs.declared.MeasureAnswer.the-variants as M
 use Rattle.measure.specs.Measures.{chunkBytes, measureOf}
 use Rattle.measure.specs.Answers.{mostTotal, passes, measuredIn, afterVerdict, measureAnswer, pairMeasure}
 use Rattle.measure.proofs.Answered.{measured-pick}
-use Rattle.holdings.specs.declared.Sheet.{Sheet}
+use Rattle.shardsheet.specs.declared.Sheet.{Sheet}
 use Rattle.holdings.specs.declared.SheetAnswer.{SheetAnswer}
 use Rattle.holdings.specs.declared.SheetAnswer.the-variants.{Total, Refused}
-use Rattle.holdings.specs.Sheet.{rows, anyPasses, both, hasRow, soundSheet, refusedSheet, shardSheet, Joins}
+use Rattle.shardsheet.specs.Sheet.{rows, hasRow, soundSheet, refusedSheet, shardSheet}
+use Rattle.sheettotals.specs.Totals.{anyPasses, both}
+use Rattle.holdings.specs.Joining.{Joins}
 use Rattle.holdings.specs.Answers.{joinAnswer, sheetOf, addAnswer, pairSheet, pairAddAnswer, measuredAnswer}
-use Rattle.holdings.proofs.Numbers.{Told, check-told, pair-told}
+use Rattle.shardsheet.proofs.Numbers.{Told, check-told, pair-told}
 
 -- ---- joining
 

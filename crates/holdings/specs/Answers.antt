@@ -11,10 +11,11 @@ use Rattle.pair.specs.Answers.{pairCheck}
 use Rattle.measure.specs.declared.MeasureAnswer.{MeasureAnswer}
 use Rattle.measure.specs.declared.MeasureAnswer.the-variants as M
 use Rattle.measure.specs.Measures.{measureOf, fileMeasure}
-use Rattle.holdings.specs.declared.Sheet.{Sheet}
+use Rattle.shardsheet.specs.declared.Sheet.{Sheet}
 use Rattle.holdings.specs.declared.SheetAnswer.{SheetAnswer}
 use Rattle.holdings.specs.declared.SheetAnswer.the-variants.{Total, Refused}
-use Rattle.holdings.specs.Sheet.{rows, anyPasses, both, soundSheet, refusedSheet, shardSheet}
+use Rattle.shardsheet.specs.Sheet.{rows, soundSheet, refusedSheet, shardSheet}
+use Rattle.sheettotals.specs.Totals.{anyPasses, both}
 
 -- two sheets together (RULES H3)
 unfoldable pub joinAnswer : Sheet → Sheet → SheetAnswer

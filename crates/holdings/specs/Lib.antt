@@ -1,3 +1,3 @@
 -- The yearly holdings sheet (RULES H2, H3).
-pub mod Sheet
+pub mod Joining
 pub mod Answers

@@ -4,33 +4,12 @@ mod rows;
 ghost use mathlib.Core.Path.{_≡_};
 ghost use Rattle.holdings.specs.Answers.{joinAnswer, addAnswer, pairAddAnswer};
 use crate::rows::add_measured;
-use crate::rows::passes;
 use crate::rows::together;
 use measure::measure;
 use measure::measure_pair;
 use sharding::Sharding;
-
-// Plain numbers: how many shards were sound, how many were refused with each number that the check gives, and over the sound ones the
-// chunks listed, the sum of their sizes and the unlisted bytes. An empty sheet has 0 in each row.
-pub struct Sheet {
-    pub sound: u64,
-    pub refused1: u64,
-    pub refused5: u64,
-    pub refused6: u64,
-    pub refused7: u64,
-    pub refused8: u64,
-    pub refused9: u64,
-    pub refused10: u64,
-    pub refused11: u64,
-    pub refused15: u64,
-    pub refused16: u64,
-    pub refused17: u64,
-    pub refused21: u64,
-    pub refused23: u64,
-    pub chunks: u64,
-    pub bytes: u64,
-    pub unlisted: u64,
-}
+use shardsheet::Sheet;
+use sheettotals::passes;
 
 // The new sheet, or 27.
 pub enum SheetAnswer {

@@ -2,9 +2,9 @@
 ghost use mathlib.Core.Path.{_≡_};
 ghost use Prim.Native.Nat.{_≤_};
 ghost use lib.ListN.{length};
-ghost use Rattle.holdings.specs.Sheet.{empty};
+ghost use Rattle.shardsheet.specs.Sheet.{empty};
 ghost use Rattle.turns.specs.Turns.{headerBytes, mostBytes, TurnedBy, Turned, Told, Next, Finished};
-use holdings::Sheet;
+use shardsheet::Sheet;
 use libc::STDIN_FILENO;
 use libc::STDOUT_FILENO;
 use turns::Turn;

@@ -15,11 +15,12 @@ use Rattle.shard.specs.declared.CheckAnswer.{CheckAnswer}
 use Rattle.shard.specs.declared.CheckAnswer.the-variants.{Sound, Refused, Faulty}
 use Rattle.measure.specs.declared.Counts.{Counts}
 use Rattle.measure.specs.Answers.{mostTotal, passes}
-use Rattle.holdings.specs.declared.Sheet.{Sheet}
+use Rattle.shardsheet.specs.declared.Sheet.{Sheet}
 use Rattle.holdings.specs.declared.SheetAnswer.the-variants.{Total, Refused as SheetRefused}
-use Rattle.holdings.specs.Sheet.{rows, empty, anyPasses, both, tally, soundSheet, refusedSheet, shardSheet, numbers, isAmong, hasRow}
+use Rattle.shardsheet.specs.Sheet.{rows, empty, tally, soundSheet, refusedSheet, shardSheet, numbers, isAmong, hasRow}
+use Rattle.sheettotals.specs.Totals.{anyPasses, both}
 use Rattle.holdings.specs.Answers.{joinAnswer, sheetOf, addAnswer, pairSheet, pairAddAnswer}
-use Rattle.holdings.proofs.Numbers.{Told, check-told, pair-told}
+use Rattle.shardsheet.proofs.Numbers.{Told, check-told, pair-told}
 use Rattle.holdings.proofs.Answered.{join-pick}
 use Rattle.theorems.specs.Holdings.{Holding, oneFile, twoFiles, verdictOn, countsOf, addOne, keptBy, addAll, NoneRefused, isSound, isRefusedWith, howMany, sumOver, sheetOver, Within, Reordered, none, first, swapped, then, shardsOn, Order13}
 

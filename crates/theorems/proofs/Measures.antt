@@ -24,7 +24,7 @@ use Rattle.measure.specs.declared.MeasureAnswer.the-variants.{Sound, Refused, F
 use Rattle.measure.specs.Measures.{chunkBytes, fileMeasure}
 use Rattle.measure.specs.Answers.{passes, measuredIn, afterVerdict, measureAnswer, pairMeasure}
 use Rattle.measure.proofs.Answered.{measure-faulty, named-fault}
-use Rattle.holdings.specs.declared.Sheet.{Sheet}
+use Rattle.shardsheet.specs.declared.Sheet.{Sheet}
 use Rattle.holdings.specs.declared.SheetAnswer.the-variants as Sh
 use Rattle.holdings.specs.Answers.{joinAnswer, sheetOf, addAnswer, pairSheet, pairAddAnswer}
 use Rattle.theorems.specs.Demands.{measureChecks, faultyAt, joinChecks}

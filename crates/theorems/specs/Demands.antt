@@ -67,9 +67,10 @@ use Rattle.measure.specs.declared.MeasureAnswer.{MeasureAnswer}
 use Rattle.measure.specs.declared.MeasureAnswer.the-variants as Ms
 use Rattle.measure.specs.Measures.{chunkBytes}
 use Rattle.measure.specs.Answers.{passes, measureAnswer, pairMeasure}
-use Rattle.holdings.specs.declared.Sheet.{Sheet}
+use Rattle.shardsheet.specs.declared.Sheet.{Sheet}
 use Rattle.holdings.specs.declared.SheetAnswer.the-variants as Sh
-use Rattle.holdings.specs.Sheet.{rows, anyPasses, both}
+use Rattle.shardsheet.specs.Sheet.{rows}
+use Rattle.sheettotals.specs.Totals.{anyPasses, both}
 use Rattle.holdings.specs.Answers.{joinAnswer, sheetOf, addAnswer, pairSheet, pairAddAnswer}
 use Rattle.card.specs.declared.Card.{Card}
 use Rattle.card.specs.declared.CardAnswer.the-variants as D

@@ -14,10 +14,11 @@ use Rattle.shard.specs.File.{checkAnswer}
 use Rattle.pair.specs.Answers.{pairCheck}
 use Rattle.measure.specs.declared.Counts.{Counts}
 use Rattle.measure.specs.Measures.{measureOf, fileMeasure}
-use Rattle.holdings.specs.declared.Sheet.{Sheet}
+use Rattle.shardsheet.specs.declared.Sheet.{Sheet}
 use Rattle.holdings.specs.declared.SheetAnswer.{SheetAnswer}
 use Rattle.holdings.specs.declared.SheetAnswer.the-variants.{Total, Refused as SheetRefused}
-use Rattle.holdings.specs.Sheet.{rows, empty, anyPasses, both}
+use Rattle.shardsheet.specs.Sheet.{rows, empty}
+use Rattle.sheettotals.specs.Totals.{anyPasses, both}
 use Rattle.holdings.specs.Answers.{joinAnswer, addAnswer, pairAddAnswer}
 
 -- ---- shards, "with specification and number each"

@@ -15,10 +15,10 @@ use mir.Val.{SFits, toZ, ofZ}
 use mir.Facts.{toZ-ofZ}
 use Rattle.endian.specs.Little.{leAt}
 use Rattle.sharding.specs.declared.Sharding.{Sharding}
-use Rattle.holdings.specs.declared.Sheet.{Sheet}
+use Rattle.shardsheet.specs.declared.Sheet.{Sheet}
 use Rattle.holdings.specs.declared.SheetAnswer.{SheetAnswer}
 use Rattle.holdings.specs.declared.SheetAnswer.the-variants.{Total, Refused}
-use Rattle.holdings.specs.Sheet.{empty}
+use Rattle.shardsheet.specs.Sheet.{empty}
 use Rattle.holdings.specs.Answers.{addAnswer}
 use Rattle.turns.specs.declared.Turn.{Turn}
 use Rattle.turns.specs.Turns.{specIn, bodyLength, more, ended, cut, tooLong, full, turning, turnBy, turnOf, stopsShort, isNone, told, unreadable, TurnedBy, Turned, Told, Next, Reached, begun, went, mostTurns, Finished}

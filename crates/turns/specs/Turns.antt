@@ -9,10 +9,10 @@ use lib.ListN.{length, getD, take, drop}
 use Rattle.refusal.specs.Choice.{pick}
 use Rattle.endian.specs.Little.{leAt}
 use Rattle.sharding.specs.declared.Sharding.{Sharding}
-use Rattle.holdings.specs.declared.Sheet.{Sheet}
+use Rattle.shardsheet.specs.declared.Sheet.{Sheet}
 use Rattle.holdings.specs.declared.SheetAnswer.{SheetAnswer}
 use Rattle.holdings.specs.declared.SheetAnswer.the-variants.{Total, Refused}
-use Rattle.holdings.specs.Sheet.{empty}
+use Rattle.shardsheet.specs.Sheet.{empty}
 use Rattle.holdings.specs.Answers.{addAnswer}
 use Rattle.turns.specs.declared.Turn.{Turn}
 

@@ -5,7 +5,7 @@ ghost use lib.ListN.{length};
 ghost use Rattle.turns.specs.Turns.{headerBytes, specIn, bodyLength, turnOf, turnBy, stopsShort, isNone, told};
 use endian::inner::read_u32;
 use endian::inner::read_u64;
-use holdings::Sheet;
+use shardsheet::Sheet;
 use holdings::SheetAnswer;
 use sharding::Sharding;
 

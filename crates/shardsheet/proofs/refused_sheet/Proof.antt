@@ -1,6 +1,6 @@
-use Rattle.holdings.proofs.Totals.{refusing}
-use Rattle.holdings.proofs.rows.refused_sheet.Statement.{statement}
-use Rattle.holdings.proofs.rows.refused_sheet.Tie as tie
+use Rattle.shardsheet.proofs.Rows.{refusing}
+use Rattle.shardsheet.proofs.refused_sheet.Statement.{statement}
+use Rattle.shardsheet.proofs.refused_sheet.Tie as tie
 
 pub refused-sheet-spec : {M : Type 1} → statement M
 refused-sheet-spec =

@@ -21,7 +21,7 @@ use Rattle.shard.specs.File.{indexPart, dataPart, fileChecks, checkAnswer}
 use Rattle.shard.proofs.Numbers.{minishards-number}
 use Rattle.seam.specs.Pair.{pairChecks}
 use Rattle.pair.specs.Answers.{pairCheck}
-use Rattle.holdings.specs.Sheet.{hasRow}
+use Rattle.shardsheet.specs.Sheet.{hasRow}
 
 -- ---- checks
 

@@ -1,6 +1,6 @@
-use Rattle.holdings.proofs.Totals.{summing}
-use Rattle.holdings.proofs.rows.passes.Statement.{statement}
-use Rattle.holdings.proofs.rows.passes.Tie as tie
+use Rattle.sheettotals.proofs.Passing.{summing}
+use Rattle.sheettotals.proofs.passes.Statement.{statement}
+use Rattle.sheettotals.proofs.passes.Tie as tie
 
 pub passes-spec : {M : Type 1} → statement M
 passes-spec =

@@ -1,7 +1,6 @@
 -- The yearly holdings sheet: "shards sound, shards the check refuses for each number and, over sound shards, chunks listed, sum of chunk sizes, and
 -- unlisted bytes as defined in order 8" (RULES H2).
-use Prim.Native.Nat.{ℕ, _+_}
-use mathlib.Core.Path.{_≡_}
+use Prim.Native.Nat.{ℕ}
 use mathlib.Core.Bool.{Bool, false, _||_}
 use mathlib.Core.List.{List, [], _∷_}
 use lib.Dec.{eqb}
@@ -9,8 +8,7 @@ use Rattle.refusal.specs.Choice.{pick}
 use Rattle.shard.specs.declared.CheckAnswer.{CheckAnswer}
 use Rattle.shard.specs.declared.CheckAnswer.the-variants.{Sound, Refused, Faulty}
 use Rattle.measure.specs.declared.Counts.{Counts}
-use Rattle.measure.specs.Answers.{passes}
-use Rattle.holdings.specs.declared.Sheet.{Sheet}
+use Rattle.shardsheet.specs.declared.Sheet.{Sheet}
 
 -- the numbers that the check gives: 1, 5 and 6 of a call, 7 to 11 of a minishard, 15 to 17 and 21 of a mesh, and 23 of a pair
 abbrev pub numbers : List ℕ
@@ -107,41 +105,3 @@ unfoldable pub shardSheet : CheckAnswer → Counts → Sheet
 shardSheet Sound counts = soundSheet counts
 shardSheet (Refused number) counts = refusedSheet number
 shardSheet (Faulty number minishard position) counts = refusedSheet number
-
--- ---- two sheets, row by row
-
--- RULES H3
-unfoldable pub both : Sheet → Sheet → Sheet
-both a b =
-    record {
-      sound = a .sound + b .sound;
-      refused1 = a .refused1 + b .refused1;
-      refused5 = a .refused5 + b .refused5;
-      refused6 = a .refused6 + b .refused6;
-      refused7 = a .refused7 + b .refused7;
-      refused8 = a .refused8 + b .refused8;
-      refused9 = a .refused9 + b .refused9;
-      refused10 = a .refused10 + b .refused10;
-      refused11 = a .refused11 + b .refused11;
-      refused15 = a .refused15 + b .refused15;
-      refused16 = a .refused16 + b .refused16;
-      refused17 = a .refused17 + b .refused17;
-      refused21 = a .refused21 + b .refused21;
-      refused23 = a .refused23 + b .refused23;
-      chunks = a .chunks + b .chunks;
-      bytes = a .bytes + b .bytes;
-      unlisted = a .unlisted + b .unlisted;
-    }
-
--- a total passes 2^64 - 1
-unfoldable pub anyPasses : List ℕ → Bool
-anyPasses [] = false
-anyPasses (n ∷ ns) = passes n || anyPasses ns
-
--- ---- as the code has it: totals where they do not pass
-
-pub record Totals (a b r : ℕ) : Type 0 where
-  pub exact : passes (a + b) ≡ false → r ≡ a + b
-
-pub record Joins (a b r : Sheet) : Type 0 where
-  pub exact : anyPasses (rows (both a b)) ≡ false → r ≡ both a b

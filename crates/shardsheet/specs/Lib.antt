@@ -1,0 +1,2 @@
+-- The rows of the yearly holdings sheet (RULES H2).
+pub mod Sheet

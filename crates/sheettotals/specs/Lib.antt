@@ -1,0 +1,2 @@
+-- The totals of two sheets (RULES H3).
+pub mod Totals
