@@ -4,11 +4,11 @@ ghost use Rattle.measure.specs.Answers.{measureAnswer, pairMeasure};
 ghost use Rattle.holdings.specs.Answers.{joinAnswer, addAnswer, pairAddAnswer};
 ghost use Rattle.shardsheet.specs.Sheet.{rows};
 ghost use Rattle.coronagamba.specs.Sheets.{measureWord, countsOf, countsAfter, sheetOf, sheetWord, rowsAfter};
-use shardsheet::Sheet;
 use holdings::SheetAnswer;
 use measure::Counts;
 use measure::MeasureAnswer;
 use sharding::Sharding;
+use shardsheet::Sheet;
 use word::inner::fault_word;
 
 fn counts_of(counts: Counts) -> [u64; 4]

@@ -4,9 +4,9 @@ ghost use Prim.Native.Nat.{_≤_};
 ghost use lib.ListN.{length};
 ghost use Rattle.shardsheet.specs.Sheet.{empty};
 ghost use Rattle.turns.specs.Turns.{headerBytes, mostBytes, TurnedBy, Turned, Told, Next, Finished};
-use shardsheet::Sheet;
 use libc::STDIN_FILENO;
 use libc::STDOUT_FILENO;
+use shardsheet::Sheet;
 use turns::Turn;
 
 // ---- reading

@@ -5,9 +5,9 @@ ghost use lib.ListN.{length};
 ghost use Rattle.turns.specs.Turns.{headerBytes, specIn, bodyLength, turnOf, turnBy, stopsShort, isNone, told};
 use endian::inner::read_u32;
 use endian::inner::read_u64;
-use shardsheet::Sheet;
 use holdings::SheetAnswer;
 use sharding::Sharding;
+use shardsheet::Sheet;
 
 // There may be another shard; the input ended, was cut, or has a shard that is too long; a total would pass 2^64 - 1; the
 // input could not be read on.

@@ -1,5 +1,3 @@
-pub mod Runs
-pub mod Rows
 pub mod Entry
 pub mod Places
 pub mod Laws

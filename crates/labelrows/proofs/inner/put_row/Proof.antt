@@ -3,10 +3,10 @@ use Prim.Native.Nat.{_*_, _-_, _≤_}
 use native.Mathlib.Omega.{arith}
 use Rattle.rawform.specs.Raw.{rawVoxel, labelBytes}
 use Rattle.rawform.proofs.Filled.{Filled}
-use Rattle.unpack.proofs.Rows.{row-some, row-room, row-on, row-start, row-place, row-done, row-same}
+use Rattle.labelrows.proofs.Rows.{row-some, row-room, row-on, row-start, row-place, row-done, row-same}
 use borrow.Author.Needs.{needs}
-use Rattle.unpack.proofs.raw.put_row.Statement.{statement}
-use Rattle.unpack.proofs.raw.put_row.Tie as tie
+use Rattle.labelrows.proofs.inner.put_row.Statement.{statement}
+use Rattle.labelrows.proofs.inner.put_row.Tie as tie
 
 abbrev Inv-loop : tie.InvT-loop
 Inv-loop chunk shape c z y out₀ at across high headers p₀ i₀ out p i = (i ≤ across) × Filled (rawVoxel chunk shape c z y) (labelBytes shape) (shape .extents .x) at out₀ (min (shape .extents .x) (shape .block .x * i)) p out

@@ -1,7 +1,7 @@
 use borrow.Author.Needs.{needs}
-use Rattle.unpack.proofs.Rows.{row-offset, run-some, run-width, run-readable, run-room, run-bytes, run-written}
-use Rattle.unpack.proofs.raw.put_block.Statement.{statement}
-use Rattle.unpack.proofs.raw.put_block.Tie as tie
+use Rattle.labelrows.proofs.Rows.{row-offset, run-some, run-width, run-readable, run-room, run-bytes, run-written}
+use Rattle.labelrows.proofs.inner.put_block.Statement.{statement}
+use Rattle.labelrows.proofs.inner.put_block.Tie as tie
 
 pub put-block-spec : {M : Type 1} → statement M
 put-block-spec =

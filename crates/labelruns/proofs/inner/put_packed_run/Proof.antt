@@ -5,10 +5,10 @@ use Rattle.rawform.specs.Writing.{runVoxel}
 use Rattle.values.proofs.Packed.{per-some, width-most}
 use Rattle.rawform.proofs.Filled.{Filled, filled-start, filled-next, filled-same, filled-place, filled-end}
 use Rattle.packed.proofs.Runs.{start-fits, start-sum-fits, start-bits-fit}
-use Rattle.unpack.proofs.Runs.{run-each, run-product-fits, run-from-fits, run-word-fits, run-word, run-entry, run-on}
+use Rattle.labelruns.proofs.Runs.{run-each, run-product-fits, run-from-fits, run-word-fits, run-word, run-entry, run-on}
 use borrow.Author.Needs.{needs}
-use Rattle.unpack.proofs.raw.put_packed_run.Statement.{statement}
-use Rattle.unpack.proofs.raw.put_packed_run.Tie as tie
+use Rattle.labelruns.proofs.inner.put_packed_run.Statement.{statement}
+use Rattle.labelruns.proofs.inner.put_packed_run.Tie as tie
 
 abbrev Inv-loop : tie.InvT-loop
 Inv-loop chunk wide o first second step high count out₀ at width per from start table p₀ u₀ out p u = Filled (runVoxel chunk (labelWords wide) o first second step high) (4 * labelWords wide) count at out₀ u p out

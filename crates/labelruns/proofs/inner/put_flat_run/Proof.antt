@@ -3,10 +3,10 @@ use native.Mathlib.Omega.{arith}
 use Rattle.segmentation.specs.Labels.{labelWords}
 use Rattle.rawform.specs.Writing.{runVoxel}
 use Rattle.rawform.proofs.Filled.{Filled, filled-start, filled-next, filled-same, filled-place, filled-end}
-use Rattle.unpack.proofs.Runs.{run-each, flat-in, flat-on}
+use Rattle.labelruns.proofs.Runs.{run-each, flat-in, flat-on}
 use borrow.Author.Needs.{needs}
-use Rattle.unpack.proofs.raw.put_flat_run.Statement.{statement}
-use Rattle.unpack.proofs.raw.put_flat_run.Tie as tie
+use Rattle.labelruns.proofs.inner.put_flat_run.Statement.{statement}
+use Rattle.labelruns.proofs.inner.put_flat_run.Tie as tie
 
 abbrev Inv-loop : tie.InvT-loop
 Inv-loop chunk wide o first second step high count out₀ at entry p₀ u₀ out p u = Filled (runVoxel chunk (labelWords wide) o first second step high) (4 * labelWords wide) count at out₀ u p out

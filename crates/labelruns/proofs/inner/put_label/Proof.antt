@@ -1,7 +1,7 @@
 use borrow.Author.Needs.{needs}
-use Rattle.unpack.proofs.Runs.{wide-reads, narrow-reads, wide-puts, narrow-puts, wide-next, narrow-next, wide-put, narrow-put}
-use Rattle.unpack.proofs.raw.put_label.Statement.{statement}
-use Rattle.unpack.proofs.raw.put_label.Tie as tie
+use Rattle.labelruns.proofs.Runs.{wide-reads, narrow-reads, wide-puts, narrow-puts, wide-next, narrow-next, wide-put, narrow-put}
+use Rattle.labelruns.proofs.inner.put_label.Statement.{statement}
+use Rattle.labelruns.proofs.inner.put_label.Tie as tie
 
 pub put-label-spec : {M : Type 1} → statement M
 put-label-spec =

@@ -1,8 +1,8 @@
 use borrow.Author.Needs.{needs}
 use Rattle.segmentation.proofs.Shapes.{block-x, block-y, block-z}
-use Rattle.unpack.proofs.Rows.{row-some, row-offset, headers-product, headers-twice, headers-sum, headers-are}
-use Rattle.unpack.proofs.raw.row_headers.Statement.{statement}
-use Rattle.unpack.proofs.raw.row_headers.Tie as tie
+use Rattle.labelrows.proofs.Rows.{row-some, row-offset, headers-product, headers-twice, headers-sum, headers-are}
+use Rattle.labelrows.proofs.inner.row_headers.Statement.{statement}
+use Rattle.labelrows.proofs.inner.row_headers.Tie as tie
 
 pub row-headers-spec : {M : Type 1} → statement M
 row-headers-spec =

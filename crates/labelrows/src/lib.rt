@@ -1,0 +1,2 @@
+// Rows of labels in the raw form.
+pub mod inner;

@@ -1,0 +1,2 @@
+// Runs of labels in the raw form.
+pub mod inner;
