@@ -1,2 +1,2 @@
-// Whether each voxel of a packed block has a label.
+// What is tested of one block before its packed values are looked at.
 pub mod inner;

@@ -2,13 +2,13 @@ use Prim.Native.Nat.{_*_, _-_, _≤_}
 use mathlib.Core.Path.{_≡_}
 use native.Mathlib.Omega.{arith}
 use Rattle.segmentation.specs.Labels.{labelWords}
 use Rattle.packed.specs.Checks.{greatest, runRefusal}
 use Rattle.values.proofs.Packed.{per-some, width-most}
 use Rattle.packed.proofs.Greatest.{greatest-none, greatest-all}
 use Rattle.packed.proofs.Runs.{run-product-fits, run-from-fits, run-word-fits, run-word, start-fits, start-sum-fits, start-bits-fit, run-hit, run-still}
 use borrow.Author.Needs.{needs}
-use Rattle.packed.proofs.inner.run_refusal.Statement.{statement}
-use Rattle.packed.proofs.inner.run_refusal.Tie as tie
+use Rattle.packedruns.proofs.inner.run_refusal.Statement.{statement}
+use Rattle.packedruns.proofs.inner.run_refusal.Tie as tie
 
 abbrev Inv-loop : tie.InvT-loop
 Inv-loop chunk wide o first second step high count limit width per from start u₀ u = (u ≤ count) × (0 ≡ greatest (runRefusal chunk (labelWords wide) o first second (step * high)) u)

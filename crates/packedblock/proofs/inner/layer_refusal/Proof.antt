@@ -2,12 +2,12 @@ use Prim.Native.Nat.{_-_, _≤_}
 use mathlib.Core.Path.{_≡_}
 use native.Mathlib.Omega.{arith}
 use Rattle.segmentation.specs.Labels.{labelWords}
 use Rattle.packed.specs.Checks.{greatest, rowRefusal}
 use Rattle.packed.proofs.Greatest.{greatest-none, greatest-still}
 use Rattle.packed.proofs.Mild.{layer-hit, layer-all}
 use borrow.Author.Needs.{needs}
-use Rattle.packed.proofs.inner.layer_refusal.Statement.{statement}
-use Rattle.packed.proofs.inner.layer_refusal.Tie as tie
+use Rattle.packedblock.proofs.inner.layer_refusal.Statement.{statement}
+use Rattle.packedblock.proofs.inner.layer_refusal.Tie as tie
 
 abbrev Inv-loop : tie.InvT-loop
 Inv-loop chunk wide o first second block inside limit w count v₀ v = (v ≤ count) × (0 ≡ greatest (rowRefusal chunk (labelWords wide) o first second block inside w) v)

@@ -1,7 +1,7 @@
 use borrow.Author.Needs.{needs}
 use Rattle.packed.proofs.Sure.{row-packed, row-of-run}
-use Rattle.packed.proofs.inner.row_refusal.Statement.{statement}
-use Rattle.packed.proofs.inner.row_refusal.Tie as tie
+use Rattle.packedblock.proofs.inner.row_refusal.Statement.{statement}
+use Rattle.packedblock.proofs.inner.row_refusal.Tie as tie
 
 pub row-refusal-spec : {M : Type 1} → statement M
 row-refusal-spec =

@@ -1,9 +1,9 @@
 use borrow.Author.Needs.{needs}
 use borrow.Author.Tests.{not-true, not-false}
 use Rattle.values.proofs.Packed.{width-most}
 use Rattle.packed.proofs.Sure.{sure-told}
-use Rattle.packed.proofs.inner.packed_refusal.Statement.{statement}
-use Rattle.packed.proofs.inner.packed_refusal.Tie as tie
+use Rattle.packedblock.proofs.inner.packed_refusal.Statement.{statement}
+use Rattle.packedblock.proofs.inner.packed_refusal.Tie as tie
 
 returns : tie.Need-returns
 returns c = c .before .is-reached .ensures .1 (not-true _ (c .if1 .taken))

@@ -1,0 +1,2 @@
+// Whether each voxel of a packed block has a label.
+pub mod inner;
