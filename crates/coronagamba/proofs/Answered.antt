@@ -5,8 +5,8 @@ use mathlib.Core.Option.{none, some}
 use borrow.Author.Needs.{needs}
 use Rattle.shard.specs.declared.CheckAnswer.{CheckAnswer}
 use Rattle.shard.specs.declared.CheckAnswer.the-variants.{Sound, Faulty, Refused as CheckRefused}
-use Rattle.lookup.specs.declared.LookupAnswer.{LookupAnswer}
-use Rattle.lookup.specs.declared.LookupAnswer.the-variants as L
+use Rattle.idsearch.specs.declared.LookupAnswer.{LookupAnswer}
+use Rattle.idsearch.specs.declared.LookupAnswer.the-variants as L
 use Rattle.listing.specs.declared.CountAnswer.{CountAnswer}
 use Rattle.listing.specs.declared.CountAnswer.the-variants as N
 use Rattle.unlisted.specs.declared.UnlistedAnswer.{UnlistedAnswer}

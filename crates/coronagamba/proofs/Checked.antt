@@ -13,8 +13,8 @@ use Rattle.shard.specs.declared.CheckAnswer.the-variants.{Faulty}
 use Rattle.shard.specs.File.{checkAnswer}
 use Rattle.shard.proofs.Numbers.{file-called}
 use Rattle.shard.proofs.Whole.{check-names}
-use Rattle.lookup.specs.declared.LookupAnswer.{LookupAnswer}
-use Rattle.lookup.specs.declared.LookupAnswer.the-variants as L
+use Rattle.idsearch.specs.declared.LookupAnswer.{LookupAnswer}
+use Rattle.idsearch.specs.declared.LookupAnswer.the-variants as L
 use Rattle.lookup.specs.Find.{lookupAnswer}
 use Rattle.fragment.specs.Fragment.{fragmentAnswer}
 use Rattle.listing.specs.declared.CountAnswer.{CountAnswer}

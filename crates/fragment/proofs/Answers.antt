@@ -14,9 +14,11 @@ use Rattle.sharding.specs.declared.Sharding.{Sharding}
 use Rattle.sharding.specs.Specification.{isMesh}
 use Rattle.nodes.specs.Nodes.{hasNode}
 use Rattle.shard.specs.File.{indexPart, dataPart}
-use Rattle.lookup.specs.declared.LookupAnswer.{LookupAnswer}
-use Rattle.lookup.specs.declared.LookupAnswer.the-variants.{Found, Refused, Faulty}
-use Rattle.lookup.specs.Find.{chunkOf, chosenChunk, lookupChecks, lookupAnswer}
+use Rattle.idsearch.specs.declared.LookupAnswer.{LookupAnswer}
+use Rattle.idsearch.specs.declared.LookupAnswer.the-variants.{Found, Refused, Faulty}
+use Rattle.idsearch.specs.Search.{chunkOf}
+use Rattle.chosen.specs.Chosen.{chosenChunk}
+use Rattle.lookup.specs.Find.{lookupChecks, lookupAnswer}
 use Rattle.lookup.proofs.Refused.{all-in-lookup}
 use Rattle.fragment.specs.Fragment.{fragmentBefore, fragmentIn, manifestOf, manifestStart, noNode, fragmentChecks, fragmentAnswer}
 

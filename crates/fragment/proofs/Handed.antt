@@ -18,8 +18,8 @@ use Rattle.nodes.specs.Nodes.{hasNode, fragmentSize, fragmentStart, fragmentsLe
 use Rattle.nodes.proofs.Fragments.{fragment-within}
 use Rattle.index.specs.Index.{mostShardBytes}
 use Rattle.shard.specs.File.{indexLength}
-use Rattle.lookup.specs.declared.LookupAnswer.{LookupAnswer}
-use Rattle.lookup.specs.declared.LookupAnswer.the-variants.{Found, Refused, Faulty}
+use Rattle.idsearch.specs.declared.LookupAnswer.{LookupAnswer}
+use Rattle.idsearch.specs.declared.LookupAnswer.the-variants.{Found, Refused, Faulty}
 use Rattle.lookup.specs.Find.{lookupAnswer, partEnd}
 use Rattle.lookup.proofs.Handed.{FoundFile, found-file, chosenEntry, found-bytes, found-inside, end-within}
 use Rattle.fragment.specs.Fragment.{fragmentBefore, fragmentIn, fragmentAnswer}

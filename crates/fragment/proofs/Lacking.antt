@@ -22,12 +22,15 @@ use Rattle.shard.specs.Faults.{faultOf}
 use Rattle.shard.specs.Lists.{ListsIn}
 use Rattle.shard.specs.File.{indexPart, dataPart, badFileLength}
 use Rattle.shard.proofs.Numbers.{file-picks}
-use Rattle.lookup.specs.declared.LookupAnswer.{LookupAnswer}
-use Rattle.lookup.specs.declared.LookupAnswer.the-variants.{Found, Refused, Faulty}
-use Rattle.lookup.specs.Find.{isId, chunkOf, foundIn, lookupIn, lookupAnswer}
+use Rattle.idsearch.specs.declared.LookupAnswer.{LookupAnswer}
+use Rattle.idsearch.specs.declared.LookupAnswer.the-variants.{Found, Refused, Faulty}
+use Rattle.idsearch.specs.Search.{isId, chunkOf, foundIn}
+use Rattle.chosen.specs.Chosen.{lookupIn}
+use Rattle.lookup.specs.Find.{lookupAnswer}
 use Rattle.lookup.specs.Lookups.{Asked}
-use Rattle.lookup.proofs.Seek.{found-picks}
-use Rattle.lookup.proofs.Answers.{in-parts, answer-files}
+use Rattle.idsearch.proofs.Seek.{found-picks}
+use Rattle.chosen.proofs.InParts.{in-parts}
+use Rattle.lookup.proofs.Answers.{answer-files}
 use Rattle.lookup.proofs.Handed.{found-file, found-bytes, chosenEntry}
 use Rattle.lookup.proofs.Retrieval.{listed-chunk-is-handed-out}
 use Rattle.fragment.specs.Fragment.{fragmentBefore, fragmentIn, fragmentAnswer}

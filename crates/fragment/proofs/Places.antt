@@ -12,7 +12,7 @@ use Rattle.manifest.proofs.Judged.{fails, passes, passed}
 use Rattle.nodes.specs.Nodes.{hasNode, fragmentsLength, fragmentStart, nodeIn, nodeAt}
 use Rattle.nodes.specs.declared.Node.{Node}
 use Rattle.nodes.proofs.Fragments.{fragment-within}
-use Rattle.lookup.specs.declared.LookupAnswer.the-variants.{Found, Refused}
+use Rattle.idsearch.specs.declared.LookupAnswer.the-variants.{Found, Refused}
 use Rattle.fragment.specs.Fragment.{fragmentBefore, fragmentIn}
 
 module _ (s : List ℕ) (start l i : ℕ) {p : Bool} (e : p ≡ hasNode s l i) where

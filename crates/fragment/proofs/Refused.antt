@@ -6,7 +6,7 @@ use Rattle.refusal.specs.Checks.{RefusesAt}
 use Rattle.refusal.proofs.Picks.{AllIn, all-in-both}
 use Rattle.refusal.proofs.Positions.{refusing-at}
 use Rattle.sharding.specs.declared.Sharding.{Sharding}
-use Rattle.lookup.specs.declared.LookupAnswer.the-variants.{Refused, Faulty}
+use Rattle.idsearch.specs.declared.LookupAnswer.the-variants.{Refused, Faulty}
 use Rattle.lookup.specs.Find.{lookupChecks}
 use Rattle.lookup.proofs.Refused.{all-in-lookup}
 use Rattle.fragment.specs.Fragment.{fragmentBefore, fragmentChecks, fragmentAnswer}

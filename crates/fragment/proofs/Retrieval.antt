@@ -19,7 +19,7 @@ use Rattle.shard.specs.Lists.{ListsItem}
 use Rattle.shard.specs.Sound.{SoundMinishard}
 use Rattle.shard.proofs.Chunks.{item-at}
 use Rattle.shard.proofs.Leads.{mesh-leads}
-use Rattle.lookup.specs.declared.LookupAnswer.the-variants.{Found}
+use Rattle.idsearch.specs.declared.LookupAnswer.the-variants.{Found}
 use Rattle.lookup.specs.Lookups.{Asked, chunkStart, HandsOut}
 use Rattle.lookup.proofs.Retrieval.{listed-chunk-is-handed-out}
 use Rattle.fragment.specs.Fragment.{fragmentBefore, fragmentAnswer}

@@ -8,9 +8,10 @@ use Rattle.sharding.specs.declared.Sharding.{Sharding}
 use Rattle.sharding.specs.Specification.{isMesh}
 use Rattle.nodes.specs.Nodes.{hasNode, fragmentSize, fragmentStart, fragmentsLength}
 use Rattle.shard.specs.File.{indexPart, dataPart}
-use Rattle.lookup.specs.declared.LookupAnswer.{LookupAnswer}
-use Rattle.lookup.specs.declared.LookupAnswer.the-variants.{Found, Refused, Faulty}
-use Rattle.lookup.specs.Find.{chosenChunk, lookupChecks, partStart, partBytes}
+use Rattle.idsearch.specs.declared.LookupAnswer.{LookupAnswer}
+use Rattle.idsearch.specs.declared.LookupAnswer.the-variants.{Found, Refused, Faulty}
+use Rattle.chosen.specs.Chosen.{chosenChunk}
+use Rattle.lookup.specs.Find.{lookupChecks, partStart, partBytes}
 
 -- ---- of a manifest
 

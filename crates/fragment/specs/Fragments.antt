@@ -12,7 +12,7 @@ use Rattle.nodes.specs.Nodes.{hasNode, fragmentStart, fragmentsLength}
 use Rattle.shard.specs.File.{indexLength, indexPart, dataPart}
 use Rattle.shard.specs.Sound.{SoundMinishard}
 use Rattle.shard.specs.Lists.{ListsIn}
-use Rattle.lookup.specs.declared.LookupAnswer.the-variants.{Found}
+use Rattle.idsearch.specs.declared.LookupAnswer.the-variants.{Found}
 use Rattle.lookup.specs.Find.{lookupAnswer, partBytes}
 use Rattle.fragment.specs.Fragment.{fragmentAnswer}
 

@@ -4,7 +4,7 @@ ghost use Prim.Native.Nat.{_≤_};
 ghost use Rattle.manifest.specs.Verdict.{verdict};
 ghost use Rattle.nodes.specs.Nodes.{fragmentsLength};
 ghost use Rattle.fragment.specs.Fragment.{fragmentIn};
-use lookup::LookupAnswer;
+use idsearch::LookupAnswer;
 use nodes::inner::fragments_length;
 use nodes::inner::has_node;
 

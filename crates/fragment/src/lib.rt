@@ -5,7 +5,7 @@ ghost use mathlib.Core.Path.{_≡_};
 ghost use Prim.Native.Nat.{_+_};
 ghost use Rattle.lookup.specs.Find.{partStart, partBytes};
 ghost use Rattle.fragment.specs.Fragment.{fragmentAnswer};
-use lookup::LookupAnswer;
+use idsearch::LookupAnswer;
 use lookup::inner::part_of;
 use sharding::Sharding;
 use sharding::inner::is_mesh;

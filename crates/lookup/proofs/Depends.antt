@@ -22,12 +22,15 @@ use Rattle.manifests.specs.Mesh.{wrongLength, badReal, unorderedNodes, fragment
 use Rattle.shard.specs.Faults.{badEntry, badId, foreignAt, outside, meshTests, entryTests, faultAt, faultOf}
 use Rattle.shard.specs.File.{indexLength, indexPart, dataPart, fileChecks}
 use Rattle.index.proofs.Tests.{Agree, same-any, same-first, same-tests}
-use Rattle.lookup.specs.declared.LookupAnswer.{LookupAnswer}
-use Rattle.lookup.specs.declared.LookupAnswer.the-variants.{Found, Refused, Faulty}
-use Rattle.lookup.specs.Find.{isId, chunkOf, foundIn, lookupIn, lookupAnswer, partBytes}
+use Rattle.idsearch.specs.declared.LookupAnswer.{LookupAnswer}
+use Rattle.idsearch.specs.declared.LookupAnswer.the-variants.{Found, Refused, Faulty}
+use Rattle.idsearch.specs.Search.{isId, chunkOf, foundIn}
+use Rattle.chosen.specs.Chosen.{lookupIn}
+use Rattle.lookup.specs.Find.{lookupAnswer, partBytes}
 use Rattle.lookup.specs.Lookups.{chunkBytes, indexBytes, AgreeFor, AgreeInChunk, SameAnswer}
-use Rattle.lookup.proofs.Seek.{found-picks}
-use Rattle.lookup.proofs.Answers.{in-parts, answer-files}
+use Rattle.idsearch.proofs.Seek.{found-picks}
+use Rattle.chosen.proofs.InParts.{in-parts}
+use Rattle.lookup.proofs.Answers.{answer-files}
 use Rattle.lookup.proofs.Handed.{found-file, chosenEntry, found-bytes}
 
 -- ---- rows that are alike in their first n numbers

@@ -19,12 +19,14 @@ use Rattle.shard.specs.File.{indexLength, indexPart, dataPart}
 use Rattle.shard.specs.Sound.{SoundMinishard}
 use Rattle.shard.proofs.Judged.{passes-minishard}
 use Rattle.shard.proofs.Numbers.{file-called}
-use Rattle.lookup.specs.declared.LookupAnswer.{LookupAnswer}
-use Rattle.lookup.specs.declared.LookupAnswer.the-variants.{Found, Refused, Faulty}
-use Rattle.lookup.specs.Find.{lookupIn, lookupAnswer, partStart, partEnd, partBytes}
+use Rattle.idsearch.specs.declared.LookupAnswer.{LookupAnswer}
+use Rattle.idsearch.specs.declared.LookupAnswer.the-variants.{Found, Refused, Faulty}
+use Rattle.chosen.specs.Chosen.{lookupIn}
+use Rattle.lookup.specs.Find.{lookupAnswer, partStart, partEnd, partBytes}
 use Rattle.lookup.specs.Lookups.{chunkCount, chunkBytes}
-use Rattle.lookup.proofs.Seek.{entryOf, FoundAt, found-entry}
-use Rattle.lookup.proofs.Answers.{in-parts, answer-files}
+use Rattle.idsearch.proofs.Seek.{entryOf, FoundAt, found-entry}
+use Rattle.chosen.proofs.InParts.{in-parts}
+use Rattle.lookup.proofs.Answers.{answer-files}
 
 -- what is found is no refusal r
 unless-found : (r : ℕ → LookupAnswer) (n : ℕ) (x : LookupAnswer) {a k : ℕ} → ((j : ℕ) → r j ≡ Found a k → _≡_ {A = ℕ} 0 1) → unless r n x ≡ Found a k → (n ≡ 0) × (x ≡ Found a k)

@@ -1,5 +1,4 @@
 -- Laws of the definitions.
-pub mod Seek
 pub mod Answers
 pub mod Refused
 pub mod Handed

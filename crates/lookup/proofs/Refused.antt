@@ -13,8 +13,10 @@ use Rattle.sharding.specs.Place.{shardOf, minishardOf}
 use Rattle.shard.specs.Checks.{minishardChecks}
 use Rattle.shard.specs.File.{indexPart, dataPart, fileChecks}
 use Rattle.shard.proofs.Numbers.{minishard-in, file-in}
-use Rattle.lookup.specs.declared.LookupAnswer.the-variants.{Refused, Faulty}
-use Rattle.lookup.specs.Find.{chunkOf, chosenChecks, chosenChunk, lookupChecks, lookupAnswer}
+use Rattle.idsearch.specs.declared.LookupAnswer.the-variants.{Refused, Faulty}
+use Rattle.idsearch.specs.Search.{chunkOf}
+use Rattle.chosen.specs.Chosen.{chosenChecks, chosenChunk}
+use Rattle.lookup.specs.Find.{lookupChecks, lookupAnswer}
 
 chosen-in : (spec : Sharding) (shard : ℕ) (x d : List ℕ) (id : ℕ) → AllIn (chosenChecks spec shard x d id)
 unfolding chosenChecks

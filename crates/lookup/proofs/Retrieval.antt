@@ -23,12 +23,15 @@ use Rattle.shard.specs.Sound.{SoundMinishard}
 use Rattle.shard.specs.Lists.{ListsAt, ListsIn}
 use Rattle.shard.proofs.Judged.{passes-minishard, minishard-passes}
 use Rattle.shard.proofs.Numbers.{unless-none, Called, called-file}
-use Rattle.lookup.specs.declared.LookupAnswer.{LookupAnswer}
-use Rattle.lookup.specs.declared.LookupAnswer.the-variants.{Found, Refused, Faulty}
-use Rattle.lookup.specs.Find.{isId, foundIn, lookupIn, lookupAnswer, partBytes}
+use Rattle.idsearch.specs.declared.LookupAnswer.{LookupAnswer}
+use Rattle.idsearch.specs.declared.LookupAnswer.the-variants.{Found, Refused, Faulty}
+use Rattle.idsearch.specs.Search.{isId, foundIn}
+use Rattle.chosen.specs.Chosen.{lookupIn}
+use Rattle.lookup.specs.Find.{lookupAnswer, partBytes}
 use Rattle.lookup.specs.Lookups.{Asked, chunkStart, HandsOut}
-use Rattle.lookup.proofs.Seek.{found-first, found-none, none-found}
-use Rattle.lookup.proofs.Answers.{in-parts, answer-files}
+use Rattle.idsearch.proofs.Seek.{found-first, found-none, none-found}
+use Rattle.chosen.proofs.InParts.{in-parts}
+use Rattle.lookup.proofs.Answers.{answer-files}
 use Rattle.lookup.proofs.Handed.{found-inside}
 
 -- ---- ids that rise

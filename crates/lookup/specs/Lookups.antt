@@ -9,7 +9,7 @@ use Rattle.sharding.specs.Specification.{isMesh, allowed}
 use Rattle.sharding.specs.Place.{shardOf, minishardOf}
 use Rattle.index.specs.Index.{entryStart, entryEnd, entryCount, startSteps, sizes, startAt, chunkAt, mostShardBytes}
 use Rattle.shard.specs.File.{indexLength, indexPart, dataPart}
-use Rattle.lookup.specs.declared.LookupAnswer.the-variants.{Found}
+use Rattle.idsearch.specs.declared.LookupAnswer.the-variants.{Found}
 use Rattle.lookup.specs.Find.{lookupAnswer, partBytes}
 
 -- an allowed specification, an id of the shard that is given, a file of allowed length

@@ -4,20 +4,13 @@ pub mod inner;
 ghost use mathlib.Core.Path.{_≡_};
 ghost use Prim.Native.Nat.{_+_};
 ghost use Rattle.lookup.specs.Find.{lookupAnswer, partStart, partBytes};
+use idsearch::LookupAnswer;
 use shard::inner::MOST_SHARD_BYTES;
 use shard::inner::index_length;
 use sharding::Sharding;
 use sharding::inner::is_allowed;
 use sharding::inner::shard_count;
 use sharding::inner::shard_of;
-
-// Where the bytes asked for lie in the file, and how many they are. 7 to 11, for a mesh also 15 to 17 and 21, come with the byte
-// position of what is wrong, counted from the beginning of the shard.
-pub enum LookupAnswer {
-    Found { start: usize, length: usize },
-    Refused(u8),
-    Faulty { number: u8, position: u64 },
-}
 
 // The place and length of the chunk of an id, or the refusal.
 pub fn lookup(spec: Sharding, shard: u64, file: &[u8], id: u64) -> LookupAnswer

@@ -3,7 +3,7 @@ ghost use mathlib.Core.Path.{_≡_};
 ghost use Prim.Native.Nat.{_+_};
 ghost use Rattle.lookup.specs.Find.{lookupAnswer, partStart, partBytes};
 ghost use Rattle.fragment.specs.Fragment.{fragmentAnswer};
-use lookup::LookupAnswer;
+use idsearch::LookupAnswer;
 use sharding::Sharding;
 
 pub struct Opened<'a> {

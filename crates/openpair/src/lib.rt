@@ -5,7 +5,7 @@ ghost use Prim.Native.Nat.{_+_};
 ghost use lib.ListN.{length};
 ghost use Rattle.lookup.specs.Find.{partStart, partBytes};
 ghost use Rattle.pair.specs.Answers.{pairLookup, pairFragment, inData};
-use lookup::LookupAnswer;
+use idsearch::LookupAnswer;
 use opened::MeshNode;
 use sharding::Sharding;
 

@@ -18,9 +18,9 @@ use Rattle.shard.specs.File.{indexPart, dataPart, fileChecks, verdict, checkAns
 use Rattle.shard.proofs.Numbers.{unless-some, unless-none}
 use Rattle.seam.specs.Pair.{lengthNumber}
 use Rattle.seam.proofs.Pairs.{number-seamed, seamed-index, seamed-data, seam-measured, seam-short, pair-1, pair-5, pair-length, pair-inside}
-use Rattle.lookup.specs.declared.LookupAnswer.{LookupAnswer}
-use Rattle.lookup.specs.declared.LookupAnswer.the-variants.{Refused}
-use Rattle.lookup.specs.Find.{lookupIn}
+use Rattle.idsearch.specs.declared.LookupAnswer.{LookupAnswer}
+use Rattle.idsearch.specs.declared.LookupAnswer.the-variants.{Refused}
+use Rattle.chosen.specs.Chosen.{lookupIn}
 use Rattle.lookup.proofs.Answers.{answer-files}
 use Rattle.pair.specs.Answers.{pairCheck, otherShard, pairLookup}
 

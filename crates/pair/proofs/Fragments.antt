@@ -15,8 +15,8 @@ use Rattle.manifest.specs.Verdict.{verdict}
 use Rattle.nodes.specs.Nodes.{fragmentsLength}
 use Rattle.seam.specs.Pair.{pairChecks}
 use Rattle.seam.proofs.Pairs.{joined-rest}
-use Rattle.lookup.specs.declared.LookupAnswer.{LookupAnswer}
-use Rattle.lookup.specs.declared.LookupAnswer.the-variants.{Found, Refused, Faulty}
+use Rattle.idsearch.specs.declared.LookupAnswer.{LookupAnswer}
+use Rattle.idsearch.specs.declared.LookupAnswer.the-variants.{Found, Refused, Faulty}
 use Rattle.lookup.specs.Find.{lookupAnswer, partEnd, partBytes}
 use Rattle.fragment.specs.Fragment.{fragmentIn, fragmentAnswer}
 use Rattle.fragment.proofs.Answers.{after, after-lookup}

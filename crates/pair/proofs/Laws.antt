@@ -13,7 +13,7 @@ use Rattle.shard.proofs.Whole.{check-refuses}
 use Rattle.seam.specs.Pair.{pairChecks}
 use Rattle.seam.proofs.Pairs.{checks-seamed}
 use Rattle.seam.proofs.Refusals.{pair-refuses, pair-refuses-at, as-joined, as-joined-at}
-use Rattle.lookup.specs.declared.LookupAnswer.the-variants.{Refused, Faulty}
+use Rattle.idsearch.specs.declared.LookupAnswer.the-variants.{Refused, Faulty}
 use Rattle.lookup.specs.Find.{lookupChecks, lookupAnswer}
 use Rattle.lookup.proofs.Refused.{lookup-refuses}
 use Rattle.fragment.specs.Fragment.{fragmentChecks, fragmentAnswer}

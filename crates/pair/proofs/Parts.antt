@@ -13,8 +13,8 @@ use Rattle.index.specs.Index.{mostShardBytes}
 use Rattle.shard.specs.File.{indexLength}
 use Rattle.seam.specs.Pair.{pairChecks}
 use Rattle.seam.proofs.Pairs.{checks-seamed, joined-rest}
-use Rattle.lookup.specs.declared.LookupAnswer.{LookupAnswer}
-use Rattle.lookup.specs.declared.LookupAnswer.the-variants.{Found, Refused, Faulty}
+use Rattle.idsearch.specs.declared.LookupAnswer.{LookupAnswer}
+use Rattle.idsearch.specs.declared.LookupAnswer.the-variants.{Found, Refused, Faulty}
 use Rattle.lookup.specs.Find.{lookupAnswer, partStart, partEnd, partBytes}
 use Rattle.lookup.proofs.Handed.{found-file, found-inside}
 use Rattle.pair.specs.Answers.{otherShard, pairLookup, inData, Behind}

@@ -10,8 +10,8 @@ use Rattle.shard.specs.declared.CheckAnswer.{CheckAnswer}
 use Rattle.shard.specs.declared.CheckAnswer.the-variants as C
 use Rattle.shard.specs.File.{checkAnswer}
 use Rattle.seam.specs.Pair.{pairAnswer}
-use Rattle.lookup.specs.declared.LookupAnswer.{LookupAnswer}
-use Rattle.lookup.specs.declared.LookupAnswer.the-variants.{Found, Refused, Faulty}
+use Rattle.idsearch.specs.declared.LookupAnswer.{LookupAnswer}
+use Rattle.idsearch.specs.declared.LookupAnswer.the-variants.{Found, Refused, Faulty}
 use Rattle.lookup.specs.Find.{lookupAnswer}
 use Rattle.fragment.specs.Fragment.{fragmentAnswer}
 

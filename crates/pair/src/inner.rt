@@ -5,7 +5,7 @@ ghost use lib.ListN.{length};
 ghost use Rattle.index.specs.Index.{mostShardBytes};
 ghost use Rattle.lookup.specs.Find.{partStart, partEnd, partBytes};
 ghost use Rattle.pair.specs.Answers.{inData, Behind};
-use lookup::LookupAnswer;
+use idsearch::LookupAnswer;
 use lookup::inner::part_of;
 
 // The place counted in the data file, behind an index file of `seam` bytes.

@@ -36,8 +36,10 @@ use Rattle.shard.proofs.Judged.{entry-within}
 use Rattle.shard.proofs.Numbers.{file-called}
 use Rattle.shard.proofs.Whole.{check-names}
 use Rattle.shard.proofs.AfterCheck.{afterCheck}
-use Rattle.lookup.specs.declared.LookupAnswer.the-variants as L
-use Rattle.lookup.specs.Find.{unlisted, chosenChecks, lookupChecks, lookupAnswer}
+use Rattle.idsearch.specs.declared.LookupAnswer.the-variants as L
+use Rattle.idsearch.specs.Search.{unlisted}
+use Rattle.chosen.specs.Chosen.{chosenChecks}
+use Rattle.lookup.specs.Find.{lookupChecks, lookupAnswer}
 use Rattle.lookup.proofs.Refused.{lookup-refuses}
 use Rattle.fragment.specs.Fragment.{fragmentAnswer}
 use Rattle.fragment.proofs.Handed.{fragment-faulty}

@@ -19,7 +19,9 @@ use Rattle.shard.specs.Faults.{badEntry, badLength, foreign, foreignAt, outside
 use Rattle.shard.specs.Checks.{entryChecks, minishardChecks, minishardsChecks}
 use Rattle.shard.specs.File.{badFileLength, fileChecks, shardChecks, checkAnswer}
 use Rattle.shard.specs.Items.{leadLength, itemOf, itemAt}
-use Rattle.lookup.specs.Find.{isId, chunkOf, chosenChecks, chosenChunk, lookupChecks, lookupAnswer}
+use Rattle.idsearch.specs.Search.{isId, chunkOf}
+use Rattle.chosen.specs.Chosen.{chosenChecks, chosenChunk}
+use Rattle.lookup.specs.Find.{lookupChecks, lookupAnswer}
 use Rattle.fragment.specs.Fragment.{fragmentBefore, noNode, fragmentChecks, fragmentAnswer}
 use Rattle.form.specs.Sorted.{notAbove, insertBy, sortBy}
 use Rattle.form.specs.Form.{chunksOf, chunksLength, idRow, startRow, sizeRow, indexOf, partOf, partLength, partsFrom, partsLength, entryBegin, entryFinish, entriesFrom, settled, settledLength}

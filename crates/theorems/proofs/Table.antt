@@ -29,7 +29,9 @@ use Rattle.shard.specs.File.{badFileLength, fileChecks, shardChecks}
 use Rattle.shard.specs.Items.{leadLength, itemOf, itemAt}
 use Rattle.bitmap.specs.Positions.{within, miss}
 use Rattle.ranges.specs.Covered.{itemStart, inItem, inItems, inMinishard, coveredBy, coveredIn, coveredAt, unlistedBytes}
-use Rattle.lookup.specs.Find.{isId, chunkOf, chosenChecks, chosenChunk, lookupChecks, lookupAnswer}
+use Rattle.idsearch.specs.Search.{isId, chunkOf}
+use Rattle.chosen.specs.Chosen.{chosenChecks, chosenChunk}
+use Rattle.lookup.specs.Find.{lookupChecks, lookupAnswer}
 use Rattle.form.specs.Sorted.{notAbove, insertBy, sortBy}
 use Rattle.form.specs.Form.{chunksOf, chunksLength, idRow, startRow, sizeRow, indexOf, partOf, partLength, partsFrom, partsLength, entryBegin, entryFinish, entriesFrom, settled, settledLength}
 use Rattle.form.specs.Content.{itemsFrom, itemsAt, byId, contentFrom, contentOf, formOf, formLength}

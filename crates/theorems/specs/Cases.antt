@@ -32,8 +32,8 @@ use Rattle.sharding.specs.declared.PlaceAnswer.the-variants.{At as Placed}
 use Rattle.sharding.specs.Specification.{identity, volume}
 use Rattle.sharding.specs.Place.{placeAnswer}
 use Rattle.names.specs.Shards.{shardNameAnswer, shardNameLeft}
-use Rattle.lookup.specs.declared.LookupAnswer.{LookupAnswer}
-use Rattle.lookup.specs.declared.LookupAnswer.the-variants.{Found, Refused as NotFound}
+use Rattle.idsearch.specs.declared.LookupAnswer.{LookupAnswer}
+use Rattle.idsearch.specs.declared.LookupAnswer.the-variants.{Found, Refused as NotFound}
 use Rattle.lookup.specs.Find.{lookupAnswer}
 use Rattle.shard.specs.Items.{Item}
 use Rattle.form.specs.Content.{fileContent, fileForm, fileFormLength}

@@ -42,7 +42,7 @@ use Rattle.shard.specs.Lists.{ListsAt, ListsIn, ListsItem, SameListing, SameChu
 use Rattle.ranges.specs.Ranges.{Unlisted}
 use Rattle.unlisted.specs.declared.UnlistedAnswer.the-variants as U
 use Rattle.unlisted.specs.Answers.{unlistedAnswer}
-use Rattle.lookup.specs.declared.LookupAnswer.the-variants as L
+use Rattle.idsearch.specs.declared.LookupAnswer.the-variants as L
 use Rattle.lookup.specs.Find.{lookupChecks, lookupAnswer}
 use Rattle.lookup.specs.Lookups.{Asked, HandsOut, AgreeFor, SameAnswer}
 use Rattle.fragment.specs.Fragment.{fragmentChecks, fragmentAnswer}

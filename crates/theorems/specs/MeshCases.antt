@@ -9,8 +9,8 @@ use Rattle.shard.specs.declared.CheckAnswer.{CheckAnswer}
 use Rattle.shard.specs.declared.CheckAnswer.the-variants.{Sound, Faulty}
 use Rattle.shard.specs.Items.{Item}
 use Rattle.shard.specs.File.{checkAnswer}
-use Rattle.lookup.specs.declared.LookupAnswer.{LookupAnswer}
-use Rattle.lookup.specs.declared.LookupAnswer.the-variants.{Found, Refused as NotFound, Faulty as FaultyIn}
+use Rattle.idsearch.specs.declared.LookupAnswer.{LookupAnswer}
+use Rattle.idsearch.specs.declared.LookupAnswer.the-variants.{Found, Refused as NotFound, Faulty as FaultyIn}
 use Rattle.lookup.specs.Find.{lookupAnswer}
 use Rattle.fragment.specs.Fragment.{fragmentAnswer}
 use Rattle.form.specs.Content.{fileContent, fileForm}

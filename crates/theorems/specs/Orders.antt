@@ -43,7 +43,7 @@ use Rattle.bitmap.specs.Positions.{misses}
 use Rattle.ranges.specs.Covered.{coveredAt, fileUnlisted}
 use Rattle.unlisted.specs.declared.UnlistedAnswer.the-variants as U
 use Rattle.unlisted.specs.Answers.{unlistedAnswer}
-use Rattle.lookup.specs.declared.LookupAnswer.the-variants as L
+use Rattle.idsearch.specs.declared.LookupAnswer.the-variants as L
 use Rattle.lookup.specs.Find.{lookupAnswer}
 use Rattle.fragment.specs.Fragment.{fragmentAnswer}
 use Rattle.listing.specs.declared.CountAnswer.the-variants as N

@@ -11,8 +11,8 @@ use Rattle.endian.specs.Range.{anyBelow, first}
 use Rattle.endian.proofs.Ranges.{any-none, any-more, any-hit, any-no, first-hit, first-lt}
 use Rattle.index.specs.Index.{idAt, startAt, idSteps, startSteps, sizes}
 use Rattle.index.proofs.Tally.{Tally, tally-id, tally-place}
-use Rattle.lookup.specs.declared.LookupAnswer.the-variants.{Found, Refused}
-use Rattle.lookup.specs.Find.{isId, unlisted, chunkOf, foundIn}
+use Rattle.idsearch.specs.declared.LookupAnswer.the-variants.{Found, Refused}
+use Rattle.idsearch.specs.Search.{isId, unlisted, chunkOf, foundIn}
 
 -- ---- what it answers
 

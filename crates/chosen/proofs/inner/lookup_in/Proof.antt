@@ -2,9 +2,9 @@
 use borrow.Author.Needs.{needs}
 use Rattle.shard.proofs.Passed.{passed-order, passed-readable}
 use Rattle.shard.proofs.Split.{index-short}
-use Rattle.lookup.proofs.Answers.{in-fault, in-empty, in-found}
-use Rattle.lookup.proofs.inner.lookup_in.Statement.{statement}
-use Rattle.lookup.proofs.inner.lookup_in.Tie as tie
+use Rattle.chosen.proofs.InParts.{in-fault, in-empty, in-found}
+use Rattle.chosen.proofs.inner.lookup_in.Statement.{statement}
+use Rattle.chosen.proofs.inner.lookup_in.Tie as tie
 
 pub lookup-in-spec : {M : Type 1} → statement M
 lookup-in-spec =

@@ -6,11 +6,11 @@ use native.Mathlib.Omega.{arith}
 use borrow.Author.Needs.{needs}
 use Rattle.endian.specs.Range.{anyBelow}
 use Rattle.index.specs.Index.{idSteps, startSteps, sizes}
-use Rattle.lookup.specs.Find.{isId}
+use Rattle.idsearch.specs.Search.{isId}
 use Rattle.index.proofs.Tally.{Tally, tally-start, tally-place-fits, tally-turn}
-use Rattle.lookup.proofs.Seek.{seek-start, seek-hit, seek-turn, seek-end}
-use Rattle.lookup.proofs.inner.find.Statement.{statement}
-use Rattle.lookup.proofs.inner.find.Tie as tie
+use Rattle.idsearch.proofs.Seek.{seek-start, seek-hit, seek-turn, seek-end}
+use Rattle.idsearch.proofs.inner.find.Statement.{statement}
+use Rattle.idsearch.proofs.inner.find.Tie as tie
 
 abbrev Inv-loop : tie.InvT-loop
 Inv-loop base d p n id q t at₀ cur₀ i₀ at cur i =

@@ -1,0 +1,2 @@
+// The lookup in a shard of two parts.
+pub mod inner;
