@@ -175,7 +175,7 @@ mod tests {
 
     #[test]
     fn a_report_may_be_longer_than_a_shard() {
-        let folder = Folder::new("files-long");
+        let folder = Folder::in_memory("files-long");
         let path = folder.write("a", b"");
         let long = MOST_BYTES + 5;
         File::options()

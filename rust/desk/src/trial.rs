@@ -24,7 +24,7 @@ impl Folder {
     }
 
     /// An empty folder in memory, where the system has one there: for tests that write
-    /// thousands of files, each of which would wait for the disk.
+    /// thousands of files, each of which would wait for the disk, or a file that is all hole.
     pub fn in_memory(name: &str) -> Self {
         let memory = Path::new("/dev/shm");
         match memory.is_dir() {

@@ -10,7 +10,10 @@ fn byte(bytes: &[u8], at: usize, further: usize) -> u8 {
 
 /// The `N` bytes from `at` on; bytes past the end count as 0.
 fn window<const N: usize>(bytes: &[u8], at: usize) -> [u8; N] {
-    std::array::from_fn(|i| byte(bytes, at, i))
+    match bytes.get(at..).and_then(|rest| rest.first_chunk()) {
+        Some(window) => *window,
+        None => std::array::from_fn(|i| byte(bytes, at, i)),
+    }
 }
 
 /// The u16 at `at`; bytes past the end count as 0.
@@ -26,6 +29,16 @@ pub fn read_u32(bytes: &[u8], at: usize) -> u32 {
 /// The u64 at `at`; bytes past the end count as 0.
 pub fn read_u64(bytes: &[u8], at: usize) -> u64 {
     u64::from_le_bytes(window(bytes, at))
+}
+
+/// The numbers one behind another, 8 bytes each.
+pub fn bytes_of(numbers: impl IntoIterator<Item = u64>) -> Vec<u8> {
+    let numbers = numbers.into_iter();
+    let mut bytes = Vec::with_capacity(8 * numbers.size_hint().0);
+    for number in numbers {
+        bytes.extend_from_slice(&number.to_le_bytes());
+    }
+    bytes
 }
 
 /// Writes `text` over `out` from `at` on, or gives 13 where it does not fit.
@@ -62,6 +75,7 @@ mod tests {
         assert_eq!(read_u16(&bytes, 1), 0x0302);
         assert_eq!(read_u32(&bytes, 1), 0x0504_0302);
         assert_eq!(read_u64(&bytes, 1), 0x0908_0706_0504_0302);
+        assert_eq!(bytes_of([0x0807_0605_0403_0201]), bytes[..8]);
     }
 
     #[test]

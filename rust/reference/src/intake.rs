@@ -2,7 +2,7 @@
 //! was delivered; whenever a minishard ends, the output begins with the settled
 //! form of them all.
 
-use crate::endian::{put, read_u64, write_front};
+use crate::endian::{bytes_of, put, read_u64, write_front};
 use crate::settle::settled_form;
 use crate::sharding::{Place, Sharding};
 use crate::MOST_SHARD_BYTES;
@@ -369,11 +369,7 @@ impl Numbers {
         let steps = ids.iter().zip(before).map(|(id, b)| id.saturating_sub(*b));
         let starts = std::iter::once(self.0[BEGIN]).chain(std::iter::repeat_n(0, count - 1));
         let sizes = (0..count).map(|i| read_u64(waiting, PAIR * i + 8));
-        let rows: Vec<u8> = steps
-            .chain(starts)
-            .chain(sizes)
-            .flat_map(u64::to_le_bytes)
-            .collect();
+        let rows = bytes_of(steps.chain(starts).chain(sizes));
         put(out, (self.sharding().index_end() + next) as usize, &rows)?;
         let entry = [next, next + rows.len() as u64];
         let at = PAIR * self.0[MINISHARD] as usize;

@@ -147,7 +147,9 @@ fn reals_right(parts: &Parts) -> Result<(), u8> {
 /// The place on the Z curve: at each height x, y, z from low to high.
 pub fn z_curve(position: [u32; 3]) -> u128 {
     let mut place = 0;
-    for height in 0..32 {
+    // Above the highest bit of the three all bits are 0.
+    let heights = 32 - (position[0] | position[1] | position[2]).leading_zeros();
+    for height in 0..heights as usize {
         for (axis, number) in position.iter().enumerate() {
             place |= u128::from(number >> height & 1) << (3 * height + axis);
         }

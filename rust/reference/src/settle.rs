@@ -1,7 +1,7 @@
 //! The settled form of what a shard lists (document 01, "Settled form";
 //! document 02, orders 7 and 8).
 
-use crate::endian::write_front;
+use crate::endian::{bytes_of, write_front};
 use crate::shard::{list, Entry};
 use crate::sharding::Sharding;
 use crate::unlisted::unlisted;
@@ -59,19 +59,16 @@ fn minishard_index(listed: &[Triple], place: u64) -> Vec<u8> {
         .zip(places)
         .map(|(triple, place)| place + triple.fragments.len() as u64);
     let sizes = listed.iter().map(|triple| triple.chunk.len() as u64);
-    id_steps
-        .chain(start_steps)
-        .chain(sizes)
-        .flat_map(u64::to_le_bytes)
-        .collect()
+    bytes_of(id_steps.chain(start_steps).chain(sizes))
 }
 
 /// The settled form of this content, given in any order: each id stands once
 /// and belongs to the shard. The specification is allowed.
 pub fn form_of(sharding: &Sharding, content: &[Triple]) -> Vec<u8> {
-    let mut entries = Vec::new();
+    let minishards = by_minishard(sharding, content);
+    let mut entries = Vec::with_capacity(2 * minishards.len());
     let mut data = Vec::new();
-    for listed in by_minishard(sharding, content) {
+    for listed in minishards {
         if listed.is_empty() {
             entries.extend([0, 0]);
             continue;
@@ -85,7 +82,7 @@ pub fn form_of(sharding: &Sharding, content: &[Triple]) -> Vec<u8> {
         data.extend(minishard_index(&listed, place));
         entries.extend([start, data.len() as u64]);
     }
-    let mut form: Vec<u8> = entries.into_iter().flat_map(u64::to_le_bytes).collect();
+    let mut form = bytes_of(entries);
     form.extend(data);
     form
 }

@@ -7,10 +7,25 @@ const GUARD: usize = 32;
 
 /// A buffer of random items with random items before and behind it. Two of
 /// them are equal only where all of these items are.
-#[derive(Clone, Debug, PartialEq, Eq)]
+#[derive(Debug, PartialEq, Eq)]
 pub struct Lent<T = u8> {
     items: Vec<T>,
     start: usize,
+}
+
+impl<T: Clone> Clone for Lent<T> {
+    fn clone(&self) -> Self {
+        Lent {
+            items: self.items.clone(),
+            start: self.start,
+        }
+    }
+
+    /// A copy in the place of another, whose memory it takes.
+    fn clone_from(&mut self, source: &Self) {
+        self.items.clone_from(&source.items);
+        self.start = source.start;
+    }
 }
 
 impl Lent<u8> {

@@ -96,7 +96,11 @@ impl Parts {
             }
             items.extend(nodes.iter().map(|(_, size)| size));
         }
-        items.into_iter().flat_map(u32::to_le_bytes).collect()
+        let mut bytes = Vec::new();
+        for item in items {
+            bytes.extend_from_slice(&item.to_le_bytes());
+        }
+        bytes
     }
 }
 

@@ -4,7 +4,7 @@ use crate::manifests::{self, size_items, Parts};
 use crate::places;
 use crate::shards::{self, Block, Layout, Order, Sample};
 use crate::Rng;
-use reference::endian::{put_u64, read_u32, read_u64};
+use reference::endian::{bytes_of, put_u64, read_u32, read_u64};
 use reference::manifest;
 use reference::settle::Triple;
 use reference::shard::{list_minishard, lookup, Entry};
@@ -561,15 +561,11 @@ pub fn brimming(rng: &mut Rng) -> Sample {
     data.extend(one_node(whole));
     data.extend(one_node(first));
     let length = data.len() as u64;
-    let mut file: Vec<u8> = (0..NETS)
-        .flat_map(|m| [length + 24 * m, length + 24 * (m + 1)])
-        .flat_map(u64::to_le_bytes)
-        .collect();
+    let mut file = bytes_of((0..NETS).flat_map(|m| [length + 24 * m, length + 24 * (m + 1)]));
     file.extend(data);
     for m in 0..NETS {
         let start = if m == 0 { whole + manifest } else { whole };
-        let row = [m, start, manifest].into_iter();
-        file.extend(row.flat_map(u64::to_le_bytes));
+        file.extend(bytes_of([m, start, manifest]));
     }
     Sample {
         sharding,

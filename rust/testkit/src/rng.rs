@@ -112,9 +112,13 @@ impl Rng {
 
     /// Fills `bytes` with random ones.
     pub fn fill(&mut self, bytes: &mut [u8]) {
-        for part in bytes.chunks_mut(8) {
-            let random = self.bits().to_le_bytes();
-            part.copy_from_slice(&random[..part.len()]);
+        let mut parts = bytes.chunks_exact_mut(8);
+        for part in &mut parts {
+            part.copy_from_slice(&self.bits().to_le_bytes());
+        }
+        let rest = parts.into_remainder();
+        if !rest.is_empty() {
+            rest.copy_from_slice(&self.bits().to_le_bytes()[..rest.len()]);
         }
     }
 

@@ -2,7 +2,7 @@
 
 use crate::places::{self, identity_id};
 use crate::Rng;
-use reference::endian::{put_u64, read_u64};
+use reference::endian::{bytes_of, put_u64, read_u64};
 use reference::sharding::{Place, Sharding, IDENTITY, MOST_MINISHARD_BITS, VOLUME};
 use reference::MOST_SHARD_BYTES;
 use std::collections::BTreeMap;
@@ -757,16 +757,13 @@ pub fn brimming(rng: &mut Rng) -> Sample {
     };
     let whole = (MOST_SHARD_BYTES - (16 + 24) * CHUNKS) / CHUNKS;
     let data = whole + 2;
-    let mut file: Vec<u8> = (0..CHUNKS)
-        .flat_map(|m| [data + 24 * m, data + 24 * (m + 1)])
-        .flat_map(u64::to_le_bytes)
-        .collect();
+    let mut file = bytes_of((0..CHUNKS).flat_map(|m| [data + 24 * m, data + 24 * (m + 1)]));
     file.resize(file.len() + data as usize, 0x5a);
     // The form would be a gibibyte long where nothing is added or taken away.
     let first = whole - 1 + rng.below(3);
     for m in 0..CHUNKS {
         let size = if m == 0 { first } else { whole };
-        file.extend([m, 0, size].into_iter().flat_map(u64::to_le_bytes));
+        file.extend(bytes_of([m, 0, size]));
     }
     Sample {
         sharding,

@@ -186,10 +186,11 @@ pub fn check(sharding: &Sharding, shard: u64, file: &[u8]) -> Result<(), (u8, u6
 
 /// Writes the settled form and gives its length, or 1, 5 to 11 or 13.
 pub fn settle(sharding: &Sharding, shard: u64, file: &[u8], out: &mut [u8]) -> Result<usize, u8> {
-    let base = 16usize << sharding.minishard_bits;
-    let mut length = base as u64;
+    let mut length = 0;
     let add = |(_, start, end): Chunk| length += 24 + (end - start);
     walk(sharding, shard, file, add).map_err(|(fault, _)| fault)?;
+    let base = 16usize << sharding.minishard_bits;
+    length += base as u64;
     if length > out.len() as u64 || length > MOST_BYTES as u64 {
         return Err(13);
     }

@@ -105,6 +105,8 @@ struct Run {
     intake: Intake,
     /// The same buffers as the reference left them.
     expected: [Lent; 2],
+    /// The same before the last step.
+    before: [Lent; 2],
     /// What was delivered, the last chunk perhaps in part.
     content: Content,
 }
@@ -140,6 +142,7 @@ impl Run {
                 state: state.expect("it was opened"),
                 intake: intake.expect("it was opened"),
                 expected: [expected, waiting.clone()],
+                before: [before, waiting.clone()],
                 out,
                 waiting,
                 content: Content::new(),
@@ -149,7 +152,9 @@ impl Run {
 
     /// Takes a step on both sides. Gives the refusal, 0 for success.
     fn step(&mut self, step: Step, salt: u64) -> u8 {
-        let before = (self.state, self.out.clone(), self.waiting.clone());
+        let before = self.state;
+        self.before[0].clone_from(&self.out);
+        self.before[1].clone_from(&self.waiting);
         let bytes = self.bytes(step, salt);
         let call = self.call(step, &bytes, salt);
         let [cut, cut_waiting] = self.cuts(step);
@@ -178,7 +183,7 @@ impl Run {
         if met == 0 {
             self.note(call, salt);
         } else {
-            let unchanged = self.state == before.0 && now == [&before.1, &before.2];
+            let unchanged = self.state == before && now == self.before.each_ref();
             assert!(unchanged, "{question}: refused, but something changed");
         }
         met

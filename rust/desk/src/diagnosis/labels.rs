@@ -535,9 +535,8 @@ mod tests {
         let size = [u32::MAX, u32::MAX, 1];
         let shape = LabelShape::new(size, size, 1, LabelBits::B32);
         // One block of width 32 whose values are 0 as far as they go.
-        let mut words = vec![1, 32 << 24, 2];
-        words.resize(1 << 25, 0);
-        let chunk = bytes(&words);
+        let mut chunk = bytes(&[1, 32 << 24, 2]);
+        chunk.resize(4 << 25, 0);
         let refusal = Refusal {
             number: 28,
             minishard: None,

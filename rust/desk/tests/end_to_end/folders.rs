@@ -707,7 +707,7 @@ fn an_output_that_cannot_be_written_is_told_beside_its_input() {
 
 #[test]
 fn the_length_of_a_file_that_is_too_long() {
-    let folder = Folder::new();
+    let folder = Folder::for_holes();
     let length = (1 << 30) + 12_345;
     let long = std::fs::File::create(folder.at("00.shard")).expect("a file");
     long.set_len(length).expect("a file with a hole");

@@ -5,6 +5,7 @@ use crate::support::Folder;
 use reference::sharding::Sharding;
 use std::fs::File;
 use std::io::{Seek, SeekFrom, Write};
+use std::os::unix::fs::symlink;
 
 const MIB: u64 = 1 << 20;
 
@@ -147,21 +148,22 @@ fn the_longest_manifest_takes_no_more() {
 /// 4 GiB with room to spare.
 #[test]
 fn a_shard_of_one_gibibyte() {
-    let folder = Folder::new();
+    let (folder, out) = (Folder::for_holes(), Folder::new());
     let file = 1 << 30;
     write_shard(&folder, "0.shard", file - 40);
     let options = options(&SHARDING);
     folder
         .run_after(&limit(file + 64 * MIB), &format!("check 0.shard {options}"))
         .expect_status(0);
+    symlink(out.path(), folder.at("out")).expect("a link");
     folder
         .run_after(
             &limit(2 * file + 64 * MIB),
-            &format!("settle --drop-unlisted 0.shard --out settled {options}"),
+            &format!("settle --drop-unlisted 0.shard --out out/settled {options}"),
         )
         .expect_status(0);
     let length = |name| folder.at(name).metadata().expect("a file").len();
-    assert_eq!((length("0.shard"), length("settled")), (file, file));
+    assert_eq!((length("0.shard"), length("out/settled")), (file, file));
 }
 
 #[test]

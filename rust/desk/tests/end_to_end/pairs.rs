@@ -478,7 +478,7 @@ fn an_index_file_of_another_length() {
 
 #[test]
 fn too_long_together() {
-    let folder = Folder::new();
+    let folder = Folder::for_holes();
     folder.write("pairs/0.index", [0; 32]);
     let data = folder.write("pairs/0.data", b"");
     let long = fs::File::options().write(true).open(data).expect("opened");

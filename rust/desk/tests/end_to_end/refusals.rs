@@ -330,6 +330,7 @@ fn number_6_too_short_or_too_long() {
         &format!("check 0.shard {one}"),
         Refusal::at(7, 0).in_minishard(0),
     );
+    let folder = Folder::for_holes();
     let long = File::create(folder.at("0.shard")).expect("a file");
     long.set_len((1 << 30) + 1).expect("a file with a hole");
     refused_bare(&folder, &format!("check 0.shard {one}"), 6);

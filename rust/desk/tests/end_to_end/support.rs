@@ -2,6 +2,7 @@
 
 use std::ffi::OsStr;
 use std::fs;
+use std::io;
 use std::path::{Path, PathBuf};
 use std::process::{Command, Output};
 use std::sync::atomic::{AtomicU32, Ordering};
@@ -17,12 +18,24 @@ pub struct Folder {
 impl Folder {
     /// An empty folder.
     pub fn new() -> Self {
+        let place = Path::new(env!("CARGO_TARGET_TMPDIR"));
+        fs::create_dir_all(place).expect("a place for folders");
+        Folder::within(place).expect("a fresh folder")
+    }
+
+    /// An empty folder for long files with a hole: in memory, where there is such a
+    /// place. There a hole takes no room, and to read one costs a fifth.
+    pub fn for_holes() -> Self {
+        Folder::within(Path::new("/dev/shm")).unwrap_or_else(|_| Folder::new())
+    }
+
+    /// A fresh folder at this place.
+    fn within(place: &Path) -> io::Result<Self> {
         static COUNT: AtomicU32 = AtomicU32::new(0);
         let count = COUNT.fetch_add(1, Ordering::Relaxed);
-        let name = format!("desk-{}-{count}", std::process::id());
-        let path = Path::new(env!("CARGO_TARGET_TMPDIR")).join(name);
-        fs::create_dir_all(&path).expect("a fresh folder");
-        Folder { path }
+        let path = place.join(format!("desk-{}-{count}", std::process::id()));
+        fs::create_dir(&path)?;
+        Ok(Folder { path })
     }
 
     /// A folder with the sample deposit in `demo`.
