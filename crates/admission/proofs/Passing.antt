@@ -11,7 +11,7 @@ use Rattle.refusal.specs.Checks.{Check, firstNumber}
 use Rattle.refusal.proofs.Tests.{neither}
 use Rattle.sharding.specs.declared.Sharding.{Sharding}
 use Rattle.sharding.specs.Specification.{noSuchShard}
-use Rattle.sharding.specs.Place.{minishardOf}
+use Rattle.placement.specs.Place.{minishardOf}
 use Rattle.shard.specs.File.{indexLength}
 use Rattle.intakestate.specs.declared.Intake.{Intake}
 use Rattle.intakestate.specs.State.{most, announcedLength, notVolume, Usable}

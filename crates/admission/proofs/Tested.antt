@@ -16,7 +16,7 @@ use Rattle.intakestate.specs.declared.Intake.{Intake}
 use Rattle.intakestate.specs.State.{most, notVolume}
 use Rattle.intaketests.specs.Tests.{otherLengths, foreign, unusable, outOfOrder, noRoom}
 use Rattle.admission.specs.Refusals.{openChecks, announceChecks, partChecks, closeChecks}
-use Rattle.intakestate.proofs.States.{told-volume}
+use Rattle.intakesanity.proofs.States.{told-volume}
 use Rattle.intaketests.proofs.Tested.{told-length, told-permitted, told-room, told-held}
 
 -- ---- the calls

@@ -3,17 +3,17 @@ ghost use mathlib.Core.Path.{_≡_};
 ghost use Prim.Native.Nat.{_<_};
 ghost use Rattle.refusal.specs.Checks.{firstNumber};
 ghost use Rattle.admission.specs.Refusals.{openChecks, announceChecks, partChecks, closeChecks};
+use intakesanity::inner::is_not_volume;
+use intakesanity::inner::most_bytes;
 use intakestate::Intake;
-use intakestate::inner::is_not_volume;
-use intakestate::inner::most_bytes;
 use intaketests::inner::is_foreign;
 use intaketests::inner::is_full;
 use intaketests::inner::is_other;
 use intaketests::inner::is_out_of_order;
 use intaketests::inner::is_unusable;
+use placement::inner::minishard_of;
 use shard::inner::index_length;
 use sharding::Sharding;
-use sharding::inner::minishard_of;
 use sharding::inner::shard_count;
 
 pub fn open_refusal(spec: Sharding, shard: u64, output: usize) -> u8

@@ -1,6 +1,5 @@
--- Laws of positions, bits and windows.
+-- Laws of positions and bits.
 pub mod Within
 pub mod Counts
 pub mod Words
 pub mod Marks
-pub mod Windows

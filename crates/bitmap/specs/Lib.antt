@@ -1,4 +1,3 @@
 -- Positions and maps of them.
 pub mod Positions
 pub mod Bits
-pub mod Window

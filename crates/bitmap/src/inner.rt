@@ -1,64 +1,86 @@
-// A window of positions, of which a range is noted in constant time: its whole groups by their own bits, the rest one by one.
+// A map with a bit for each position, in words of 64 bits.
 ghost use mathlib.Core.Path.{_≡_};
-ghost use Prim.Native.Nat.{_*_, _<_, _≤_};
+ghost use Prim.Native.Nat.{_+_, _*_, _-_, _^_, _<_, _≤_};
 ghost use lib.ListN.{length};
 ghost use Rattle.bitmap.specs.Positions.{within, after, misses};
-ghost use Rattle.bitmap.specs.Window.{span, windowWords, noted, Notes};
-use crate::bits::is_marked;
-use crate::bits::mark;
-use crate::bits::zeros_of;
+ghost use Rattle.bitmap.specs.Bits.{bitOf, bitAt, Marked};
 
-// The positions of a window, and the words of its map: 508 KiB.
-pub const SPAN: usize = 4161536;
+// ---- setting bits
 
-pub const WINDOW_WORDS: usize = 65040;
-
-// The positions a to b.
-pub fn note(map: &mut [u64], a: usize, b: usize)
-    requires { ⌜ (length (now map) ≡ windowWords) × (a ≤ b) × (b ≤ span) ⌝ }
-    ensures { λ _. ⌜ Notes (now (map .entry)) (now (map .exit)) (within a b) ⌝ }
+// The x lowest bits of a word.
+fn low_bits(x: usize) -> u64
+    requires { ⌜ x ≤ 64 ⌝ }
+    ensures { λ r. ⌜ r ≡ 2 ^ x - 1 ⌝ }
 {
-    let first = (a + 4095) / 4096;
-    let last = b / 4096;
-    if last <= first {
-        mark(map, a, b);
+    if x == 64 {
+        return 18446744073709551615;
+    }
+    (1u64 << x as u64) - 1
+}
+
+// The bits x to y of word k.
+fn mark_word(map: &mut [u64], k: usize, x: usize, y: usize)
+    requires { ⌜ (k < length (now map)) × (x ≤ y) × (y ≤ 64) ⌝ }
+    ensures { λ _. ⌜ Marked (now (map .entry)) (now (map .exit)) (within (64 * k + x) (64 * k + y)) ⌝ }
+{
+    let bits = low_bits(y) - low_bits(x);
+    map[k] = map[k] | bits;
+}
+
+// All bits of the words k to l.
+fn fill_words(map: &mut [u64], k: usize, l: usize)
+    requires { ⌜ (k ≤ l) × (l ≤ length (now map)) ⌝ }
+    ensures { λ _. ⌜ Marked (now (map .entry)) (now (map .exit)) (within (64 * k) (64 * l)) ⌝ }
+{
+    let mut i = k;
+    while i < l {
+        map[i] = 18446744073709551615;
+        i += 1;
+    }
+}
+
+// The bits a to b.
+pub fn mark(map: &mut [u64], a: usize, b: usize)
+    requires { ⌜ (a ≤ b) × (b < 64 * length (now map)) ⌝ }
+    ensures { λ _. ⌜ Marked (now (map .entry)) (now (map .exit)) (within a b) ⌝ }
+{
+    let first = a / 64;
+    let last = b / 64;
+    if first == last {
+        mark_word(map, first, a % 64, b % 64);
         return;
     }
-    mark(map, SPAN + first, SPAN + last);
-    mark(map, a, 4096 * first);
-    mark(map, 4096 * last, b);
+    mark_word(map, first, a % 64, 64);
+    fill_words(map, first + 1, last);
+    mark_word(map, last, 0, b % 64);
 }
 
-// How many positions of group g are not noted.
-fn open_in(map: &[u64], g: usize) -> u64
-    requires { ⌜ (length (now map) ≡ windowWords) × (g < 1016) ⌝ }
-    ensures { λ r. ⌜ (r ≡ misses (after (4096 * g) (noted (now (map .entry)))) 4096) × (r ≤ 4096) ⌝ }
+// ---- reading them
+
+pub fn is_marked(map: &[u64], i: usize) -> bool
+    requires { ⌜ i < 64 * length (now map) ⌝ }
+    ensures { λ r. ⌜ r ≡ bitAt (now (map .entry)) i ⌝ }
 {
-    if is_marked(map, SPAN + g) {
-        return 0;
-    }
-    zeros_of(map, 64 * g)
+    (map[i / 64] >> (i % 64) as u64) % 2 == 1
 }
 
-// How many positions are not noted.
-fn open_count(map: &[u64]) -> u64
-    requires { ⌜ length (now map) ≡ windowWords ⌝ }
-    ensures { λ r. ⌜ r ≡ misses (noted (now (map .entry))) span ⌝ }
+// How many bits of a word are not set.
+fn zeros(word: u64) -> u64
+    ensures { λ r. ⌜ (r ≡ misses (bitOf word) 64) × (r ≤ 64) ⌝ }
+{
+    64 - u64::count_ones(word) as u64
+}
+
+// How many bits of the 64 words from k on are not set.
+pub fn zeros_of(map: &[u64], k: usize) -> u64
+    requires { ⌜ k + 64 ≤ length (now map) ⌝ }
+    ensures { λ r. ⌜ (r ≡ misses (after (64 * k) (bitAt (now (map .entry)))) 4096) × (r ≤ 4096) ⌝ }
 {
     let mut total: u64 = 0;
-    let mut g: usize = 0;
-    while g < 1016 {
-        total += open_in(map, g);
-        g += 1;
+    let mut i: usize = 0;
+    while i < 64 {
+        total += zeros(map[k + i]);
+        i += 1;
     }
     total
-}
-
-// How many of the positions below n are not noted; those from n on are then noted too.
-pub fn open_below(map: &mut [u64], n: usize) -> u64
-    requires { ⌜ (length (now map) ≡ windowWords) × (n ≤ span) ⌝ }
-    ensures { λ r. ⌜ r ≡ misses (noted (now (map .entry))) n ⌝ }
-{
-    note(map, n, SPAN);
-    open_count(map)
 }

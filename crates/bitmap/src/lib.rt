@@ -1,3 +1,2 @@
-// A map of positions, in which a range is noted in constant time.
-mod bits;
+// A map with a bit for each position.
 pub mod inner;

@@ -7,7 +7,7 @@ use lib.ListN.{length}
 use Rattle.refusal.specs.Checks.{unless}
 use Rattle.refusal.proofs.Positions.{at-both, at-plain}
 use Rattle.sharding.specs.declared.Sharding.{Sharding}
-use Rattle.sharding.specs.Place.{minishardOf}
+use Rattle.placement.specs.Place.{minishardOf}
 use Rattle.index.specs.declared.Fault.{Fault}
 use Rattle.index.specs.Index.{entryStart, entryEnd, entryCount}
 use Rattle.shard.specs.Faults.{faultOf}

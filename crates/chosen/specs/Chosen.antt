@@ -4,7 +4,7 @@ use mathlib.Core.List.{List, [], _∷_, _++_}
 use lib.ListN.{length}
 use Rattle.refusal.specs.Checks.{Check, answeredAt}
 use Rattle.sharding.specs.declared.Sharding.{Sharding}
-use Rattle.sharding.specs.Place.{minishardOf}
+use Rattle.placement.specs.Place.{minishardOf}
 use Rattle.index.specs.Index.{entryStart, entryEnd, entryCount}
 use Rattle.shard.specs.Checks.{minishardChecks}
 use Rattle.idsearch.specs.declared.LookupAnswer.{LookupAnswer}

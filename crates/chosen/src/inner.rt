@@ -12,8 +12,8 @@ use idsearch::inner::find;
 use index::entry_end;
 use index::entry_start;
 use judge::judge;
+use placement::inner::minishard_of;
 use sharding::Sharding;
-use sharding::inner::minishard_of;
 
 // A lookup in a shard of two parts: the chosen minishard is judged, then searched. The place counts from the beginning of the
 // shard index, as in one file.

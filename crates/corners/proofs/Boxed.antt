@@ -4,7 +4,7 @@ use mathlib.Core.Path.{_≡_, refl, sym, ap, _∙_, subst}
 use mathlib.Core.Bool.{Bool, true, false, not, _&&_}
 use mathlib.Core.List.{List, [], _∷_, _++_}
 use lib.Dec.{T, ltb, ltb→lt}
-use lib.Ieee.{isNan}
+use lib.Ieee.{Float, isNan}
 use lib.Ieee.Fits.{and-l, and-r}
 use borrow.Author.Needs.{needs}
 use borrow.Author.Tests.{lt-ltb, le-ltb, not-false}
@@ -20,12 +20,13 @@ use Rattle.nodes.specs.declared.Node.{Node}
 use Rattle.manifest.proofs.Judged.{fails, passes, passed, unrefused, none-both, none-head, in-table, told-sound, refused-first, given-first}
 use Rattle.manifest.proofs.Ways.{never}
 use Rattle.nodes.proofs.Asked.{told-node, told-level}
-use Rattle.corners.specs.Boxes.{finite, placed, finiteCorner, nearCorner, farCorner, boxOf, boxChecks, boxAnswer, cornersChecks, cornersAnswer}
+use Rattle.reals.specs.Reals.{finite, nearOf, farOf}
+use Rattle.corners.specs.Boxes.{placed, finiteCorner, nearCorner, farCorner, boxOf, boxChecks, boxAnswer, cornersChecks, cornersAnswer}
 use Rattle.corners.specs.declared.Corner.{Corner}
 use Rattle.corners.specs.declared.Corners.{Corners}
 use Rattle.corners.specs.declared.CornersAnswer.{CornersAnswer}
 use Rattle.corners.specs.declared.CornersAnswer.the-variants as C
-use Rattle.corners.proofs.Computed.{finite-number}
+use Rattle.reals.proofs.Computed.{finite-number}
 
 module _ (n : Node) where
   pub far-x : 16777216 ≤ n .x → false ≡ placed n
@@ -74,6 +75,19 @@ module _ (c : Corner) {p : Bool} (e : p ≡ finite (c .x)) where
     pub finite-z : not q ≡ false → {r : Bool} → r ≡ finite (c .z) → r ≡ finiteCorner c
     unfolding finiteCorner
     finite-z n g = rw (told-yes e k, told-yes f n) g
+
+-- a corner from its three ends
+pub near-made : (h : Header) (l : ℕ) (n : Node) {x y z : Float}
+    → x ≡ nearOf (h .«origin_x») (h .«shape_x») (n .x) l → y ≡ nearOf (h .«origin_y») (h .«shape_y») (n .y) l → z ≡ nearOf (h .«origin_z») (h .«shape_z») (n .z) l
+    → _≡_ {A = Corner} (record { x = x; y = y; z = z }) (nearCorner h l n)
+unfolding nearCorner
+near-made h l n p q r = λ i. record { x = p i; y = q i; z = r i }
+
+pub far-made : (h : Header) (l : ℕ) (c : Corner) {x y z : Float}
+    → x ≡ farOf (c .x) (h .«shape_x») l → y ≡ farOf (c .y) (h .«shape_y») l → z ≡ farOf (c .z) (h .«shape_z») l
+    → _≡_ {A = Corner} (record { x = x; y = y; z = z }) (farCorner h l c)
+unfolding farCorner
+far-made h l c p q r = λ i. record { x = p i; y = q i; z = r i }
 
 module _ (h : Header) (l : ℕ) (n : Node) {p : Bool} (e : p ≡ placed n) where
   abbrev given : CornersAnswer

@@ -1,13 +1,11 @@
 -- The corners of a node (RULES M8): "origin + (position × shape) × 2^level, its far corner near + shape × 2^level, in f32,
 -- each operation rounded once in that order, judged by bits".
 use Prim.Native.Nat.{ℕ, _^_}
-use mathlib.Core.Bool.{Bool, false, not, _&&_}
+use mathlib.Core.Bool.{Bool, not, _&&_}
 use mathlib.Core.List.{List, [], _∷_, _++_}
-use lib.IntN.{pos}
 use lib.Dec.{ltb}
-use lib.Ieee.{Float, fin, binary32, add, mul, ofInt, toBits}
 use Rattle.refusal.specs.Checks.{Check, check, answered}
-use Rattle.layout.specs.Bits.{finiteBits}
+use Rattle.reals.specs.Reals.{finite, nearOf, farOf}
 use Rattle.manifestread.specs.Fields.{headerAt}
 use Rattle.nodes.specs.Nodes.{nodeAt, nodeChecks}
 use Rattle.manifestread.specs.declared.Header.{Header}
@@ -16,22 +14,6 @@ use Rattle.corners.specs.declared.Corner.{Corner}
 use Rattle.corners.specs.declared.Corners.{Corners}
 use Rattle.corners.specs.declared.CornersAnswer.{CornersAnswer}
 use Rattle.corners.specs.declared.CornersAnswer.the-variants as C
-
--- a computed real, judged by its bits
-unfoldable pub finite : Float → Bool
-finite x = finiteBits (toBits binary32 x)
-
--- 2^l, which an f32 holds exactly
-abbrev pub powerOf : ℕ → Float
-powerOf l = fin false 1 (pos l)
-
--- on one axis: of origin o and shape e, at position p (below 2^24, so that an f32 holds it exactly) and level l (RULES M8)
-unfoldable pub nearOf : Float → Float → ℕ → ℕ → Float
-nearOf o e p l = add binary32 o (mul binary32 (mul binary32 (ofInt binary32 (pos p)) e) (powerOf l))
-
--- on one axis: from the near end n (RULES M8)
-unfoldable pub farOf : Float → Float → ℕ → Float
-farOf n e l = add binary32 n (mul binary32 e (powerOf l))
 
 unfoldable pub nearCorner : Header → ℕ → Node → Corner
 nearCorner h l n =

@@ -2,9 +2,11 @@
 use crate::Corner;
 use crate::Corners;
 use crate::CornersAnswer;
-use crate::reals;
 use manifestread::Header;
 use nodes::Node;
+use reals::inner::far;
+use reals::inner::is_finite;
+use reals::inner::near;
 ghost use mathlib.Core.Path.{_≡_};
 ghost use mathlib.Core.Bool.{true};
 ghost use Prim.Native.Nat.{_<_};
@@ -27,9 +29,9 @@ fn near_corner(h: Header, level: u32, n: Node) -> Corner
     requires { ⌜ (placed n ≡ true) × (level < 32) ⌝ }
     ensures { λ r. ⌜ r ≡ nearCorner h level n ⌝ }
 {
-    let x = reals::near(h.origin_x, h.shape_x, n.x, level);
-    let y = reals::near(h.origin_y, h.shape_y, n.y, level);
-    let z = reals::near(h.origin_z, h.shape_z, n.z, level);
+    let x = near(h.origin_x, h.shape_x, n.x, level);
+    let y = near(h.origin_y, h.shape_y, n.y, level);
+    let z = near(h.origin_z, h.shape_z, n.z, level);
     Corner { x, y, z }
 }
 
@@ -37,22 +39,22 @@ fn far_corner(h: Header, level: u32, near: Corner) -> Corner
     requires { ⌜ level < 32 ⌝ }
     ensures { λ r. ⌜ r ≡ farCorner h level near ⌝ }
 {
-    let x = reals::far(near.x, h.shape_x, level);
-    let y = reals::far(near.y, h.shape_y, level);
-    let z = reals::far(near.z, h.shape_z, level);
+    let x = far(near.x, h.shape_x, level);
+    let y = far(near.y, h.shape_y, level);
+    let z = far(near.z, h.shape_z, level);
     Corner { x, y, z }
 }
 
 fn is_finite_corner(c: Corner) -> bool
     ensures { λ r. ⌜ r ≡ finiteCorner c ⌝ }
 {
-    if !reals::is_finite(c.x) {
+    if !is_finite(c.x) {
         return false;
     }
-    if !reals::is_finite(c.y) {
+    if !is_finite(c.y) {
         return false;
     }
-    reals::is_finite(c.z)
+    is_finite(c.z)
 }
 
 // The corners of a node of that level, or 18.

@@ -1,6 +1,5 @@
 // The corners of a node of a manifest, in f32.
 mod boxes;
-mod reals;
 
 ghost use mathlib.Core.Path.{_≡_};
 ghost use Rattle.corners.specs.Boxes.{cornersAnswer};

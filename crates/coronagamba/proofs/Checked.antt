@@ -23,9 +23,9 @@ use Rattle.listing.specs.Listing.{countAnswer, listingAnswer}
 use Rattle.unlisted.specs.declared.UnlistedAnswer.{UnlistedAnswer}
 use Rattle.unlisted.specs.declared.UnlistedAnswer.the-variants as U
 use Rattle.unlisted.specs.Answers.{unlistedAnswer}
-use Rattle.settle.specs.declared.SettleAnswer.{SettleAnswer}
-use Rattle.settle.specs.declared.SettleAnswer.the-variants as S
-use Rattle.settle.specs.Answers.{lengthAnswer, settleAnswer}
+use Rattle.settleanswers.specs.declared.SettleAnswer.{SettleAnswer}
+use Rattle.settleanswers.specs.declared.SettleAnswer.the-variants as S
+use Rattle.settleanswers.specs.Answers.{lengthAnswer, settleAnswer}
 use Rattle.positions.specs.Points.{PointsAt}
 use Rattle.positions.proofs.Points.{check-points, lookup-points, fragment-points, count-points, listing-points, unlisted-named, length-named, settle-named}
 

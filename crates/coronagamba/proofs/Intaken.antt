@@ -12,7 +12,7 @@ use Rattle.intake.specs.declared.CloseAnswer.the-variants.{Closed, Refused as N
 use Rattle.intake.specs.Calls.{announceAnswer, announceLeft, announceWaiting, partAnswer, partLeft, closeAnswer, closeLeft}
 use Rattle.intakenumbers.specs.Numbers.{numbersOf, stateOf}
 use Rattle.coronagamba.specs.Intakes.{intakeWord, stateAfter, partAfter, closeWord, closedAfter, shardLengthAfter}
-use Rattle.coronagamba.proofs.Told.{told, after}
+use Rattle.coronagamba.proofs.Told.{told, after, given, left}
 
 -- ---- an answer of open, announce or part
 
@@ -29,7 +29,16 @@ module _ {a b : IntakeAnswer} (e : b ≡ a) where
   pub refused-state : (xs : List ℕ) {k : ℕ} → b ≡ Refused k → xs ≡ stateAfter a xs
   refused-state xs h = after stateAfter xs e h
 
-pub ruleset opening = (next-word, next-state, refused-word, refused-state, needs)
+module _ {a b : IntakeAnswer} where
+  pub intake-word : {r : ℕ} → r ≡ intakeWord b → b ≡ a → r ≡ intakeWord a
+  intake-word h e = given intakeWord h e
+
+  pub state-left : (xs : List ℕ) {l : List ℕ} → l ≡ stateAfter b xs → b ≡ a → l ≡ stateAfter a xs
+  state-left xs h e = left stateAfter xs h e
+
+pub ruleset stating = (next-word, next-state, refused-word, refused-state, needs)
+
+pub ruleset opening = (intake-word, state-left, needs)
 
 module _ (xs : List ℕ) {s : Intake} (g : s ≡ stateOf xs) where
   -- ---- announce
@@ -39,17 +48,11 @@ module _ (xs : List ℕ) {s : Intake} (g : s ≡ stateOf xs) where
       announced-of : b ≡ announceAnswer (stateOf xs) id size o w
       announced-of = e ∙ ap (λ (t : Intake). announceAnswer t id size o w) g
 
-      pub announce-word : {t : Intake} → b ≡ Next t → 0 ≡ intakeWord (announceAnswer (stateOf xs) id size o w)
-      announce-word h = next-word announced-of h
+      pub announce-word : {r : ℕ} → r ≡ intakeWord b → r ≡ intakeWord (announceAnswer (stateOf xs) id size o w)
+      announce-word h = intake-word h announced-of
 
-      pub announce-state : {t : Intake} {l : List ℕ} → l ≡ numbersOf t → b ≡ Next t → l ≡ stateAfter (announceAnswer (stateOf xs) id size o w) xs
-      announce-state n h = next-state announced-of xs n h
-
-      pub announce-refused : {k : ℕ} → b ≡ Refused k → k ≡ intakeWord (announceAnswer (stateOf xs) id size o w)
-      announce-refused h = refused-word announced-of h
-
-      pub announce-kept : {k : ℕ} → b ≡ Refused k → xs ≡ stateAfter (announceAnswer (stateOf xs) id size o w) xs
-      announce-kept h = refused-state announced-of xs h
+      pub announce-state : {l : List ℕ} → l ≡ stateAfter b xs → l ≡ stateAfter (announceAnswer (stateOf xs) id size o w) xs
+      announce-state h = state-left xs h announced-of
 
     pub announce-out : {o₁ : List ℕ} → o₁ ≡ announceLeft s id size o w → o₁ ≡ announceLeft (stateOf xs) id size o w
     announce-out h = h ∙ ap (λ (t : Intake). announceLeft t id size o w) g
@@ -107,7 +110,7 @@ module _ (xs : List ℕ) {s : Intake} (g : s ≡ stateOf xs) where
     pub close-out : {o₁ : List ℕ} → o₁ ≡ closeLeft s o w → o₁ ≡ closeLeft (stateOf xs) o w
     close-out h = h ∙ ap (λ (t : Intake). closeLeft t o w) g
 
-pub ruleset announcing = (announce-word, announce-state, announce-refused, announce-kept, announce-out, announce-held, needs)
+pub ruleset announcing = (announce-word, announce-state, announce-out, announce-held, needs)
 
 pub ruleset parting = (part-word, part-state, part-refused, part-kept, part-out, needs)
 

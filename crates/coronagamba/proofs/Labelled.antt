@@ -6,7 +6,7 @@ use mathlib.Core.List.{List}
 use borrow.Author.Needs.{needs}
 use Rattle.refusal.specs.Checks.{answered}
 use Rattle.refusal.specs.declared.Written.{Written}
-use Rattle.refusal.specs.declared.Written.the-variants.{Length, Refused}
+use Rattle.refusal.specs.declared.Written.the-variants.{Refused}
 use Rattle.refusal.proofs.Picks.{by-picks}
 use Rattle.segmentation.specs.declared.Shape.{Shape}
 use Rattle.segmentation.specs.declared.LabelAnswer.{LabelAnswer}
@@ -15,7 +15,7 @@ use Rattle.segmentation.specs.Labels.{labelAnswer}
 use Rattle.rawform.specs.Raw.{lengthAnswer, unpackAnswer, unpackLeft}
 use Rattle.word.specs.Word.{writtenWord, lengthAfter}
 use Rattle.coronagamba.specs.Labels.{noWidth, widthChecks, labelBy, writtenBy, leftBy, labelWord, labelAfter}
-use Rattle.coronagamba.proofs.Told.{told, after}
+use Rattle.coronagamba.proofs.Told.{told, after, given, left}
 
 -- ---- by the label width, w telling whether it is none
 
@@ -64,17 +64,11 @@ module _ (bits : ℕ) {w : Bool} (p : w ≡ noWidth bits) where
       counted : b ≡ writtenBy bits (lengthAnswer t)
       counted = e ∙ ap lengthAnswer q ∙ by-width Refused (lengthAnswer t) h
 
-      pub bytes-given : {n : ℕ} → b ≡ Length n → 0 ≡ writtenWord (writtenBy bits (lengthAnswer t))
-      bytes-given i = told writtenWord counted i
+      pub bytes-word : {r : ℕ} → r ≡ writtenWord b → r ≡ writtenWord (writtenBy bits (lengthAnswer t))
+      bytes-word i = given writtenWord i counted
 
-      pub bytes-refused : {k : ℕ} → b ≡ Refused k → k ≡ writtenWord (writtenBy bits (lengthAnswer t))
-      bytes-refused i = told writtenWord counted i
-
-      pub bytes-held : (m : ℕ) {n : ℕ} → b ≡ Length n → n ≡ lengthAfter (writtenBy bits (lengthAnswer t)) m
-      bytes-held m i = after lengthAfter m counted i
-
-      pub bytes-kept : (m : ℕ) {k : ℕ} → b ≡ Refused k → m ≡ lengthAfter (writtenBy bits (lengthAnswer t)) m
-      bytes-kept m i = after lengthAfter m counted i
+      pub bytes-length : (m : ℕ) {n : ℕ} → n ≡ lengthAfter b m → n ≡ lengthAfter (writtenBy bits (lengthAnswer t)) m
+      bytes-length m i = left lengthAfter m i counted
 
     module _ (s d : List ℕ) where
       pub unpack-left : {g : List ℕ} → g ≡ unpackLeft s sh d → g ≡ leftBy bits (unpackLeft s t d) d
@@ -84,20 +78,14 @@ module _ (bits : ℕ) {w : Bool} (p : w ≡ noWidth bits) where
         unpacked : b ≡ writtenBy bits (unpackAnswer s t d)
         unpacked = e ∙ ap (λ (r : Shape). unpackAnswer s r d) q ∙ by-width Refused (unpackAnswer s t d) h
 
-        pub unpack-given : {n : ℕ} → b ≡ Length n → 0 ≡ writtenWord (writtenBy bits (unpackAnswer s t d))
-        unpack-given i = told writtenWord unpacked i
+        pub unpack-word : {r : ℕ} → r ≡ writtenWord b → r ≡ writtenWord (writtenBy bits (unpackAnswer s t d))
+        unpack-word i = given writtenWord i unpacked
 
-        pub unpack-refused : {k : ℕ} → b ≡ Refused k → k ≡ writtenWord (writtenBy bits (unpackAnswer s t d))
-        unpack-refused i = told writtenWord unpacked i
-
-        pub unpack-held : (m : ℕ) {n : ℕ} → b ≡ Length n → n ≡ lengthAfter (writtenBy bits (unpackAnswer s t d)) m
-        unpack-held m i = after lengthAfter m unpacked i
-
-        pub unpack-kept : (m : ℕ) {k : ℕ} → b ≡ Refused k → m ≡ lengthAfter (writtenBy bits (unpackAnswer s t d)) m
-        unpack-kept m i = after lengthAfter m unpacked i
+        pub unpack-length : (m : ℕ) {n : ℕ} → n ≡ lengthAfter b m → n ≡ lengthAfter (writtenBy bits (unpackAnswer s t d)) m
+        unpack-length m i = left lengthAfter m i unpacked
 
 pub ruleset labelling = (label-none, label-none-kept, label-given, label-refused, label-held, label-kept, needs)
 
-pub ruleset measuring = (written-none, written-none-kept, bytes-given, bytes-refused, bytes-held, bytes-kept, needs)
+pub ruleset measuring = (written-none, written-none-kept, bytes-word, bytes-length, needs)
 
-pub ruleset unpacking = (written-none, written-none-kept, none-left, unpack-left, unpack-given, unpack-refused, unpack-held, unpack-kept, needs)
+pub ruleset unpacking = (written-none, written-none-kept, none-left, unpack-left, unpack-word, unpack-length, needs)

@@ -3,6 +3,7 @@ pub mod Paired
 pub mod Patterned
 pub mod Told
 pub mod Writing
+pub mod Carded
 pub mod Answered
 pub mod Intaken
 pub mod Sheeted

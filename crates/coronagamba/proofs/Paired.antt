@@ -18,10 +18,10 @@ use Rattle.listing.specs.declared.CountAnswer.{CountAnswer}
 use Rattle.listing.specs.declared.CountAnswer.the-variants as N
 use Rattle.unlisted.specs.declared.UnlistedAnswer.{UnlistedAnswer}
 use Rattle.unlisted.specs.declared.UnlistedAnswer.the-variants as U
-use Rattle.settle.specs.declared.SettleAnswer.{SettleAnswer}
-use Rattle.settle.specs.declared.SettleAnswer.the-variants as S
-use Rattle.seam.specs.declared.RangeAnswer.{RangeAnswer}
-use Rattle.seam.specs.declared.RangeAnswer.the-variants as R
+use Rattle.settleanswers.specs.declared.SettleAnswer.{SettleAnswer}
+use Rattle.settleanswers.specs.declared.SettleAnswer.the-variants as S
+use Rattle.heldrange.specs.declared.RangeAnswer.{RangeAnswer}
+use Rattle.heldrange.specs.declared.RangeAnswer.the-variants as R
 use Rattle.seam.specs.Pair.{pairChecks}
 use Rattle.pair.specs.Answers.{otherShard, pairCheck, pairLookup, pairFragment}
 use Rattle.pairform.specs.Answers.{noMinishard, pairCount, pairListing, pairUnlisted, pairLength, pairSettle}

@@ -21,7 +21,7 @@ use Rattle.shardsheet.specs.Sheet.{rows}
 use Rattle.holdings.specs.Answers.{joinAnswer, addAnswer, pairAddAnswer}
 use Rattle.word.specs.Word.{word}
 use Rattle.coronagamba.specs.Sheets.{measureWord, countsOf, countsAfter, sheetOf, sheetWord, rowsAfter}
-use Rattle.coronagamba.proofs.Told.{told, after}
+use Rattle.coronagamba.proofs.Told.{told, after, given, left}
 use Rattle.coronagamba.proofs.Checked.{minishard-fits, check-fits}
 use Rattle.coronagamba.proofs.Paired.{pair-minishard-fits, pair-check-fits}
 
@@ -72,7 +72,16 @@ module _ {a b : MeasureAnswer} (e : b ≡ a) where
   pub counts-faulty : (x : List ℕ) {k m p : ℕ} → b ≡ M.Faulty k m p → x ≡ countsAfter a x
   counts-faulty x h = after countsAfter x e h
 
+module _ {a b : MeasureAnswer} where
+  pub measure-word : {r : ℕ} → r ≡ measureWord b → b ≡ a → r ≡ measureWord a
+  measure-word h e = given measureWord h e
+
+  pub counts-left : (x : List ℕ) {s : List ℕ} → s ≡ countsAfter b x → b ≡ a → s ≡ countsAfter a x
+  counts-left x h e = left countsAfter x h e
+
 pub ruleset measuring = (measure-given, measure-refused, measure-faulty, counts-given, counts-refused, counts-faulty, needs)
+
+pub ruleset measured = (measure-word, counts-left, needs)
 
 -- ---- the sheet
 

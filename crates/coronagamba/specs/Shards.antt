@@ -9,8 +9,8 @@ use Rattle.listing.specs.declared.CountAnswer.{CountAnswer}
 use Rattle.listing.specs.declared.CountAnswer.the-variants.{Count, Refused as NoCount, Faulty as FaultCounted}
 use Rattle.unlisted.specs.declared.UnlistedAnswer.{UnlistedAnswer}
 use Rattle.unlisted.specs.declared.UnlistedAnswer.the-variants.{Count as Unlisted, Refused as NotCounted, Faulty as FaultUnlisted}
-use Rattle.settle.specs.declared.SettleAnswer.{SettleAnswer}
-use Rattle.settle.specs.declared.SettleAnswer.the-variants.{Length, Refused as NotSettled, Faulty as FaultSettled}
+use Rattle.settleanswers.specs.declared.SettleAnswer.{SettleAnswer}
+use Rattle.settleanswers.specs.declared.SettleAnswer.the-variants.{Length, Refused as NotSettled, Faulty as FaultSettled}
 use Rattle.word.specs.Word.{word}
 
 -- the check names the faulty minishard and the position; the other calls give the position alone

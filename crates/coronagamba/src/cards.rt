@@ -3,10 +3,10 @@ ghost use mathlib.Core.Path.{_≡_};
 ghost use Rattle.card.specs.Answers.{readAnswer, writeAnswer, writeLeft};
 ghost use Rattle.word.specs.Word.{writtenWord, lengthAfter};
 ghost use Rattle.coronagamba.specs.Cards.{cardWord, shardingAfter, volumeAfter, chunkAfter, offsetAfter};
+use crate::answers::put_length;
+use crate::numbers::put_card;
 use card::Card;
-use card::CardAnswer;
 use grid::Volume;
-use refusal::Written;
 use sharding::Sharding;
 
 // What a deposit card of these bytes says. Writes preshift, hash, minishard bits, shard bits and kind
@@ -27,17 +27,8 @@ pub extern "C" fn coronagamba_card_read(
     ensures chunk { λ _. ⌜ now (chunk .exit) ≡ chunkAfter (readAnswer (now (bytes .entry))) (now (chunk .entry)) ⌝ }
     ensures offset { λ _. ⌜ now (offset .exit) ≡ offsetAfter (readAnswer (now (bytes .entry))) (now (offset .entry)) ⌝ }
 {
-    match card::read_card(bytes) {
-        CardAnswer::Says(card) => {
-            let volume = card.volume;
-            *sharding = crate::numbers::five(card.sharding);
-            *size = crate::numbers::three_extents(volume.size);
-            *chunk = crate::numbers::three_extents(volume.chunk);
-            *offset = crate::numbers::three_offsets(volume.offset);
-            0
-        }
-        CardAnswer::Refused(refusal) => refusal as u64,
-    }
+    let answer = card::read_card(bytes);
+    put_card(answer, sharding, size, chunk, offset)
 }
 
 // A deposit card. Writes its bytes, 46 or 61, of a mesh 50 or 65, to the front of `out`, and their
@@ -54,11 +45,6 @@ pub extern "C" fn coronagamba_card_write(
     ensures out { λ _. ⌜ now (out .exit) ≡ writeLeft (record { sharding = sharding; volume = volume }) (now (out .entry)) ⌝ }
     ensures length { λ _. ⌜ now (length .exit) ≡ lengthAfter (writeAnswer (record { sharding = sharding; volume = volume }) (now (out .entry))) (now (length .entry)) ⌝ }
 {
-    match cardwriting::write_card(Card { sharding, volume }, out) {
-        Written::Length(n) => {
-            *length = n as u64;
-            0
-        }
-        Written::Refused(refusal) => refusal as u64,
-    }
+    let answer = cardwriting::write_card(Card { sharding, volume }, out);
+    put_length(answer, length)
 }

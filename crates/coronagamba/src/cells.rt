@@ -5,10 +5,11 @@ ghost use Rattle.grid.specs.Answers.{gridAnswer};
 ghost use Rattle.morton.specs.Answers.{keyAnswer, cellAnswer};
 ghost use Rattle.bounds.specs.Answers.{boundsAnswer};
 ghost use Rattle.batch.specs.Batch.{cellsOf, keysAnswer, keysLeft};
-ghost use Rattle.spread.specs.Row.{rowOf};
+ghost use Rattle.cellrows.specs.Row.{rowOf};
 ghost use Rattle.overlap.specs.Cover.{coverAnswer, coverLeft};
 ghost use Rattle.word.specs.Word.{writtenWord, lengthAfter};
 ghost use Rattle.coronagamba.specs.Cells.{gridWord, gridAfter, keyWord, keyAfter, cellWord, cellAfter, boundsWord, beginAfter, endAfter};
+use crate::answers::put_length;
 use bounds::BoundsAnswer;
 use bounds::Point;
 use grid::Cell;
@@ -16,7 +17,6 @@ use grid::GridAnswer;
 use grid::Volume;
 use morton::CellAnswer;
 use morton::KeyAnswer;
-use refusal::Written;
 
 // How many cells the volume has. Writes the numbers along x, y and z to `grid`.
 // Refusals: 2 where an extent is 0
@@ -66,13 +66,8 @@ pub extern "C" fn coronagamba_keys_of(
     ensures keys { λ _. ⌜ now (keys .exit) ≡ keysLeft volume (cellsOf (now (cells .entry))) (now (keys .entry)) ⌝ }
     ensures length { λ _. ⌜ now (length .exit) ≡ lengthAfter (keysAnswer volume (cellsOf (now (cells .entry))) (now (keys .entry))) (now (length .entry)) ⌝ }
 {
-    match scan::keys_of(volume, cells, keys) {
-        Written::Length(n) => {
-            *length = n as u64;
-            0
-        }
-        Written::Refused(number) => number as u64,
-    }
+    let answer = scan::keys_of(volume, cells, keys);
+    put_length(answer, length)
 }
 
 // The keys of a row of cells: x rises from `from` up to `to`, that end excluded, at one `y` and `z`. A
@@ -94,13 +89,8 @@ pub extern "C" fn coronagamba_row_keys(
     ensures keys { λ _. ⌜ now (keys .exit) ≡ keysLeft volume (rowOf from to y z) (now (keys .entry)) ⌝ }
     ensures length { λ _. ⌜ now (length .exit) ≡ lengthAfter (keysAnswer volume (rowOf from to y z) (now (keys .entry))) (now (length .entry)) ⌝ }
 {
-    match scan::row::row_keys(volume, from, to, y, z, keys) {
-        Written::Length(n) => {
-            *length = n as u64;
-            0
-        }
-        Written::Refused(number) => number as u64,
-    }
+    let answer = scan::row::row_keys(volume, from, to, y, z, keys);
+    put_length(answer, length)
 }
 
 // The chunks that cover a box: the keys of all cells that share a voxel with it, rising, each once.
@@ -121,13 +111,8 @@ pub extern "C" fn coronagamba_cover(
     ensures keys { λ _. ⌜ now (keys .exit) ≡ coverLeft volume lower upper (now (keys .entry)) ⌝ }
     ensures length { λ _. ⌜ now (length .exit) ≡ lengthAfter (coverAnswer volume lower upper (now (keys .entry))) (now (length .entry)) ⌝ }
 {
-    match cover::cover(volume, lower, upper, keys) {
-        Written::Length(n) => {
-            *length = n as u64;
-            0
-        }
-        Written::Refused(number) => number as u64,
-    }
+    let answer = cover::cover(volume, lower, upper, keys);
+    put_length(answer, length)
 }
 
 // The cell of a key. Writes its x, y and z to `cell`.

@@ -2,7 +2,7 @@
 ghost use mathlib.Core.Path.{_≡_};
 ghost use Rattle.info.specs.Answers.{infoAnswer};
 ghost use Rattle.coronagamba.specs.Cards.{cardWord, shardingAfter, volumeAfter, chunkAfter, offsetAfter};
-use card::CardAnswer;
+use crate::numbers::put_card;
 
 // What the text of an info file says of its scale number `scale`, from 0: the numbers that a deposit
 // card of it says, written as coronagamba_card_read writes them. The kind is 0, volume.
@@ -22,15 +22,6 @@ pub extern "C" fn coronagamba_info_read(
     ensures chunk { λ _. ⌜ now (chunk .exit) ≡ chunkAfter (infoAnswer (now (text .entry)) scale) (now (chunk .entry)) ⌝ }
     ensures offset { λ _. ⌜ now (offset .exit) ≡ offsetAfter (infoAnswer (now (text .entry)) scale) (now (offset .entry)) ⌝ }
 {
-    match info::read_info(text, scale) {
-        CardAnswer::Says(card) => {
-            let volume = card.volume;
-            *sharding = crate::numbers::five(card.sharding);
-            *size = crate::numbers::three_extents(volume.size);
-            *chunk = crate::numbers::three_extents(volume.chunk);
-            *offset = crate::numbers::three_offsets(volume.offset);
-            0
-        }
-        CardAnswer::Refused(refusal) => refusal as u64,
-    }
+    let answer = info::read_info(text, scale);
+    put_card(answer, sharding, size, chunk, offset)
 }

@@ -9,6 +9,20 @@ use intakenumbers::numbers_of;
 use intakenumbers::state_of;
 use sharding::Sharding;
 
+// The numbers of the new state, or the refusal.
+fn put_state(state: &mut [u64; 15], answer: IntakeAnswer) -> u64
+    ensures { λ r. ⌜ r ≡ intakeWord answer ⌝ }
+    ensures { λ _. ⌜ now (state .exit) ≡ stateAfter answer (now (state .entry)) ⌝ }
+{
+    match answer {
+        IntakeAnswer::Next(next) => {
+            *state = numbers_of(next);
+            0
+        }
+        IntakeAnswer::Refused(refusal) => refusal as u64,
+    }
+}
+
 // Opens a new volume shard, which will grow at the front of `out`; `waiting` will hold the ids and
 // sizes of the chunks of one minishard at a time, 16 bytes for each. Writes the shard index of a
 // shard with no chunk to the front of `out`, and the state of the intake, 15 numbers, to `state`.
@@ -27,13 +41,8 @@ pub extern "C" fn coronagamba_intake_open(
     ensures out { λ _. ⌜ now (out .exit) ≡ openLeft sharding shard (now (out .entry)) ⌝ }
     ensures state { λ _. ⌜ now (state .exit) ≡ stateAfter (openAnswer sharding shard (now (out .entry)) (now (waiting .entry))) (now (state .entry)) ⌝ }
 {
-    match intake::open(sharding, shard, out, waiting) {
-        IntakeAnswer::Next(next) => {
-            *state = numbers_of(next);
-            0
-        }
-        IntakeAnswer::Refused(refusal) => refusal as u64,
-    }
+    let answer = intake::open(sharding, shard, out, waiting);
+    put_state(state, answer)
 }
 
 // Announces the next chunk, by rising minishard and then rising id, and its number of bytes, which
@@ -57,13 +66,8 @@ pub extern "C" fn coronagamba_intake_announce(
     ensures waiting { λ _. ⌜ now (waiting .exit) ≡ announceWaiting (stateOf (now (state .entry))) id size (now (out .entry)) (now (waiting .entry)) ⌝ }
 {
     let given = state_of(state);
-    match intake::announce(given, id, size as usize, out, waiting) {
-        IntakeAnswer::Next(next) => {
-            *state = numbers_of(next);
-            0
-        }
-        IntakeAnswer::Refused(refusal) => refusal as u64,
-    }
+    let answer = intake::announce(given, id, size as usize, out, waiting);
+    put_state(state, answer)
 }
 
 // Hands over the next bytes of the announced chunk, as many as are given, none or all that are owed.

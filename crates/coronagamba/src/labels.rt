@@ -4,8 +4,8 @@ ghost use Rattle.segmentation.specs.Labels.{labelAnswer};
 ghost use Rattle.rawform.specs.Raw.{lengthAnswer, unpackAnswer, unpackLeft};
 ghost use Rattle.word.specs.Word.{writtenWord, lengthAfter};
 ghost use Rattle.coronagamba.specs.Labels.{noWidth, labelBy, writtenBy, leftBy, shapeOf, labelWord, labelAfter};
+use crate::answers::put_length;
 use grid::Extents;
-use refusal::Written;
 use segmentation::LabelAnswer;
 use segmentation::Shape;
 
@@ -90,13 +90,8 @@ pub extern "C" fn coronagamba_unpacked_length(
     if no_width(bits) {
         return 2;
     }
-    match unpack::unpacked_length(shape_of(size, block, channels, bits)) {
-        Written::Length(n) => {
-            *length = n as u64;
-            0
-        }
-        Written::Refused(number) => number as u64,
-    }
+    let answer = unpack::unpacked_length(shape_of(size, block, channels, bits));
+    put_length(answer, length)
 }
 
 // A whole chunk of the compressed segmentation encoding in the raw form: labels little-endian, x
@@ -123,11 +118,6 @@ pub extern "C" fn coronagamba_unpack(
     if no_width(bits) {
         return 2;
     }
-    match unpack::unpack(chunk, shape_of(size, block, channels, bits), out) {
-        Written::Length(n) => {
-            *length = n as u64;
-            0
-        }
-        Written::Refused(number) => number as u64,
-    }
+    let answer = unpack::unpack(chunk, shape_of(size, block, channels, bits), out);
+    put_length(answer, length)
 }

@@ -1,4 +1,5 @@
 // The C interface. Each exported function hands its arguments to the library and carries the whole answer in its contract.
+mod answers;
 pub mod cards;
 pub mod cells;
 pub mod infos;

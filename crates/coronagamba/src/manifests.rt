@@ -8,13 +8,13 @@ ghost use Rattle.levelnodes.specs.Level.{nodesAnswer, nodesLeft};
 ghost use Rattle.corners.specs.Boxes.{finiteCorner, cornersAnswer};
 ghost use Rattle.word.specs.Word.{writtenWord, lengthAfter};
 ghost use Rattle.coronagamba.specs.Manifests.{manifestWord, headerWord, headerAfter, fieldWord, kindAfter, valueAfter, nodeWord, positionAfter, fragmentAfter, bytesAfter, cornersWord, cornerBits, nearAfter, farAfter};
+use crate::answers::put_length;
 use corners::Corner;
 use corners::CornersAnswer;
 use manifest::ManifestAnswer;
 use manifestread::Field;
 use manifestread::HeaderAnswer;
 use nodes::NodeAnswer;
-use refusal::Written;
 
 // Whether the bytes are a sound manifest. Writes nothing.
 // Refusals: 15, 16, 17
@@ -127,13 +127,8 @@ pub extern "C" fn coronagamba_manifest_nodes(
     ensures out { λ _. ⌜ now (out .exit) ≡ nodesLeft (now (bytes .entry)) level (now (out .entry)) ⌝ }
     ensures length { λ _. ⌜ now (length .exit) ≡ lengthAfter (nodesAnswer (now (bytes .entry)) level (now (out .entry))) (now (length .entry)) ⌝ }
 {
-    match levelnodes::nodes_of(bytes, level, out) {
-        Written::Length(n) => {
-            *length = n as u64;
-            0
-        }
-        Written::Refused(refusal) => refusal as u64,
-    }
+    let answer = levelnodes::nodes_of(bytes, level, out);
+    put_length(answer, length)
 }
 
 // The patterns of a finite corner.

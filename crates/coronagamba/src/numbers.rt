@@ -2,6 +2,8 @@
 ghost use mathlib.Core.Path.{_≡_};
 ghost use mathlib.Core.List.{[], _∷_};
 ghost use Rattle.sharding.specs.Specification.{minishardBits, shardBits};
+ghost use Rattle.coronagamba.specs.Cards.{cardWord, shardingAfter, volumeAfter, chunkAfter, offsetAfter};
+use card::CardAnswer;
 use grid::Extents;
 use grid::Offset;
 use sharding::Sharding;
@@ -28,4 +30,30 @@ pub fn three_offsets(o: Offset) -> [i32; 3]
     ensures { λ r. ⌜ r ≡ o .x ∷ o .y ∷ o .z ∷ [] ⌝ }
 {
     [o.x, o.y, o.z]
+}
+
+pub fn put_card(
+    answer: CardAnswer,
+    sharding: &mut [u8; 5],
+    size: &mut [u32; 3],
+    chunk: &mut [u32; 3],
+    offset: &mut [i32; 3],
+) -> u64
+    ensures word { λ r. ⌜ r ≡ cardWord answer ⌝ }
+    ensures sharding { λ _. ⌜ now (sharding .exit) ≡ shardingAfter answer (now (sharding .entry)) ⌝ }
+    ensures size { λ _. ⌜ now (size .exit) ≡ volumeAfter answer (now (size .entry)) ⌝ }
+    ensures chunk { λ _. ⌜ now (chunk .exit) ≡ chunkAfter answer (now (chunk .entry)) ⌝ }
+    ensures offset { λ _. ⌜ now (offset .exit) ≡ offsetAfter answer (now (offset .entry)) ⌝ }
+{
+    match answer {
+        CardAnswer::Says(card) => {
+            let volume = card.volume;
+            *sharding = five(card.sharding);
+            *size = three_extents(volume.size);
+            *chunk = three_extents(volume.chunk);
+            *offset = three_offsets(volume.offset);
+            0
+        }
+        CardAnswer::Refused(refusal) => refusal as u64,
+    }
 }

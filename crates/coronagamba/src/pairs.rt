@@ -8,17 +8,15 @@ ghost use Rattle.names.specs.declared.FileKind.the-variants.{Index, Data};
 ghost use Rattle.word.specs.Word.{writtenWord, lengthAfter, asksToDrop};
 ghost use Rattle.coronagamba.specs.Shards.{checkWord, lookupWord, startAfter, sizeAfter, countWord, countAfter, settleWord, formAfter, unlistedWord, unlistedAfter};
 ghost use Rattle.coronagamba.specs.Pairs.{rangeWord, fileAfter, placeAfter, rangeAfter};
-use idsearch::LookupAnswer;
-use listing::CountAnswer;
-use refusal::Written;
-use seam::RangeAnswer;
-use settle::SettleAnswer;
-use shard::CheckAnswer;
+use crate::answers::check_word;
+use crate::answers::put_count;
+use crate::answers::put_form;
+use crate::answers::put_found;
+use crate::answers::put_length;
+use crate::answers::put_unlisted;
+use heldrange::RangeAnswer;
 use sharding::Sharding;
-use unlisted::UnlistedAnswer;
 use word::inner::asks_to_drop;
-use word::inner::fault_word;
-use word::inner::position_word;
 
 // coronagamba_check of a pair: whether it is sound, as one file. Writes nothing. The position is that
 // in the joined file.
@@ -32,15 +30,8 @@ pub extern "C" fn coronagamba_pair_check(
 ) -> u64
     ensures answer { λ r. ⌜ r ≡ checkWord (pairCheck sharding shard (now (index .entry)) (now («data» .entry))) ⌝ }
 {
-    match pair::check(sharding, shard, index, data) {
-        CheckAnswer::Sound => 0,
-        CheckAnswer::Refused(refusal) => refusal as u64,
-        CheckAnswer::Faulty {
-            number: refusal,
-            minishard,
-            position,
-        } => fault_word(refusal, minishard, position),
-    }
+    let answer = pair::check(sharding, shard, index, data);
+    check_word(answer)
 }
 
 // coronagamba_lookup of a pair: where the chunk of an id lies. Writes where it begins, counted from
@@ -62,21 +53,8 @@ pub extern "C" fn coronagamba_pair_lookup(
     ensures start { λ _. ⌜ now (start .exit) ≡ startAfter (pairLookup sharding shard (now (index .entry)) (now («data» .entry)) id) (now (start .entry)) ⌝ }
     ensures length { λ _. ⌜ now (length .exit) ≡ sizeAfter (pairLookup sharding shard (now (index .entry)) (now («data» .entry)) id) (now (length .entry)) ⌝ }
 {
-    match pair::lookup(sharding, shard, index, data, id) {
-        LookupAnswer::Found {
-            start: begin,
-            length: bytes,
-        } => {
-            *start = begin as u64;
-            *length = bytes as u64;
-            0
-        }
-        LookupAnswer::Refused(refusal) => refusal as u64,
-        LookupAnswer::Faulty {
-            number: refusal,
-            position,
-        } => position_word(refusal, position),
-    }
+    let answer = pair::lookup(sharding, shard, index, data, id);
+    put_found(answer, start, length)
 }
 
 // coronagamba_fragment of a pair: where the fragment of a node lies, by the id of its manifest, its
@@ -100,21 +78,8 @@ pub extern "C" fn coronagamba_pair_fragment(
     ensures start { λ _. ⌜ now (start .exit) ≡ startAfter (pairFragment sharding shard (now (index .entry)) (now («data» .entry)) id level node) (now (start .entry)) ⌝ }
     ensures length { λ _. ⌜ now (length .exit) ≡ sizeAfter (pairFragment sharding shard (now (index .entry)) (now («data» .entry)) id level node) (now (length .entry)) ⌝ }
 {
-    match pair::fragment(sharding, shard, index, data, id, level, node) {
-        LookupAnswer::Found {
-            start: begin,
-            length: bytes,
-        } => {
-            *start = begin as u64;
-            *length = bytes as u64;
-            0
-        }
-        LookupAnswer::Refused(refusal) => refusal as u64,
-        LookupAnswer::Faulty {
-            number: refusal,
-            position,
-        } => position_word(refusal, position),
-    }
+    let answer = pair::fragment(sharding, shard, index, data, id, level, node);
+    put_found(answer, start, length)
 }
 
 // coronagamba_listed_count of a pair: how many chunks a minishard lists. Writes the number to
@@ -133,17 +98,8 @@ pub extern "C" fn coronagamba_pair_listed_count(
     ensures answer { λ r. ⌜ r ≡ countWord (pairCount sharding shard (now (index .entry)) (now («data» .entry)) minishard) ⌝ }
     ensures chunks { λ _. ⌜ now (chunks .exit) ≡ countAfter (pairCount sharding shard (now (index .entry)) (now («data» .entry)) minishard) (now (chunks .entry)) ⌝ }
 {
-    match pairform::listed_count(sharding, shard, index, data, minishard) {
-        CountAnswer::Count(n) => {
-            *chunks = n as u64;
-            0
-        }
-        CountAnswer::Refused(refusal) => refusal as u64,
-        CountAnswer::Faulty {
-            number: refusal,
-            position,
-        } => position_word(refusal, position),
-    }
+    let answer = pairform::listed_count(sharding, shard, index, data, minishard);
+    put_count(answer, chunks)
 }
 
 // coronagamba_listing of a pair: the chunks that a minishard lists, in stored order. Writes three
@@ -166,17 +122,8 @@ pub extern "C" fn coronagamba_pair_listing(
     ensures out { λ _. ⌜ now (out .exit) ≡ pairListingLeft sharding shard (now (index .entry)) (now («data» .entry)) minishard (now (out .entry)) ⌝ }
     ensures length { λ _. ⌜ now (length .exit) ≡ countAfter (pairListing sharding shard (now (index .entry)) (now («data» .entry)) minishard (now (out .entry))) (now (length .entry)) ⌝ }
 {
-    match pairform::listing(sharding, shard, index, data, minishard, out) {
-        CountAnswer::Count(n) => {
-            *length = n as u64;
-            0
-        }
-        CountAnswer::Refused(refusal) => refusal as u64,
-        CountAnswer::Faulty {
-            number: refusal,
-            position,
-        } => position_word(refusal, position),
-    }
+    let answer = pairform::listing(sharding, shard, index, data, minishard, out);
+    put_count(answer, length)
 }
 
 // coronagamba_unlisted of a pair: how many bytes are unlisted. Writes the number to `bytes`. Takes as
@@ -194,17 +141,8 @@ pub extern "C" fn coronagamba_pair_unlisted(
     ensures answer { λ r. ⌜ r ≡ unlistedWord (pairUnlisted sharding shard (now (index .entry)) (now («data» .entry))) ⌝ }
     ensures bytes { λ _. ⌜ now (bytes .exit) ≡ unlistedAfter (pairUnlisted sharding shard (now (index .entry)) (now («data» .entry))) (now (bytes .entry)) ⌝ }
 {
-    match pairform::unlisted_count(sharding, shard, index, data) {
-        UnlistedAnswer::Count(n) => {
-            *bytes = n;
-            0
-        }
-        UnlistedAnswer::Refused(refusal) => refusal as u64,
-        UnlistedAnswer::Faulty {
-            number: refusal,
-            position,
-        } => position_word(refusal, position),
-    }
+    let answer = pairform::unlisted_count(sharding, shard, index, data);
+    put_unlisted(answer, bytes)
 }
 
 // coronagamba_settled_length of a pair: how many bytes its settled form has, which is one file. Writes
@@ -224,17 +162,14 @@ pub extern "C" fn coronagamba_pair_settled_length(
     ensures answer { λ r. ⌜ r ≡ settleWord (pairLength sharding shard (now (index .entry)) (now («data» .entry)) (asksToDrop «drop_unlisted»)) ⌝ }
     ensures length { λ _. ⌜ now (length .exit) ≡ formAfter (pairLength sharding shard (now (index .entry)) (now («data» .entry)) (asksToDrop «drop_unlisted»)) (now (length .entry)) ⌝ }
 {
-    match pairform::settled_length(sharding, shard, index, data, asks_to_drop(drop_unlisted)) {
-        SettleAnswer::Length(n) => {
-            *length = n as u64;
-            0
-        }
-        SettleAnswer::Refused(refusal) => refusal as u64,
-        SettleAnswer::Faulty {
-            number: refusal,
-            position,
-        } => position_word(refusal, position),
-    }
+    let answer = pairform::settled_length(
+        sharding,
+        shard,
+        index,
+        data,
+        asks_to_drop(drop_unlisted),
+    );
+    put_form(answer, length)
 }
 
 // coronagamba_settle of a pair: its settled form, which is one file. Writes it to the front of `out`,
@@ -258,24 +193,15 @@ pub extern "C" fn coronagamba_pair_settle(
     ensures out { λ _. ⌜ now (out .exit) ≡ pairSettleLeft sharding shard (now (index .entry)) (now («data» .entry)) (asksToDrop «drop_unlisted») (now (out .entry)) ⌝ }
     ensures length { λ _. ⌜ now (length .exit) ≡ formAfter (pairSettle sharding shard (now (index .entry)) (now («data» .entry)) (asksToDrop «drop_unlisted») (now (out .entry))) (now (length .entry)) ⌝ }
 {
-    match pairform::settle(
+    let answer = pairform::settle(
         sharding,
         shard,
         index,
         data,
         asks_to_drop(drop_unlisted),
         out,
-    ) {
-        SettleAnswer::Length(n) => {
-            *length = n as u64;
-            0
-        }
-        SettleAnswer::Refused(refusal) => refusal as u64,
-        SettleAnswer::Faulty {
-            number: refusal,
-            position,
-        } => position_word(refusal, position),
-    }
+    );
+    put_form(answer, length)
 }
 
 // Where the bytes of the joined file from `start` up to `end`, end excluded, are. Writes which file
@@ -336,13 +262,8 @@ pub extern "C" fn coronagamba_index_name(
     ensures out { λ _. ⌜ now (out .exit) ≡ fileNameLeft Index sharding shard (now (out .entry)) ⌝ }
     ensures length { λ _. ⌜ now (length .exit) ≡ lengthAfter (fileNameAnswer Index sharding shard (now (out .entry))) (now (length .entry)) ⌝ }
 {
-    match names::index_name(sharding, shard, out) {
-        Written::Length(n) => {
-            *length = n as u64;
-            0
-        }
-        Written::Refused(number) => number as u64,
-    }
+    let answer = shardnames::index_name(sharding, shard, out);
+    put_length(answer, length)
 }
 
 // The name of its data file, at most 13 bytes, in the same way.
@@ -358,11 +279,6 @@ pub extern "C" fn coronagamba_data_name(
     ensures out { λ _. ⌜ now (out .exit) ≡ fileNameLeft Data sharding shard (now (out .entry)) ⌝ }
     ensures length { λ _. ⌜ now (length .exit) ≡ lengthAfter (fileNameAnswer Data sharding shard (now (out .entry))) (now (length .entry)) ⌝ }
 {
-    match names::data_name(sharding, shard, out) {
-        Written::Length(n) => {
-            *length = n as u64;
-            0
-        }
-        Written::Refused(number) => number as u64,
-    }
+    let answer = shardnames::data_name(sharding, shard, out);
+    put_length(answer, length)
 }

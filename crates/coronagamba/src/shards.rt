@@ -5,18 +5,16 @@ ghost use Rattle.lookup.specs.Find.{lookupAnswer};
 ghost use Rattle.fragment.specs.Fragment.{fragmentAnswer};
 ghost use Rattle.listing.specs.Listing.{countAnswer, listingAnswer, listingLeft};
 ghost use Rattle.unlisted.specs.Answers.{unlistedAnswer};
-ghost use Rattle.settle.specs.Answers.{lengthAnswer, settleAnswer, settleLeft};
+ghost use Rattle.settleanswers.specs.Answers.{lengthAnswer, settleAnswer, settleLeft};
 ghost use Rattle.word.specs.Word.{asksToDrop};
 ghost use Rattle.coronagamba.specs.Shards.{checkWord, lookupWord, startAfter, sizeAfter, countWord, countAfter, settleWord, formAfter, unlistedWord, unlistedAfter};
-use idsearch::LookupAnswer;
-use listing::CountAnswer;
-use settle::SettleAnswer;
-use shard::CheckAnswer;
+use crate::answers::check_word;
+use crate::answers::put_count;
+use crate::answers::put_form;
+use crate::answers::put_found;
+use crate::answers::put_unlisted;
 use sharding::Sharding;
-use unlisted::UnlistedAnswer;
 use word::inner::asks_to_drop;
-use word::inner::fault_word;
-use word::inner::position_word;
 
 // Where the chunk of an id lies in the shard's file; in a mesh the chunk is a manifest. Writes where
 // it begins, counted from the file's first byte, to `start`, and its number of bytes to `length`. Of
@@ -35,21 +33,8 @@ pub extern "C" fn coronagamba_lookup(
     ensures start { λ _. ⌜ now (start .exit) ≡ startAfter (lookupAnswer sharding shard (now (file .entry)) id) (now (start .entry)) ⌝ }
     ensures length { λ _. ⌜ now (length .exit) ≡ sizeAfter (lookupAnswer sharding shard (now (file .entry)) id) (now (length .entry)) ⌝ }
 {
-    match lookup::lookup(sharding, shard, file, id) {
-        LookupAnswer::Found {
-            start: begin,
-            length: bytes,
-        } => {
-            *start = begin as u64;
-            *length = bytes as u64;
-            0
-        }
-        LookupAnswer::Refused(refusal) => refusal as u64,
-        LookupAnswer::Faulty {
-            number: refusal,
-            position,
-        } => position_word(refusal, position),
-    }
+    let answer = lookup::lookup(sharding, shard, file, id);
+    put_found(answer, start, length)
 }
 
 // Where the fragment of a node lies in a mesh shard's file, by the id of its manifest, its level and
@@ -74,21 +59,8 @@ pub extern "C" fn coronagamba_fragment(
     ensures start { λ _. ⌜ now (start .exit) ≡ startAfter (fragmentAnswer sharding shard (now (file .entry)) id level node) (now (start .entry)) ⌝ }
     ensures length { λ _. ⌜ now (length .exit) ≡ sizeAfter (fragmentAnswer sharding shard (now (file .entry)) id level node) (now (length .entry)) ⌝ }
 {
-    match fragment::fragment(sharding, shard, file, id, level, node) {
-        LookupAnswer::Found {
-            start: begin,
-            length: bytes,
-        } => {
-            *start = begin as u64;
-            *length = bytes as u64;
-            0
-        }
-        LookupAnswer::Refused(refusal) => refusal as u64,
-        LookupAnswer::Faulty {
-            number: refusal,
-            position,
-        } => position_word(refusal, position),
-    }
+    let answer = fragment::fragment(sharding, shard, file, id, level, node);
+    put_found(answer, start, length)
 }
 
 // Whether the whole shard is sound; in a mesh each chunk must be a sound manifest with its fragments
@@ -99,15 +71,8 @@ pub extern "C" fn coronagamba_fragment(
 pub extern "C" fn coronagamba_check(sharding: Sharding, shard: u64, file: &[u8]) -> u64
     ensures answer { λ r. ⌜ r ≡ checkWord (checkAnswer sharding shard (now (file .entry))) ⌝ }
 {
-    match inspect::check(sharding, shard, file) {
-        CheckAnswer::Sound => 0,
-        CheckAnswer::Refused(refusal) => refusal as u64,
-        CheckAnswer::Faulty {
-            number: refusal,
-            minishard,
-            position,
-        } => fault_word(refusal, minishard, position),
-    }
+    let answer = inspect::check(sharding, shard, file);
+    check_word(answer)
 }
 
 // How many chunks a minishard lists. Writes the number to `chunks`.
@@ -124,17 +89,8 @@ pub extern "C" fn coronagamba_listed_count(
     ensures answer { λ r. ⌜ r ≡ countWord (countAnswer sharding shard (now (file .entry)) minishard) ⌝ }
     ensures chunks { λ _. ⌜ now (chunks .exit) ≡ countAfter (countAnswer sharding shard (now (file .entry)) minishard) (now (chunks .entry)) ⌝ }
 {
-    match listing::listed_count(sharding, shard, file, minishard) {
-        CountAnswer::Count(n) => {
-            *chunks = n as u64;
-            0
-        }
-        CountAnswer::Refused(refusal) => refusal as u64,
-        CountAnswer::Faulty {
-            number: refusal,
-            position,
-        } => position_word(refusal, position),
-    }
+    let answer = listing::listed_count(sharding, shard, file, minishard);
+    put_count(answer, chunks)
 }
 
 // The chunks that a minishard lists, in stored order. Writes three numbers for each to the front of
@@ -155,17 +111,8 @@ pub extern "C" fn coronagamba_listing(
     ensures out { λ _. ⌜ now (out .exit) ≡ listingLeft sharding shard (now (file .entry)) minishard (now (out .entry)) ⌝ }
     ensures length { λ _. ⌜ now (length .exit) ≡ countAfter (listingAnswer sharding shard (now (file .entry)) minishard (now (out .entry))) (now (length .entry)) ⌝ }
 {
-    match listing::listing(sharding, shard, file, minishard, out) {
-        CountAnswer::Count(n) => {
-            *length = n as u64;
-            0
-        }
-        CountAnswer::Refused(refusal) => refusal as u64,
-        CountAnswer::Faulty {
-            number: refusal,
-            position,
-        } => position_word(refusal, position),
-    }
+    let answer = listing::listing(sharding, shard, file, minishard, out);
+    put_count(answer, length)
 }
 
 // How many bytes of a shard are unlisted: they lie past the shard index in no listed chunk, no
@@ -183,17 +130,8 @@ pub extern "C" fn coronagamba_unlisted(
     ensures answer { λ r. ⌜ r ≡ unlistedWord (unlistedAnswer sharding shard (now (file .entry))) ⌝ }
     ensures bytes { λ _. ⌜ now (bytes .exit) ≡ unlistedAfter (unlistedAnswer sharding shard (now (file .entry))) (now (bytes .entry)) ⌝ }
 {
-    match unlisted::unlisted_count(sharding, shard, file) {
-        UnlistedAnswer::Count(n) => {
-            *bytes = n;
-            0
-        }
-        UnlistedAnswer::Refused(refusal) => refusal as u64,
-        UnlistedAnswer::Faulty {
-            number: refusal,
-            position,
-        } => position_word(refusal, position),
-    }
+    let answer = unlisted::unlisted_count(sharding, shard, file);
+    put_unlisted(answer, bytes)
 }
 
 // How many bytes a shard's settled form has. Writes the number to `length`. Unlisted bytes are not in
@@ -211,17 +149,8 @@ pub extern "C" fn coronagamba_settled_length(
     ensures answer { λ r. ⌜ r ≡ settleWord (lengthAnswer sharding shard (now (file .entry)) (asksToDrop «drop_unlisted»)) ⌝ }
     ensures length { λ _. ⌜ now (length .exit) ≡ formAfter (lengthAnswer sharding shard (now (file .entry)) (asksToDrop «drop_unlisted»)) (now (length .entry)) ⌝ }
 {
-    match settle::settled_length(sharding, shard, file, asks_to_drop(drop_unlisted)) {
-        SettleAnswer::Length(n) => {
-            *length = n as u64;
-            0
-        }
-        SettleAnswer::Refused(refusal) => refusal as u64,
-        SettleAnswer::Faulty {
-            number: refusal,
-            position,
-        } => position_word(refusal, position),
-    }
+    let answer = settle::settled_length(sharding, shard, file, asks_to_drop(drop_unlisted));
+    put_form(answer, length)
 }
 
 // A shard's settled form; in a mesh each manifest has its fragments right before it there too. Writes
@@ -244,15 +173,6 @@ pub extern "C" fn coronagamba_settle(
     ensures out { λ _. ⌜ now (out .exit) ≡ settleLeft sharding shard (now (file .entry)) (asksToDrop «drop_unlisted») (now (out .entry)) ⌝ }
     ensures length { λ _. ⌜ now (length .exit) ≡ formAfter (settleAnswer sharding shard (now (file .entry)) (asksToDrop «drop_unlisted») (now (out .entry))) (now (length .entry)) ⌝ }
 {
-    match settle::settle(sharding, shard, file, asks_to_drop(drop_unlisted), out) {
-        SettleAnswer::Length(n) => {
-            *length = n as u64;
-            0
-        }
-        SettleAnswer::Refused(refusal) => refusal as u64,
-        SettleAnswer::Faulty {
-            number: refusal,
-            position,
-        } => position_word(refusal, position),
-    }
+    let answer = settle::settle(sharding, shard, file, asks_to_drop(drop_unlisted), out);
+    put_form(answer, length)
 }

@@ -1,5 +1,7 @@
 // Measures of shards, and the yearly holdings sheet.
 ghost use mathlib.Core.Path.{_≡_};
+ghost use Prim.Native.Nat.{ℕ, _+_, _<_};
+ghost use Rattle.measure.specs.declared.MeasureAnswer.the-variants.{Faulty};
 ghost use Rattle.measure.specs.Answers.{measureAnswer, pairMeasure};
 ghost use Rattle.holdings.specs.Answers.{joinAnswer, addAnswer, pairAddAnswer};
 ghost use Rattle.shardsheet.specs.Sheet.{rows};
@@ -17,27 +19,48 @@ fn counts_of(counts: Counts) -> [u64; 4]
     [counts.chunks, counts.bytes, counts.unlisted, counts.settled]
 }
 
+// The counts, or the refusal.
+fn put_counts(counts: &mut [u64; 4], answer: MeasureAnswer) -> u64
+    requires { ⌜ ((k m p : ℕ) → answer ≡ Faulty k m p → (m + 1 < 16777216) × (p + 1 < 4294967296)) ⌝ }
+    ensures { λ r. ⌜ r ≡ measureWord answer ⌝ }
+    ensures { λ _. ⌜ now (counts .exit) ≡ countsAfter answer (now (counts .entry)) ⌝ }
+{
+    match answer {
+        MeasureAnswer::Sound(found) => {
+            *counts = counts_of(found);
+            0
+        }
+        MeasureAnswer::Refused(refusal) => refusal as u64,
+        MeasureAnswer::Faulty {
+            number: refusal,
+            minishard,
+            position,
+        } => fault_word(refusal, minishard, position),
+    }
+}
+
 fn sheet_of(numbers: &[u64; 17]) -> Sheet
     ensures { λ r. ⌜ r ≡ sheetOf (now (numbers .entry)) ⌝ }
 {
+    let n = *numbers;
     Sheet {
-        sound: numbers[0],
-        refused1: numbers[1],
-        refused5: numbers[2],
-        refused6: numbers[3],
-        refused7: numbers[4],
-        refused8: numbers[5],
-        refused9: numbers[6],
-        refused10: numbers[7],
-        refused11: numbers[8],
-        refused15: numbers[9],
-        refused16: numbers[10],
-        refused17: numbers[11],
-        refused21: numbers[12],
-        refused23: numbers[13],
-        chunks: numbers[14],
-        bytes: numbers[15],
-        unlisted: numbers[16],
+        sound: n[0],
+        refused1: n[1],
+        refused5: n[2],
+        refused6: n[3],
+        refused7: n[4],
+        refused8: n[5],
+        refused9: n[6],
+        refused10: n[7],
+        refused11: n[8],
+        refused15: n[9],
+        refused16: n[10],
+        refused17: n[11],
+        refused21: n[12],
+        refused23: n[13],
+        chunks: n[14],
+        bytes: n[15],
+        unlisted: n[16],
     }
 }
 
@@ -94,18 +117,8 @@ pub extern "C" fn coronagamba_measure(
     ensures answer { λ r. ⌜ r ≡ measureWord (measureAnswer sharding shard (now (file .entry))) ⌝ }
     ensures counts { λ _. ⌜ now (counts .exit) ≡ countsAfter (measureAnswer sharding shard (now (file .entry))) (now (counts .entry)) ⌝ }
 {
-    match measure::measure(sharding, shard, file) {
-        MeasureAnswer::Sound(found) => {
-            *counts = counts_of(found);
-            0
-        }
-        MeasureAnswer::Refused(refusal) => refusal as u64,
-        MeasureAnswer::Faulty {
-            number: refusal,
-            minishard,
-            position,
-        } => fault_word(refusal, minishard, position),
-    }
+    let answer = measure::measure(sharding, shard, file);
+    put_counts(counts, answer)
 }
 
 // coronagamba_measure of a pair. The position is that in the joined file.
@@ -122,18 +135,8 @@ pub extern "C" fn coronagamba_pair_measure(
     ensures answer { λ r. ⌜ r ≡ measureWord (pairMeasure sharding shard (now (index .entry)) (now («data» .entry))) ⌝ }
     ensures counts { λ _. ⌜ now (counts .exit) ≡ countsAfter (pairMeasure sharding shard (now (index .entry)) (now («data» .entry))) (now (counts .entry)) ⌝ }
 {
-    match measure::measure_pair(sharding, shard, index, data) {
-        MeasureAnswer::Sound(found) => {
-            *counts = counts_of(found);
-            0
-        }
-        MeasureAnswer::Refused(refusal) => refusal as u64,
-        MeasureAnswer::Faulty {
-            number: refusal,
-            minishard,
-            position,
-        } => fault_word(refusal, minishard, position),
-    }
+    let answer = measure::measure_pair(sharding, shard, index, data);
+    put_counts(counts, answer)
 }
 
 // Adds a shard to a holdings sheet: to its shards sound, or to those refused with the number that

@@ -3,9 +3,9 @@ ghost use mathlib.Core.Path.{_≡_};
 ghost use Rattle.chunknames.specs.Chunks.{chunkNameAnswer, chunkNameLeft};
 ghost use Rattle.names.specs.Shards.{shardNameAnswer, shardNameLeft};
 ghost use Rattle.word.specs.Word.{writtenWord, lengthAfter};
+use crate::answers::put_length;
 use grid::Cell;
 use grid::Volume;
-use refusal::Written;
 use sharding::Sharding;
 
 // The file name of a cell's chunk where chunks are not sharded. Writes its ASCII bytes, at most 71
@@ -22,13 +22,8 @@ pub extern "C" fn coronagamba_chunk_name(
     ensures out { λ _. ⌜ now (out .exit) ≡ chunkNameLeft volume cell (now (out .entry)) ⌝ }
     ensures length { λ _. ⌜ now (length .exit) ≡ lengthAfter (chunkNameAnswer volume cell (now (out .entry))) (now (length .entry)) ⌝ }
 {
-    match chunknames::chunk_name(volume, cell, out) {
-        Written::Length(n) => {
-            *length = n as u64;
-            0
-        }
-        Written::Refused(number) => number as u64,
-    }
+    let answer = chunknames::chunk_name(volume, cell, out);
+    put_length(answer, length)
 }
 
 // The file name of a shard. Writes its ASCII bytes, at most 14 and with no 0 byte behind them, to
@@ -45,11 +40,6 @@ pub extern "C" fn coronagamba_shard_name(
     ensures out { λ _. ⌜ now (out .exit) ≡ shardNameLeft sharding shard (now (out .entry)) ⌝ }
     ensures length { λ _. ⌜ now (length .exit) ≡ lengthAfter (shardNameAnswer sharding shard (now (out .entry))) (now (length .entry)) ⌝ }
 {
-    match names::shard_name(sharding, shard, out) {
-        Written::Length(n) => {
-            *length = n as u64;
-            0
-        }
-        Written::Refused(number) => number as u64,
-    }
+    let answer = shardnames::shard_name(sharding, shard, out);
+    put_length(answer, length)
 }

@@ -11,7 +11,7 @@ use borrow.Author.Tests.{eq-eqb, ne-eqb}
 use Rattle.refusal.specs.Choice.{pick}
 use Rattle.sharding.specs.declared.Sharding.{Sharding}
 use Rattle.sharding.specs.Specification.{minishardCount}
-use Rattle.sharding.specs.Place.{minishardOf}
+use Rattle.placement.specs.Place.{minishardOf}
 use Rattle.shard.specs.Items.{Item}
 use Rattle.form.specs.Form.{chunksLength, partLength, partsLength, settled, settledLength}
 use Rattle.form.specs.Sorted.{Rising}

@@ -12,7 +12,7 @@ use Rattle.refusal.specs.Checks.{firstNumber}
 use Rattle.endian.specs.Place.{paste}
 use Rattle.endian.proofs.Paste.{length-paste}
 use Rattle.sharding.specs.declared.Sharding.{Sharding}
-use Rattle.sharding.specs.Place.{minishardOf}
+use Rattle.placement.specs.Place.{minishardOf}
 use Rattle.shard.specs.File.{indexLength}
 use Rattle.waiting.specs.Held.{pair, indexHeld}
 use Rattle.waiting.proofs.Writing.{length-index}

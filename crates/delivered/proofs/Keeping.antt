@@ -15,8 +15,8 @@ use Rattle.endian.specs.Place.{paste}
 use Rattle.endian.proofs.Paste.{paste-nil}
 use Rattle.sharding.specs.declared.Sharding.{Sharding}
 use Rattle.sharding.specs.Specification.{minishardCount, minishardBits}
-use Rattle.sharding.specs.Place.{minishardOf}
-use Rattle.sharding.proofs.Placed.{minishard-below}
+use Rattle.placement.specs.Place.{minishardOf}
+use Rattle.placement.proofs.Placed.{minishard-below}
 use Rattle.shard.specs.File.{indexLength}
 use Rattle.shard.specs.Items.{Item}
 use Rattle.form.specs.Form.{chunksOf, chunksLength, partLength, partsLength, settled}

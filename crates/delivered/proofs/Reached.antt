@@ -13,7 +13,7 @@ use Rattle.refusal.proofs.Tests.{both, neither}
 use Rattle.endian.specs.Place.{paste}
 use Rattle.sharding.specs.declared.Sharding.{Sharding}
 use Rattle.sharding.specs.Specification.{noSuchShard}
-use Rattle.sharding.specs.Place.{shardOf, minishardOf}
+use Rattle.placement.specs.Place.{shardOf, minishardOf}
 use Rattle.shard.specs.File.{indexLength}
 use Rattle.waiting.specs.Held.{pair, idHeld, sizeHeld}
 use Rattle.waiting.proofs.Pairs.{pair-id, pair-size}

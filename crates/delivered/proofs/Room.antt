@@ -11,8 +11,8 @@ use lib.Seq.{getD-at}
 use Rattle.refusal.specs.Checks.{firstNumber}
 use Rattle.sharding.specs.declared.Sharding.{Sharding}
 use Rattle.sharding.specs.Specification.{minishardCount}
-use Rattle.sharding.specs.Place.{minishardOf}
-use Rattle.sharding.proofs.Placed.{minishard-below}
+use Rattle.placement.specs.Place.{minishardOf}
+use Rattle.placement.proofs.Placed.{minishard-below}
 use Rattle.shard.specs.File.{indexLength}
 use Rattle.shard.specs.Items.{Item}
 use Rattle.form.specs.Form.{partsLength, settled, settledLength}

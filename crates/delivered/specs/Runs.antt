@@ -6,7 +6,7 @@ use mathlib.Core.List.{List, [], _∷_}
 use lib.Dec.{eqb}
 use Rattle.refusal.specs.Choice.{pick}
 use Rattle.sharding.specs.declared.Sharding.{Sharding}
-use Rattle.sharding.specs.Place.{shardOf}
+use Rattle.placement.specs.Place.{shardOf}
 use Rattle.shard.specs.Sound.{SoundShard}
 use Rattle.form.specs.Content.{fileContent, fileForm}
 use Rattle.intakestate.specs.declared.Intake.{Intake}

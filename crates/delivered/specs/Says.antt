@@ -7,7 +7,7 @@ use lib.ListN.{length}
 use Rattle.refusal.specs.Checks.{Check, check}
 use Rattle.sharding.specs.declared.Sharding.{Sharding}
 use Rattle.sharding.specs.Specification.{noSuchShard}
-use Rattle.sharding.specs.Place.{shardOf, minishardOf}
+use Rattle.placement.specs.Place.{shardOf, minishardOf}
 use Rattle.shard.specs.Items.{Item}
 use Rattle.form.specs.Form.{settled}
 use Rattle.intakestate.specs.State.{most, notVolume}

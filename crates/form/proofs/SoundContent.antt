@@ -8,7 +8,7 @@ use native.Mathlib.Nat.{not-suc-le-zero}
 use lib.ListN.{length, getD}
 use Rattle.sharding.specs.declared.Sharding.{Sharding}
 use Rattle.sharding.specs.Specification.{isMesh, minishardCount}
-use Rattle.sharding.specs.Place.{shardOf, minishardOf}
+use Rattle.placement.specs.Place.{shardOf, minishardOf}
 use Rattle.manifest.specs.Soundness.{Sound}
 use Rattle.index.specs.Index.{entryCount, idSteps, idAt, mostShardBytes}
 use Rattle.shard.specs.File.{indexPart, dataPart}

@@ -25,7 +25,7 @@ use Rattle.formwriting.specs.Entry.{entryBytes}
 use Rattle.form.proofs.Measures.{length-part, length-items, chunks-by-id, length-by-id, part-by-id, length-shard-index, length-content-from}
 use Rattle.formlength.proofs.Lengths.{stored-length, sorted-length, none-items, ordered-read, readable-read, leads-read, none-length-read, content-none, from, from-cons, length-next, length-none, each-at, entry-at, permitted-shard, whole-content, whole-length, parts-counted}
 use Rattle.minishard.specs.Writing.{Apart, minishardLength}
-use Rattle.sorted.proofs.Copying.{paste-both}
+use Rattle.itemruns.proofs.Copying.{paste-both}
 
 -- ---- one minishard and its entry
 

@@ -14,7 +14,8 @@ use Rattle.sharding.specs.declared.Sharding.{Sharding}
 use Rattle.sharding.specs.Specification.{isMesh}
 use Rattle.manifest.specs.Verdict.{verdict}
 use Rattle.manifest.proofs.Sounds.{sound-only}
-use Rattle.nodes.specs.Nodes.{hasNode, fragmentSize, fragmentStart, fragmentsLength}
+use Rattle.fragmentsums.specs.Sums.{fragmentSize}
+use Rattle.nodes.specs.Nodes.{hasNode, fragmentStart, fragmentsLength}
 use Rattle.nodes.proofs.Fragments.{fragment-within}
 use Rattle.index.specs.Index.{mostShardBytes}
 use Rattle.shard.specs.File.{indexLength}

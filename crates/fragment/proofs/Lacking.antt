@@ -15,7 +15,7 @@ use Rattle.endian.specs.Range.{anyBelow}
 use Rattle.endian.proofs.Ranges.{first-holds}
 use Rattle.sharding.specs.declared.Sharding.{Sharding}
 use Rattle.sharding.specs.Specification.{isMesh, allowed, noSuchShard}
-use Rattle.sharding.specs.Place.{shardOf, minishardOf}
+use Rattle.placement.specs.Place.{shardOf, minishardOf}
 use Rattle.nodes.specs.Nodes.{hasNode}
 use Rattle.index.specs.Index.{entryStart, entryEnd, entryCount, idSteps}
 use Rattle.shard.specs.Faults.{faultOf}

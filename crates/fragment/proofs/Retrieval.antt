@@ -8,8 +8,9 @@ use lib.ListN.{length, take, drop, length-drop}
 use lib.Seq.{length-take-le, take-take, drop-drop}
 use Rattle.sharding.specs.declared.Sharding.{Sharding}
 use Rattle.sharding.specs.Specification.{isMesh}
-use Rattle.sharding.specs.Place.{minishardOf}
-use Rattle.nodes.specs.Nodes.{hasNode, fragmentSize, fragmentStart, fragmentsLength}
+use Rattle.placement.specs.Place.{minishardOf}
+use Rattle.fragmentsums.specs.Sums.{fragmentSize}
+use Rattle.nodes.specs.Nodes.{hasNode, fragmentStart, fragmentsLength}
 use Rattle.nodes.specs.Run.{fragmentOf, joined}
 use Rattle.nodes.proofs.Fragments.{fragment-within, tiles}
 use Rattle.index.specs.Index.{entryStart, entryEnd, entryCount, startSteps, sizes, startAt, chunkAt}

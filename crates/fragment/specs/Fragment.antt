@@ -6,7 +6,8 @@ use mathlib.Core.List.{List, [], _∷_, _++_}
 use Rattle.refusal.specs.Checks.{Check, check, answered, answeredAt}
 use Rattle.sharding.specs.declared.Sharding.{Sharding}
 use Rattle.sharding.specs.Specification.{isMesh}
-use Rattle.nodes.specs.Nodes.{hasNode, fragmentSize, fragmentStart, fragmentsLength}
+use Rattle.fragmentsums.specs.Sums.{fragmentSize}
+use Rattle.nodes.specs.Nodes.{hasNode, fragmentStart, fragmentsLength}
 use Rattle.shard.specs.File.{indexPart, dataPart}
 use Rattle.idsearch.specs.declared.LookupAnswer.{LookupAnswer}
 use Rattle.idsearch.specs.declared.LookupAnswer.the-variants.{Found, Refused, Faulty}

@@ -7,7 +7,7 @@ use mathlib.Core.List.{List}
 use lib.ListN.{length, take, drop}
 use Rattle.sharding.specs.declared.Sharding.{Sharding}
 use Rattle.sharding.specs.Specification.{isMesh}
-use Rattle.sharding.specs.Place.{minishardOf}
+use Rattle.placement.specs.Place.{minishardOf}
 use Rattle.nodes.specs.Nodes.{hasNode, fragmentStart, fragmentsLength}
 use Rattle.shard.specs.File.{indexLength, indexPart, dataPart}
 use Rattle.shard.specs.Sound.{SoundMinishard}

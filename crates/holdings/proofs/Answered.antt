@@ -17,7 +17,8 @@ use Rattle.measure.specs.declared.Counts.{Counts}
 use Rattle.measure.specs.declared.MeasureAnswer.{MeasureAnswer}
 use Rattle.measure.specs.declared.MeasureAnswer.the-variants as M
 use Rattle.measure.specs.Measures.{chunkBytes, measureOf}
-use Rattle.measure.specs.Answers.{mostTotal, passes, measuredIn, afterVerdict, measureAnswer, pairMeasure}
+use Rattle.chunksums.specs.Totals.{mostTotal, passes}
+use Rattle.measure.specs.Answers.{measuredIn, afterVerdict, measureAnswer, pairMeasure}
 use Rattle.measure.proofs.Answered.{measured-pick}
 use Rattle.shardsheet.specs.declared.Sheet.{Sheet}
 use Rattle.holdings.specs.declared.SheetAnswer.{SheetAnswer}

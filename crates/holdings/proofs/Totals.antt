@@ -7,7 +7,7 @@ use native.Mathlib.Omega.{arith}
 use borrow.Author.Needs.{needs}
 use borrow.Author.Tests.{ltb-false}
 use Rattle.refusal.proofs.Tests.{neither}
-use Rattle.measure.specs.Answers.{mostTotal, passes}
+use Rattle.chunksums.specs.Totals.{mostTotal, passes}
 use Rattle.shardsheet.specs.declared.Sheet.{Sheet}
 use Rattle.shardsheet.specs.Sheet.{rows}
 use Rattle.sheettotals.specs.Totals.{anyPasses, both}

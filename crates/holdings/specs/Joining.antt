@@ -2,7 +2,7 @@
 use Prim.Native.Nat.{ℕ, _+_}
 use mathlib.Core.Path.{_≡_}
 use mathlib.Core.Bool.{false}
-use Rattle.measure.specs.Answers.{passes}
+use Rattle.chunksums.specs.Totals.{passes}
 use Rattle.shardsheet.specs.declared.Sheet.{Sheet}
 use Rattle.shardsheet.specs.Sheet.{rows}
 use Rattle.sheettotals.specs.Totals.{anyPasses, both}

@@ -43,6 +43,8 @@ module _ (s : List ℕ) (k : ℕ) where
     unfolding settingsOf
     of-scale e f = rw (sym eq ∙ e) f
 
+pub ruleset scales = (scale-none, scale-some, no-scale, of-scale, needs)
+
 -- ---- the answer
 
 pub first-is : (s : List ℕ) (k : ℕ) → firstNumber (infoChecks s k) ≡ pick (not (isJson deepest s)) 19 (pick (noSettings (settingsOf s k)) 20 (fault (recordOf (settingsOf s k))))
@@ -79,4 +81,4 @@ module _ (s : List ℕ) (k : ℕ) {t : Bool} (et : t ≡ isJson deepest s) where
       pub info-says : f ≡ 0 → Says c ≡ infoAnswer s k
       info-says z = sym (by-fault ∙ unless-none Refused f (Says c) z)
 
-pub ruleset answers = (scale-none, scale-some, no-scale, of-scale, info-19, info-20, info-refused, info-says, needs)
+pub ruleset answers = (info-19, info-20, info-refused, info-says, needs)

@@ -14,7 +14,7 @@ use scale::Settings;
 pub fn read_info(text: &[u8], scale: u64) -> CardAnswer
     ensures answer { λ r. ⌜ r ≡ infoAnswer (now (text .entry)) scale ⌝ }
 {
-    if !json::is_json(text) {
+    if !jsontext::is_json(text) {
         return CardAnswer::Refused(19);
     }
     let Settings::Are(card) = parts::settings_of(text, scale) else {

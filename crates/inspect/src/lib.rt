@@ -9,7 +9,7 @@ ghost use Rattle.index.specs.Index.{mostShardBytes};
 ghost use Rattle.shard.specs.File.{indexLength, indexPart, dataPart, checkAnswer};
 use judge::first_fault;
 use shard::CheckAnswer;
-use shard::faults::ShardFault;
+use shard::ShardFault;
 use shard::inner::MOST_SHARD_BYTES;
 use shard::inner::index_length;
 use sharding::Sharding;

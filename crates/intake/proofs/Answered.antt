@@ -11,7 +11,7 @@ use Rattle.refusal.proofs.Refusing.{by-number, by-none}
 use Rattle.endian.specs.Place.{paste}
 use Rattle.sharding.specs.declared.Sharding.{Sharding}
 use Rattle.sharding.specs.Specification.{allowed}
-use Rattle.sharding.specs.Place.{minishardOf}
+use Rattle.placement.specs.Place.{minishardOf}
 use Rattle.shard.specs.File.{indexLength}
 use Rattle.waiting.specs.Held.{pair}
 use Rattle.intakestate.specs.declared.Intake.{Intake}

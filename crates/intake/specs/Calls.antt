@@ -6,7 +6,7 @@ use lib.ListN.{length, replicate}
 use Rattle.refusal.specs.Checks.{answered, left}
 use Rattle.endian.specs.Place.{paste}
 use Rattle.sharding.specs.declared.Sharding.{Sharding}
-use Rattle.sharding.specs.Place.{minishardOf}
+use Rattle.placement.specs.Place.{minishardOf}
 use Rattle.shard.specs.File.{indexLength}
 use Rattle.waiting.specs.Held.{pair}
 use Rattle.intakestate.specs.declared.Intake.{Intake}

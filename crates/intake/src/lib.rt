@@ -5,6 +5,7 @@ use admission::inner::announce_refusal;
 use admission::inner::close_refusal;
 use admission::inner::open_refusal;
 use admission::inner::part_refusal;
+use intakeplaces::inner::put_entries;
 use intakestate::Intake;
 use intakesteps::inner;
 use intaketests::inner::announced_length;
@@ -32,7 +33,7 @@ pub fn open(spec: Sharding, shard: u64, out: &mut [u8], waiting: &[u8]) -> Intak
     if number != 0 {
         return IntakeAnswer::Refused(number);
     }
-    inner::put_entries(spec, out);
+    put_entries(spec, out);
     IntakeAnswer::Next(inner::first(spec, shard, output, waiting.len()))
 }
 

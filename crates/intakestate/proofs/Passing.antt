@@ -11,8 +11,8 @@ use Rattle.refusal.specs.Choice.{pick}
 use Rattle.refusal.proofs.Tests.{both, neither}
 use Rattle.sharding.specs.declared.Sharding.{Sharding}
 use Rattle.sharding.specs.Specification.{isMesh, allowed, minishardCount, minishardBits, noSuchShard}
-use Rattle.sharding.specs.Place.{shardOf, minishardOf}
-use Rattle.sharding.proofs.Placed.{minishard-below}
+use Rattle.placement.specs.Place.{shardOf, minishardOf}
+use Rattle.placement.proofs.Placed.{minishard-below}
 use Rattle.intakestate.specs.declared.Intake.{Intake}
 use Rattle.intakestate.specs.State.{most, announcedLength, notVolume, fresh, placed, begun, waits, going, sane}
 

@@ -1,4 +1,4 @@
-// The state of an intake in plain numbers, and whether it is one that calls could have left.
+// The state of an intake in plain numbers, and tests of its last chunk.
 pub mod inner;
 
 use sharding::Sharding;

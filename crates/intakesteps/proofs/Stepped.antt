@@ -14,7 +14,7 @@ use borrow.Author.Tests.{eq-eqb, ne-eqb}
 use Rattle.refusal.specs.Checks.{firstNumber}
 use Rattle.endian.specs.Place.{paste}
 use Rattle.sharding.specs.Specification.{allowed}
-use Rattle.sharding.specs.Place.{minishardOf}
+use Rattle.placement.specs.Place.{minishardOf}
 use Rattle.shard.specs.File.{indexLength}
 use Rattle.waiting.specs.Held.{pair, indexHeld}
 use Rattle.intakestate.specs.declared.Intake.{Intake}

@@ -6,7 +6,7 @@ use lib.Dec.{eqb}
 use Rattle.refusal.specs.Choice.{pick}
 use Rattle.endian.specs.Place.{paste}
 use Rattle.sharding.specs.declared.Sharding.{Sharding}
-use Rattle.sharding.specs.Place.{minishardOf}
+use Rattle.placement.specs.Place.{minishardOf}
 use Rattle.shard.specs.File.{indexLength}
 use Rattle.waiting.specs.Held.{pair, indexHeld}
 use Rattle.intakestate.specs.declared.Intake.{Intake}

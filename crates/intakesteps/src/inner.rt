@@ -1,12 +1,12 @@
 // What the calls do once no test refuses them.
 ghost use mathlib.Core.Path.{_≡_};
 ghost use mathlib.Core.Bool.{true};
-ghost use Prim.Native.Nat.{_+_, _*_, _<_, _≤_};
-ghost use lib.ListN.{length, replicate};
+ghost use Prim.Native.Nat.{_+_, _*_, _≤_};
+ghost use lib.ListN.{length};
 ghost use Rattle.refusal.specs.Checks.{firstNumber};
 ghost use Rattle.endian.specs.Place.{paste};
 ghost use Rattle.sharding.specs.Specification.{allowed};
-ghost use Rattle.sharding.specs.Place.{minishardOf};
+ghost use Rattle.placement.specs.Place.{minishardOf};
 ghost use Rattle.shard.specs.File.{indexLength};
 ghost use Rattle.waiting.specs.Held.{pair};
 ghost use Rattle.intakestate.specs.State.{announcedLength, Usable};
@@ -14,11 +14,10 @@ ghost use Rattle.intaketests.specs.Tests.{countIn};
 ghost use Rattle.admission.specs.Refusals.{announceChecks};
 ghost use Rattle.intakesteps.specs.Steps.{endedLeft, turned, turnedLeft, opened, announced, taken, closed};
 use copying::inner::copy_bytes;
-use copying::inner::fill_zero;
+use intakeplaces::inner::next_place;
 use intakestate::Intake;
-use shard::inner::index_length;
+use placement::inner::minishard_of;
 use sharding::Sharding;
-use sharding::inner::minishard_of;
 use waiting::inner::put_index;
 use waiting::inner::put_pair;
 
@@ -46,23 +45,6 @@ pub fn last(state: Intake) -> Intake
     let mut next = state;
     next.phase = 1;
     next
-}
-
-// The shard index of a shard with no chunk: 0, 0 for each minishard.
-pub fn put_entries(spec: Sharding, out: &mut [u8])
-    requires { ⌜ (allowed spec ≡ true) × (indexLength spec ≤ length (now out)) ⌝ }
-    ensures { λ _. ⌜ now (out .exit) ≡ paste 0 (replicate (indexLength spec) 0) (now (out .entry)) ⌝ }
-{
-    let end = index_length(spec);
-    fill_zero(out, 0, end);
-}
-
-// Where the next byte goes.
-fn next_place(state: Intake) -> usize
-    requires { ⌜ (allowed (state .spec) ≡ true) × (announcedLength state < 18446744073709551616) ⌝ }
-    ensures { λ r. ⌜ r ≡ indexLength (state .spec) + state .next ⌝ }
-{
-    index_length(state.spec) + state.next
 }
 
 // Ends the open minishard: its minishard index, and its entry in the shard index.

@@ -7,7 +7,7 @@ use lib.Dec.{eqb}
 use borrow.Author.Tests.{ltb-false, eqb-true, not-false}
 use Rattle.refusal.proofs.Tests.{neither}
 use Rattle.sharding.specs.Specification.{allowed}
-use Rattle.sharding.specs.Place.{shardOf, minishardOf}
+use Rattle.placement.specs.Place.{shardOf, minishardOf}
 use Rattle.intakestate.specs.declared.Intake.{Intake}
 use Rattle.intakestate.specs.State.{waits, sane, Usable}
 use Rattle.intaketests.specs.Tests.{otherLengths, foreign, unusable, outOfOrder}

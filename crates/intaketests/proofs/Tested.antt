@@ -9,7 +9,7 @@ use borrow.Author.Needs.{needs}
 use borrow.Author.Tests.{ltb-true, ltb-false, lt-ltb, le-ltb, eq-eqb, ne-eqb}
 use Rattle.refusal.proofs.Tests.{told-no, told-yes}
 use Rattle.sharding.specs.Specification.{allowed}
-use Rattle.sharding.specs.Place.{shardOf, minishardOf}
+use Rattle.placement.specs.Place.{shardOf, minishardOf}
 use Rattle.intakestate.specs.declared.Intake.{Intake}
 use Rattle.intakestate.specs.State.{most, announcedLength, sane}
 use Rattle.intaketests.specs.Tests.{otherLengths, foreign, unusable, outOfOrder, countIn, noRoom}

@@ -4,15 +4,15 @@ ghost use mathlib.Core.Bool.{true};
 ghost use Prim.Native.Nat.{_*_, _≤_};
 ghost use lib.ListN.{length};
 ghost use Rattle.sharding.specs.Specification.{allowed};
-ghost use Rattle.sharding.specs.Place.{minishardOf};
+ghost use Rattle.placement.specs.Place.{minishardOf};
 ghost use Rattle.intakestate.specs.State.{most, announcedLength};
 ghost use Rattle.intaketests.specs.Tests.{otherLengths, foreign, unusable, outOfOrder, countIn, noRoom};
+use intakesanity::inner::is_sane;
+use intakesanity::inner::most_bytes;
 use intakestate::Intake;
-use intakestate::inner::is_sane;
-use intakestate::inner::most_bytes;
+use placement::inner::shard_of;
 use shard::inner::index_length;
 use sharding::inner::is_allowed;
-use sharding::inner::shard_of;
 
 // ---- after the opening
 

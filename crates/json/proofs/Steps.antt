@@ -2,12 +2,10 @@
 use Prim.Native.Nat.{ℕ, zero, suc, _+_, _-_, _<_, _≤_}
 use mathlib.Core.Path.{_≡_, refl, sym, ap, _∙_}
 use mathlib.Core.List.{List}
-use mathlib.Core.Bool.{false}
 use native.Mathlib.Omega.{arith}
 use native.Mathlib.Numerals.{sub-one}
 use borrow.Author.Needs.{needs}
 use lib.ListN.{length, getD}
-use lib.Dec.{eqb}
 use Rattle.text.specs.Bytes.{choose, same}
 use Rattle.text.specs.Parts.{ws, markAt, closeAt, wordAt}
 use Rattle.text.specs.Numbers.{numberAt}
@@ -16,7 +14,7 @@ use Rattle.text.specs.declared.Found.the-variants.{At, Nothing}
 use Rattle.text.proofs.Laws.{if-eq, if-ne, then-at, then-nothing, at-byte}
 use Rattle.text.proofs.Steps.{mark-room}
 use Rattle.strings.specs.Chars.{stringAt}
-use Rattle.json.specs.Grammar.{endOf, scalarAt, itemsAt, listAt, memberAt, valueAt, endsAt, isJson}
+use Rattle.json.specs.Grammar.{endOf, scalarAt, itemsAt, listAt, memberAt, valueAt}
 use Rattle.json.proofs.Ahead.{Ahead, value-ahead, member-ahead, mark-ahead}
 use Rattle.json.proofs.Turns.{items-none, items-last, items-on, mark-most}
 
@@ -180,16 +178,3 @@ module _ {item : ℕ → Found} {close : ℕ} {s : List ℕ} {at i : ℕ} (k : L
       list-less = omega (arith, onward, mark-most 44 s e j (omega arith) (sym eq ∙ t))
 
 pub ruleset listing = (mark-room, list-empty, array-start, object-start, list-bad, list-last, list-on, list-less, needs)
-
--- ---- a whole text
-
-module _ (d : ℕ) (s : List ℕ) {j : ℕ} (ej : j ≡ ws s 0) {e : ℕ} (ee : e ≡ endOf (valueAt d s j)) where
-  pub json-none : e ≡ 0 → false ≡ isJson d s
-  unfolding isJson endsAt
-  json-none z = rw (← ej, no-end j (valueAt d s j) (value-ahead d s j) ee z)
-
-  pub json-ends : {k : ℕ} → (e ≡ 0 → ⊥) → k ≡ ws s e → eqb k (length s) ≡ isJson d s
-  unfolding isJson endsAt same
-  json-ends z w = rw (← ej, some-end (valueAt d s j) ee z, ← w)
-
-pub ruleset whole = (json-none, json-ends, needs)

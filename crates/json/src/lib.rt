@@ -1,6 +1,6 @@
 // JSON text (RFC 8259): where its values end, to a depth.
 ghost use mathlib.Core.Path.{_≡_};
-ghost use Rattle.json.specs.Grammar.{deepest, endOf, scalarAt, listAt, memberAt, valueAt, isJson};
+ghost use Rattle.json.specs.Grammar.{endOf, scalarAt, listAt, memberAt, valueAt};
 use text::Found;
 
 fn skip_scalar(s: &[u8], at: usize) -> Found
@@ -97,14 +97,4 @@ fn skip_member(s: &[u8], at: usize, depth: usize) -> usize
         return 0;
     };
     skip_value(s, j, depth)
-}
-
-pub fn is_json(s: &[u8]) -> bool
-    ensures { λ r. ⌜ r ≡ isJson deepest (now (s .entry)) ⌝ }
-{
-    let e = skip_value(s, text::skip_ws(s, 0), 32);
-    if e == 0 {
-        return false;
-    }
-    text::skip_ws(s, e) == s.len()
 }

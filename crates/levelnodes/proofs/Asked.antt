@@ -1,6 +1,6 @@
 -- The answer to the question of a level's nodes, by the tests that lead to it; v is what the judge gave.
-use Prim.Native.Nat.{ℕ, _+_, _*_, _≤_, _<_}
-use mathlib.Core.Path.{_≡_, refl, sym, ap, _∙_}
+use Prim.Native.Nat.{ℕ, _*_, _≤_, _<_}
+use mathlib.Core.Path.{_≡_, refl, ap, _∙_}
 use mathlib.Core.Bool.{false, not}
 use mathlib.Core.List.{List}
 use native.Mathlib.Omega.{arith}
@@ -14,8 +14,9 @@ use Rattle.layout.specs.Layout.{levelsOf, countOf}
 use Rattle.manifest.specs.Verdict.{verdict}
 use Rattle.manifest.proofs.Judged.{fails, passes, passed, refused-first, given-first}
 use Rattle.nodes.specs.Nodes.{hasLevel}
-use Rattle.levelnodes.specs.Level.{nodesOf, nodesChecks, nodesAnswer, nodesLeft}
-use Rattle.levelnodes.proofs.Listed.{length-nodes}
+use Rattle.nodenumbers.specs.Numbers.{nodesOf}
+use Rattle.levelnodes.specs.Level.{nodesChecks, nodesAnswer, nodesLeft}
+use Rattle.nodenumbers.proofs.Listed.{length-nodes}
 
 module _ (s : List ℕ) {v : ℕ} (e : v ≡ verdict s) where
   module _ (l : ℕ) (out : List ℕ) where

@@ -18,8 +18,9 @@ use Rattle.nodes.specs.declared.Node.{Node}
 use Rattle.nodes.specs.declared.NodeAnswer.the-variants as N
 use Rattle.nodes.proofs.Asked.{node-given}
 use Rattle.nodes.proofs.Fragments.{node-is}
-use Rattle.levelnodes.specs.Level.{numbersOf, numbersFrom, nodesOf, nodesChecks, nodesAnswer, nodesLeft}
-use Rattle.levelnodes.proofs.Listed.{length-numbers, length-nodes}
+use Rattle.nodenumbers.specs.Numbers.{numbersOf, numbersFrom, nodesOf}
+use Rattle.levelnodes.specs.Level.{nodesChecks, nodesAnswer, nodesLeft}
+use Rattle.nodenumbers.proofs.Listed.{length-numbers, length-nodes}
 
 -- ---- the numbers of each node
 

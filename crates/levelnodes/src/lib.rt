@@ -1,6 +1,4 @@
 // The nodes of a manifest: all of a level.
-mod level;
-
 ghost use mathlib.Core.Path.{_≡_};
 ghost use Rattle.levelnodes.specs.Level.{nodesAnswer, nodesLeft};
 use refusal::Written;
@@ -23,6 +21,6 @@ pub fn nodes_of(bytes: &[u8], level: u32, out: &mut [u64]) -> Written
     if out.len() < 5 * n {
         return Written::Refused(13);
     }
-    level::put_level(bytes, levels, l, n, out);
+    nodenumbers::inner::put_level(bytes, levels, l, n, out);
     Written::Length(5 * n)
 }

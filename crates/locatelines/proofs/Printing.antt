@@ -21,9 +21,9 @@ use Rattle.names.specs.Shards.{shardName}
 use Rattle.digits.proofs.Numerals.{decimal-twenty}
 use Rattle.names.proofs.Sharded.{name-most}
 use Rattle.names.proofs.Texts.{first-room, between-fits, between-room, all-put}
-use Rattle.sharding.specs.Place.{placeOf}
+use Rattle.placement.specs.Place.{placeOf}
 use Rattle.sharding.specs.Specification.{allowed}
-use Rattle.sharding.specs.declared.Place.{Place}
+use Rattle.placement.specs.declared.Place.{Place}
 use Rattle.sharding.specs.declared.Sharding.{Sharding}
 use Rattle.locatelines.specs.Lines.{ending, refusedWord, refusedLine, filed, keyed, lineIn, lineRoom}
 use Rattle.locatelines.specs.Cells.{cellAt, linesBy}

@@ -11,8 +11,8 @@ use Rattle.morton.specs.declared.KeyAnswer.{KeyAnswer}
 use Rattle.morton.specs.declared.KeyAnswer.the-variants.{Key, Refused as KeyRefused}
 use Rattle.digits.specs.Digits.{decimal}
 use Rattle.names.specs.Shards.{shardName}
-use Rattle.sharding.specs.Place.{placeOf}
-use Rattle.sharding.specs.declared.Place.{Place}
+use Rattle.placement.specs.Place.{placeOf}
+use Rattle.placement.specs.declared.Place.{Place}
 use Rattle.sharding.specs.declared.Sharding.{Sharding}
 use Rattle.card.specs.declared.Card.{Card}
 

@@ -7,15 +7,15 @@ ghost use Rattle.endian.specs.Place.{paste};
 ghost use Rattle.morton.specs.Key.{keyBits};
 ghost use Rattle.sharding.specs.Specification.{allowed};
 ghost use Rattle.spread.specs.Spread.{Spreads};
-ghost use Rattle.spread.specs.Parts.{Planned};
+ghost use Rattle.keyplan.specs.Parts.{Planned};
 ghost use Rattle.locatelines.specs.Lines.{lineIn, lineRoom};
 ghost use Rattle.locatelines.specs.Cells.{cellAt, linesBy};
 use crate::lines;
 use endian::inner;
 use grid::Cell;
 use grid::Extents;
+use keyplan::Plan;
 use sharding::Sharding;
-use spread::Plan;
 
 fn cell_at(s: &[u8], at: usize) -> Cell
     requires { ⌜ at + 12 ≤ length (now s) ⌝ }
@@ -57,5 +57,5 @@ pub fn put_lines(out: &mut [u8], spec: Sharding, grid: Extents, cells: &[u8], n:
     ensures { λ _. ⌜ now (out .exit) ≡ paste 0 (linesBy (lineIn spec grid) n (now (cells .entry)) 0) (now (out .entry)) ⌝ }
 {
     let table = spread::table::spread_bytes();
-    put_planned(out, spec, spread::inner::plan(grid), &table, cells, n)
+    put_planned(out, spec, keyplan::inner::plan(grid), &table, cells, n)
 }

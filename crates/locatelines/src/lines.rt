@@ -6,13 +6,13 @@ ghost use lib.ListN.{length};
 ghost use Rattle.endian.specs.Place.{paste};
 ghost use Rattle.sharding.specs.Specification.{allowed};
 ghost use Rattle.spread.specs.Spread.{Spreads};
-ghost use Rattle.spread.specs.Parts.{Planned};
+ghost use Rattle.keyplan.specs.Parts.{Planned};
 ghost use Rattle.locatelines.specs.Lines.{ending, refusedLine, filed, keyed, lineIn, lineRoom};
 use endian::inner;
 use grid::Cell;
-use sharding::Place;
+use keyplan::Plan;
+use placement::Place;
 use sharding::Sharding;
-use spread::Plan;
 
 // A number that ends its line.
 fn put_ending(out: &mut [u8], at: usize, v: u64) -> usize
@@ -40,7 +40,7 @@ fn put_filed(out: &mut [u8], at: usize, spec: Sharding, place: Place) -> usize
     ensures { λ r. ⌜ r ≡ at + length (filed spec place) ⌝ }
     ensures { λ _. ⌜ now (out .exit) ≡ paste at (filed spec place) (now (out .entry)) ⌝ }
 {
-    let m = names::inner::put_file_name(out, at, spec, place.shard, names::FileKind::Shard);
+    let m = namewriting::inner::put_file_name(out, at, spec, place.shard, names::FileKind::Shard);
     inner::put_byte(out, m, b' ');
     put_ending(out, m + 1, place.minishard)
 }
@@ -71,7 +71,7 @@ pub fn put_line(
     if !grid::inner::inside(plan.grid, cell) {
         return put_refused(out, at, 2);
     }
-    let key = spread::inner::key_by_table(plan, cell, table);
-    let place = sharding::inner::place(spec, key);
+    let key = tablekeys::inner::key_by_table(plan, cell, table);
+    let place = placement::inner::place(spec, key);
     put_keyed(out, at, spec, key, place)
 }

@@ -21,7 +21,7 @@ use Rattle.grid.specs.declared.Extents.{Extents}
 use Rattle.morton.specs.declared.KeyAnswer.the-variants.{Key, Refused as KeyRefused}
 use Rattle.morton.proofs.Answered.{key-by-picks}
 use Rattle.morton.proofs.Laws.{few-bits}
-use Rattle.sharding.specs.Place.{placeOf}
+use Rattle.placement.specs.Place.{placeOf}
 use Rattle.sharding.specs.Specification.{allowed}
 use Rattle.sharding.specs.declared.Sharding.{Sharding}
 use Rattle.card.specs.declared.Card.{Card}

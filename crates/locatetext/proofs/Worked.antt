@@ -11,7 +11,7 @@ use Rattle.morton.specs.Answers.{keyChecks, keyAnswer}
 use Rattle.digits.specs.Digits.{digitByte, digits, countTo, digitCount, decimal}
 use Rattle.names.specs.Shards.{shardDigits, fileName}
 use Rattle.sharding.specs.Specification.{volume, mesh, allowed}
-use Rattle.sharding.specs.Place.{hashedId, minishardOf, shardOf}
+use Rattle.placement.specs.Place.{hashedId, minishardOf, shardOf}
 use Rattle.refusal.specs.Checks.{firstNumber, unless}
 use Rattle.card.specs.declared.Card.{Card}
 use Rattle.card.specs.Layout.{head, field, oneByte, three, shardingBytes, extentsBytes, offsetBytes, volumeBytes, kindBytes, cardBytes}

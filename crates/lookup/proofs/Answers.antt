@@ -12,7 +12,7 @@ use Rattle.refusal.proofs.Tests.{told-no, told-yes}
 use Rattle.refusal.proofs.Positions.{at-both}
 use Rattle.sharding.specs.declared.Sharding.{Sharding}
 use Rattle.sharding.specs.Specification.{allowed, shardCount, noSuchShard}
-use Rattle.sharding.specs.Place.{shardOf}
+use Rattle.placement.specs.Place.{shardOf}
 use Rattle.index.specs.Index.{mostShardBytes}
 use Rattle.shard.specs.File.{indexLength, indexPart, dataPart, badFileLength, fileChecks}
 use Rattle.shard.proofs.Numbers.{file-in, file-picks, file-answer}

@@ -15,8 +15,8 @@ use Rattle.endian.proofs.Ranges.{first-lt}
 use Rattle.endian.proofs.Little.{leAt-drop, leAt-take}
 use Rattle.sharding.specs.declared.Sharding.{Sharding}
 use Rattle.sharding.specs.Specification.{isMesh, minishardCount}
-use Rattle.sharding.specs.Place.{minishardOf}
-use Rattle.sharding.proofs.Placed.{minishard-below}
+use Rattle.placement.specs.Place.{minishardOf}
+use Rattle.placement.proofs.Placed.{minishard-below}
 use Rattle.index.specs.Index.{entryStart, entryEnd, entryCount, idSteps, startSteps, sizes, idAt, startAt, chunkAt}
 use Rattle.manifests.specs.Mesh.{wrongLength, badReal, unorderedNodes, fragmentsOutside, manifestTests}
 use Rattle.shard.specs.Faults.{badEntry, badId, foreignAt, outside, meshTests, entryTests, faultAt, faultOf}

@@ -12,7 +12,7 @@ use mir.Syntax.{w64}
 use Rattle.refusal.specs.Checks.{unless}
 use Rattle.sharding.specs.declared.Sharding.{Sharding}
 use Rattle.sharding.specs.Specification.{noSuchShard}
-use Rattle.sharding.specs.Place.{shardOf, minishardOf}
+use Rattle.placement.specs.Place.{shardOf, minishardOf}
 use Rattle.index.specs.Index.{entryStart, entryEnd, entryCount, mostShardBytes}
 use Rattle.shard.specs.Faults.{faultOf}
 use Rattle.shard.specs.File.{indexLength, indexPart, dataPart}

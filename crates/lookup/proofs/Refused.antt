@@ -9,7 +9,7 @@ use Rattle.refusal.proofs.Picks.{AllIn, all-in-both}
 use Rattle.refusal.proofs.Positions.{refusing-at}
 use Rattle.sharding.specs.declared.Sharding.{Sharding}
 use Rattle.sharding.specs.Specification.{noSuchShard}
-use Rattle.sharding.specs.Place.{shardOf, minishardOf}
+use Rattle.placement.specs.Place.{shardOf, minishardOf}
 use Rattle.shard.specs.Checks.{minishardChecks}
 use Rattle.shard.specs.File.{indexPart, dataPart, fileChecks}
 use Rattle.shard.proofs.Numbers.{minishard-in, file-in}

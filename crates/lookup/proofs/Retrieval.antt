@@ -14,8 +14,8 @@ use Rattle.endian.specs.Range.{first}
 use Rattle.endian.proofs.Ranges.{any-no, first-hit}
 use Rattle.sharding.specs.declared.Sharding.{Sharding}
 use Rattle.sharding.specs.Specification.{shardCount, noSuchShard}
-use Rattle.sharding.specs.Place.{shardOf, minishardOf}
-use Rattle.sharding.proofs.Placed.{shard-below}
+use Rattle.placement.specs.Place.{shardOf, minishardOf}
+use Rattle.placement.proofs.Placed.{shard-below}
 use Rattle.index.specs.declared.Fault.{Fault}
 use Rattle.index.specs.Index.{entryStart, entryEnd, entryCount, idSteps, startSteps, sizes, idAt, startAt}
 use Rattle.shard.specs.File.{indexLength, indexPart, dataPart}

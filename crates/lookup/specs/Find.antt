@@ -8,7 +8,7 @@ use lib.ListN.{take, drop}
 use Rattle.refusal.specs.Checks.{Check, answeredAt}
 use Rattle.sharding.specs.declared.Sharding.{Sharding}
 use Rattle.sharding.specs.Specification.{noSuchShard}
-use Rattle.sharding.specs.Place.{shardOf}
+use Rattle.placement.specs.Place.{shardOf}
 use Rattle.shard.specs.File.{indexPart, dataPart, fileChecks}
 use Rattle.idsearch.specs.declared.LookupAnswer.{LookupAnswer}
 use Rattle.idsearch.specs.declared.LookupAnswer.the-variants.{Found, Refused, Faulty}

@@ -6,7 +6,7 @@ use mathlib.Core.List.{List}
 use lib.ListN.{length, take, drop}
 use Rattle.sharding.specs.declared.Sharding.{Sharding}
 use Rattle.sharding.specs.Specification.{isMesh, allowed}
-use Rattle.sharding.specs.Place.{shardOf, minishardOf}
+use Rattle.placement.specs.Place.{shardOf, minishardOf}
 use Rattle.index.specs.Index.{entryStart, entryEnd, entryCount, startSteps, sizes, startAt, chunkAt, mostShardBytes}
 use Rattle.shard.specs.File.{indexLength, indexPart, dataPart}
 use Rattle.idsearch.specs.declared.LookupAnswer.the-variants.{Found}

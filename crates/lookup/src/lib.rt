@@ -5,12 +5,12 @@ ghost use mathlib.Core.Path.{_≡_};
 ghost use Prim.Native.Nat.{_+_};
 ghost use Rattle.lookup.specs.Find.{lookupAnswer, partStart, partBytes};
 use idsearch::LookupAnswer;
+use placement::inner::shard_of;
 use shard::inner::MOST_SHARD_BYTES;
 use shard::inner::index_length;
 use sharding::Sharding;
 use sharding::inner::is_allowed;
 use sharding::inner::shard_count;
-use sharding::inner::shard_of;
 
 // The place and length of the chunk of an id, or the refusal.
 pub fn lookup(spec: Sharding, shard: u64, file: &[u8], id: u64) -> LookupAnswer

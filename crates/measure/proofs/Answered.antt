@@ -31,13 +31,14 @@ use Rattle.unlisted.proofs.Counted.{sound-ranged}
 use Rattle.form.specs.Content.{formLength}
 use Rattle.minishard.specs.Writing.{capped}
 use Rattle.formlength.specs.Settleable.{SettleableShard}
-use Rattle.settle.proofs.WriteAnswers.{sound-settleable}
+use Rattle.settleparts.proofs.WriteAnswers.{sound-settleable}
+use Rattle.chunksums.specs.declared.inner.Total.{Total}
+use Rattle.chunksums.specs.Reading.{SizedIn, SizedParts, Few}
+use Rattle.chunksums.specs.Totals.{sizesIn, passes, totalOf}
 use Rattle.measure.specs.declared.MeasureAnswer.{MeasureAnswer}
 use Rattle.measure.specs.declared.MeasureAnswer.the-variants.{Sound, Refused, Faulty}
-use Rattle.measure.specs.declared.inner.Total.{Total}
-use Rattle.measure.specs.Reading.{SizedIn, SizedParts, Few}
-use Rattle.measure.specs.Measures.{chunkCount, sizesIn, chunkBytes, measureOf}
-use Rattle.measure.specs.Answers.{passes, measuredIn, afterVerdict, measureAnswer, pairMeasure, totalOf}
+use Rattle.measure.specs.Measures.{chunkCount, chunkBytes, measureOf}
+use Rattle.measure.specs.Answers.{measuredIn, afterVerdict, measureAnswer, pairMeasure}
 
 -- ---- a shard that passed
 

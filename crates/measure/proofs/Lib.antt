@@ -1,3 +1,2 @@
 -- Laws of the measure.
-pub mod Counting
 pub mod Answered

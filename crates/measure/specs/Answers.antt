@@ -1,27 +1,16 @@
 -- What the measuring call answers: the refusals of the check, 27 where the sizes of the chunks together pass 2^64 - 1, or the measure (RULES H1).
 use Prim.Native.Nat.{ℕ}
-use mathlib.Core.Bool.{Bool}
 use mathlib.Core.List.{List, [], _∷_}
-use lib.Dec.{ltb}
-use Rattle.refusal.specs.Choice.{pick}
 use Rattle.refusal.specs.Checks.{check, answered}
 use Rattle.sharding.specs.declared.Sharding.{Sharding}
 use Rattle.shard.specs.declared.CheckAnswer.{CheckAnswer}
 use Rattle.shard.specs.declared.CheckAnswer.the-variants as C
 use Rattle.shard.specs.File.{indexPart, dataPart, checkAnswer}
 use Rattle.pair.specs.Answers.{pairCheck}
+use Rattle.chunksums.specs.Totals.{passes}
 use Rattle.measure.specs.declared.MeasureAnswer.{MeasureAnswer}
 use Rattle.measure.specs.declared.MeasureAnswer.the-variants.{Sound, Refused, Faulty}
-use Rattle.measure.specs.declared.inner.Total.{Total}
 use Rattle.measure.specs.Measures.{chunkBytes, measureOf}
-
--- the most that a total can be
-abbrev pub mostTotal : ℕ
-mostTotal = 18446744073709551615
-
--- a total passes it
-unfoldable pub passes : ℕ → Bool
-passes n = ltb mostTotal n
 
 -- of a shard of two parts that passed the check
 unfoldable pub measuredIn : Sharding → List ℕ → List ℕ → MeasureAnswer
@@ -40,8 +29,3 @@ measureAnswer spec shard file = afterVerdict (checkAnswer spec shard file) (meas
 -- of a pair: the index file is the shard index where the check passes, else 23 (RULES P1) (RULES H1)
 unfoldable pub pairMeasure : Sharding → ℕ → List ℕ → List ℕ → MeasureAnswer
 pairMeasure spec shard index d = afterVerdict (pairCheck spec shard index d) (measuredIn spec index d)
-
--- ---- a sum that may pass what 64 bits hold
-
-unfoldable pub totalOf : ℕ → Total
-totalOf n = record { passed = passes n; sum = pick (passes n) 0 n }

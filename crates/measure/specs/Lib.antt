@@ -1,4 +1,3 @@
 -- The measure of a shard (RULES H1).
 pub mod Measures
 pub mod Answers
-pub mod Reading

@@ -5,21 +5,17 @@ use mathlib.Core.List.{List}
 use Rattle.endian.specs.Range.{sumTo}
 use Rattle.sharding.specs.declared.Sharding.{Sharding}
 use Rattle.sharding.specs.Specification.{minishardCount}
-use Rattle.index.specs.Index.{entryStart, sizes}
 use Rattle.shard.specs.File.{indexPart, dataPart}
 use Rattle.ranges.specs.Ranges.{countIn}
 use Rattle.ranges.specs.Covered.{unlistedBytes}
 use Rattle.form.specs.Content.{formLength}
 use Rattle.minishard.specs.Writing.{capped}
+use Rattle.chunksums.specs.Totals.{sizesIn}
 use Rattle.measure.specs.declared.Counts.{Counts}
 
 -- "chunks listed": those of all minishards
 unfoldable pub chunkCount : Sharding → List ℕ → ℕ
 chunkCount spec index = sumTo (countIn index) (minishardCount spec)
-
--- the sizes of the chunks that minishard m lists, together: of manifests in a mesh, whose fragments are no chunks
-unfoldable pub sizesIn : List ℕ → List ℕ → ℕ → ℕ
-sizesIn index d m = sumTo (sizes d (entryStart index m) (countIn index m)) (countIn index m)
 
 -- "sum of chunk sizes"
 unfoldable pub chunkBytes : Sharding → List ℕ → List ℕ → ℕ

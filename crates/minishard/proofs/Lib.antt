@@ -1,4 +1,3 @@
--- Laws of the length of one minishard, and of whether it may be written as it stands.
+-- Laws of the length of one minishard.
 pub mod Walk
 pub mod Lengths
-pub mod Climbing

@@ -1,11 +1,11 @@
-// The length of a settled minishard, and whether it may be written as it stands.
+// The length of a settled minishard.
 ghost use mathlib.Core.Path.{_≡_};
 ghost use Prim.Native.Nat.{_+_, _*_, _≤_};
 ghost use lib.ListN.{length};
 ghost use Rattle.endian.specs.Range.{sumTo};
-ghost use Rattle.index.specs.Index.{idSteps, sizes, mostShardBytes};
+ghost use Rattle.index.specs.Index.{sizes, mostShardBytes};
 ghost use Rattle.shard.specs.Items.{leads};
-ghost use Rattle.minishard.specs.Writing.{Readable, LeadsIn, MayStand, Climbs, minishardLength, capped};
+ghost use Rattle.minishard.specs.Writing.{Readable, LeadsIn, minishardLength, capped};
 use endian::inner::read_u64;
 use shard::inner::MOST_SHARD_BYTES;
 use shard::inner::has_leads;
@@ -14,8 +14,6 @@ use sharding::Sharding;
 
 // The first length that is refused.
 const TOO_LONG: usize = MOST_SHARD_BYTES + 1;
-
-// ---- the length
 
 // The sum, up to the first length that is refused.
 pub fn add_capped(a: usize, b: usize) -> usize
@@ -74,35 +72,4 @@ pub fn part_length(spec: Sharding, data: &[u8], s: usize, n: usize) -> usize
         return add_capped(listed, leads_length(spec, data, s, n));
     }
     listed
-}
-
-// ---- whether it may be written as it stands
-
-// Whether each id is above the one before.
-fn ids_rise(data: &[u8], s: usize, n: usize) -> bool
-    requires { ⌜ Readable (now «data») s n ⌝ }
-    ensures { λ r. ⌜ Climbs (idSteps (now («data» .entry)) s) n r ⌝ }
-{
-    let mut id = read_u64(data, s);
-    let mut i = 1;
-    while i < n {
-        let next = std::num::wrapping_add_u64(id, read_u64(data, s + 8 * i));
-        if next <= id {
-            return false;
-        }
-        id = next;
-        i += 1;
-    }
-    true
-}
-
-// Nor may any chunk have a lead.
-pub fn may_stand(spec: Sharding, data: &[u8], s: usize, n: usize) -> bool
-    requires { ⌜ Readable (now «data») s n ⌝ }
-    ensures { λ r. ⌜ MayStand spec (now («data» .entry)) s n r ⌝ }
-{
-    if has_leads(spec) {
-        return false;
-    }
-    ids_rise(data, s, n)
 }

@@ -1,2 +1,2 @@
-// One minishard of a settled form: its length, and whether it may be written as it stands.
+// One minishard of a settled form: what its writers take and make, and its length.
 pub mod inner;

@@ -9,7 +9,7 @@ use lib.Pow.{pow-pos, pow-add}
 use mir.Syntax.{w32, w64}
 use mir.Val.{Fits}
 use Rattle.endian.specs.Little.{le, leAt}
-use Rattle.murmur.specs.Murmur.{State, tail1, tail2, tail, seeded, lengthened, summed, mixed, finished, murmur3, seed, murmurHash, add32, mul32}
+use Rattle.murmur.specs.Murmur.{State, tail1, tail2, tail, seeded, lengthened, summed, mixed, finished, murmur3, seed, murmurHash, add32, mul32, rotl32, shiftXor, fmix32, c1, c2, c3}
 
 -- k1 is the key's low half, k2 its high half
 k1-low : (n : ℕ) → leAt 4 (le 8 n) 0 ≡ n % 2 ^ 32
@@ -43,6 +43,31 @@ pub murmur-words : {n a b r : ℕ} → Fits w64 n → a ≡ tail1 (n % 2 ^ 32) �
     r ≡ leAt 8 (finished (lengthened (record { h1 = bitXor seed a; h2 = bitXor seed b; h3 = seed; h4 = seed }))) 0 → r ≡ murmurHash n
 unfolding murmurHash murmur3
 murmur-words {n} f p q e = rw (k1-low n, k2-high n (f .fits), ← p, ← q) e
+
+-- ---- the steps, each from the results of its calls
+
+pub total-made : (a b c d : ℕ) {x y r : ℕ} → r ≡ add32 y d → y ≡ add32 x c → x ≡ add32 a b → r ≡ add32 (add32 (add32 a b) c) d
+total-made a b c d p q s = rw (p, q, s)
+
+pub mixed-word : (h : ℕ) {a b : ℕ} → b ≡ mul32 (shiftXor a 13) 0xc2b2ae35 → a ≡ mul32 (shiftXor h 16) 0x85ebca6b → shiftXor b 16 ≡ fmix32 h
+unfolding fmix32
+mixed-word h p q = rw (p, q)
+
+pub tail1-made : (k : ℕ) {a b r : ℕ} → r ≡ mul32 b c2 → b ≡ rotl32 a 15 → a ≡ mul32 k c1 → r ≡ tail1 k
+tail1-made k p q s = rw (p, q, s)
+
+pub tail2-made : (k : ℕ) {a b r : ℕ} → r ≡ mul32 b c3 → b ≡ rotl32 a 16 → a ≡ mul32 k c2 → r ≡ tail2 k
+tail2-made k p q s = rw (p, q, s)
+
+pub finish-made : (h1 h2 h3 h4 : ℕ) {all s2 s3 s4 m1 m2 m3 m4 first second r : ℕ} → r ≡ first + 2 ^ 32 * second → second ≡ add32 m2 first
+    → first ≡ add32 (add32 (add32 m1 m2) m3) m4 → m1 ≡ fmix32 all → m2 ≡ fmix32 s2 → m3 ≡ fmix32 s3 → m4 ≡ fmix32 s4
+    → s2 ≡ add32 h2 all → s3 ≡ add32 h3 all → s4 ≡ add32 h4 all → all ≡ add32 (add32 (add32 h1 h2) h3) h4
+    → r ≡ leAt 8 (finished (record { h1 = h1; h2 = h2; h3 = h3; h4 = h4 })) 0
+unfolding summed
+finish-made h1 h2 h3 h4 e f g p1 p2 p3 p4 q2 q3 q4 a =
+    rw (finished-words (record { h1 = h1; h2 = h2; h3 = h3; h4 = h4 }), e, f, g, p1, p2, p3, p4, q2, q3, q4, a)
+
+-- ---- products
 
 product-below : (k : ℕ) {a b : ℕ} → a < 2 ^ k → b < 2 ^ k → a * b < 2 ^ (k + k)
 product-below k {a} {b} ha hb =

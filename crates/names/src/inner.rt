@@ -1,15 +1,11 @@
-// Text at a place that the caller has tested.
+// Which shards there are, and how long the names of their files are.
 ghost use mathlib.Core.Path.{_≡_};
 ghost use mathlib.Core.Bool.{true};
 ghost use Prim.Native.Nat.{_+_, _≤_};
 ghost use lib.ListN.{length};
-ghost use Rattle.endian.specs.Place.{paste};
 ghost use Rattle.sharding.specs.Specification.{allowed, noSuchShard};
-ghost use Rattle.refusal.specs.Buffer.{written, leftBy};
-ghost use Rattle.names.specs.Shards.{shardDigits, suffixOf, fileName, fileNameAnswer, fileNameLeft};
+ghost use Rattle.names.specs.Shards.{shardDigits, suffixOf};
 use crate::FileKind;
-use endian::inner;
-use refusal::Written;
 use sharding::Sharding;
 
 // Whether refusal 5 holds of a shard number.
@@ -21,7 +17,7 @@ pub fn no_such_shard(spec: Sharding, shard: u64) -> bool
 }
 
 // How many digits a shard number is padded to.
-fn shard_digits(spec: Sharding) -> usize
+pub fn shard_digits(spec: Sharding) -> usize
     ensures { λ r. ⌜ (r ≡ shardDigits spec) × (r ≤ 64) ⌝ }
 {
     if spec.shard_bits == 0 {
@@ -30,7 +26,7 @@ fn shard_digits(spec: Sharding) -> usize
     (spec.shard_bits as usize + 3) / 4
 }
 
-fn suffix_len(kind: FileKind) -> usize
+pub fn suffix_len(kind: FileKind) -> usize
     ensures { λ r. ⌜ (r ≡ length (suffixOf kind)) × (r ≤ 6) ⌝ }
 {
     match kind {
@@ -40,65 +36,8 @@ fn suffix_len(kind: FileKind) -> usize
     }
 }
 
-fn file_name_len(spec: Sharding, kind: FileKind) -> usize
+pub fn file_name_len(spec: Sharding, kind: FileKind) -> usize
     ensures { λ r. ⌜ (r ≡ shardDigits spec + length (suffixOf kind)) × (r ≤ 70) ⌝ }
 {
     shard_digits(spec) + suffix_len(kind)
-}
-
-// `.sha` and `rd`, `.ind` and `ex`, `.dat` and `a`, as the numbers whose bytes they are.
-fn put_suffix(out: &mut [u8], at: usize, kind: FileKind)
-    requires { ⌜ at + length (suffixOf kind) ≤ length (now out) ⌝ }
-    ensures { λ _. ⌜ now (out .exit) ≡ paste at (suffixOf kind) (now (out .entry)) ⌝ }
-{
-    match kind {
-        FileKind::Shard => {
-            inner::put_u32(out, at, 0x6168_732e);
-            inner::put_u16(out, at + 4, 0x6472);
-        }
-        FileKind::Index => {
-            inner::put_u32(out, at, 0x646e_692e);
-            inner::put_u16(out, at + 4, 0x7865);
-        }
-        FileKind::Data => {
-            inner::put_u32(out, at, 0x7461_642e);
-            inner::put_byte(out, at + 4, b'a');
-        }
-    }
-}
-
-pub fn put_file_name(out: &mut [u8], at: usize, spec: Sharding, shard: u64, kind: FileKind) -> usize
-    requires { ⌜ at + length (fileName kind spec shard) ≤ length (now out) ⌝ }
-    ensures { λ r. ⌜ r ≡ at + length (fileName kind spec shard) ⌝ }
-    ensures { λ _. ⌜ now (out .exit) ≡ paste at (fileName kind spec shard) (now (out .entry)) ⌝ }
-{
-    let n = shard_digits(spec);
-    digits::inner::put_digits(out, at, 16, n, shard);
-    put_suffix(out, at + n, kind);
-    at + n + suffix_len(kind)
-}
-
-// The name of one of a shard's files at the front of the buffer.
-fn file_name(spec: Sharding, shard: u64, kind: FileKind, out: &mut [u8]) -> Written
-    ensures { λ r. ⌜ r ≡ written (fileName kind spec shard) (now (out .entry)) ⌝ }
-    ensures { λ _. ⌜ now (out .exit) ≡ leftBy (fileName kind spec shard) (now (out .entry)) ⌝ }
-{
-    if out.len() < file_name_len(spec, kind) {
-        return Written::Refused(13);
-    }
-    Written::Length(put_file_name(out, 0, spec, shard, kind))
-}
-
-// The same, refused with 1 or 5 first.
-pub fn name_of(spec: Sharding, shard: u64, kind: FileKind, out: &mut [u8]) -> Written
-    ensures answer { λ r. ⌜ r ≡ fileNameAnswer kind spec shard (now (out .entry)) ⌝ }
-    ensures out { λ _. ⌜ now (out .exit) ≡ fileNameLeft kind spec shard (now (out .entry)) ⌝ }
-{
-    if !sharding::inner::is_allowed(spec) {
-        return Written::Refused(1);
-    }
-    if no_such_shard(spec, shard) {
-        return Written::Refused(5);
-    }
-    file_name(spec, shard, kind, out)
 }

@@ -14,7 +14,8 @@ use Rattle.layout.specs.Layout.{itemAt, levelsOf, countOf, nodesBefore, sizeAt}
 use Rattle.manifest.specs.Verdict.{verdict}
 use Rattle.manifest.proofs.Judged.{fails, passes, passed, refused-first, given-first, told-sound}
 use Rattle.manifest.proofs.Sounds.{sound-if}
-use Rattle.nodes.specs.Nodes.{hasNode, levelBytes, fragmentStart, fragmentsLength, nodeIn, nodeAt, nodeChecks, nodeAnswer}
+use Rattle.fragmentsums.specs.Sums.{levelBytes}
+use Rattle.nodes.specs.Nodes.{hasNode, fragmentStart, fragmentsLength, nodeIn, nodeAt, nodeChecks, nodeAnswer}
 use Rattle.nodes.specs.declared.Node.{Node}
 use Rattle.nodes.specs.declared.NodeAnswer.the-variants as N
 use Rattle.nodes.proofs.Levels.{has-level}

@@ -10,7 +10,8 @@ use Rattle.refusal.specs.Checks.{firstNumber, unless}
 use Rattle.endian.specs.Range.{sumTo}
 use Rattle.endian.proofs.Ranges.{sum-none, sum-step, sum-grows}
 use Rattle.layout.specs.Layout.{levelsOf, countOf, levelItem, sizeAt}
-use Rattle.nodes.specs.Nodes.{hasNode, levelBytes, fragmentSize, fragmentStart, fragmentsLength, nodeIn, nodeAt, nodeChecks, nodeAnswer}
+use Rattle.fragmentsums.specs.Sums.{levelBytes, fragmentSize}
+use Rattle.nodes.specs.Nodes.{hasNode, fragmentStart, fragmentsLength, nodeIn, nodeAt, nodeChecks, nodeAnswer}
 use Rattle.nodes.specs.Run.{fragmentOf, ofLevel, ofLevels, joined}
 use Rattle.nodes.specs.declared.Node.{Node}
 use Rattle.nodes.specs.declared.NodeAnswer.the-variants as N

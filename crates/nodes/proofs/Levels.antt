@@ -7,15 +7,10 @@ use native.Mathlib.Omega.{arith}
 use lib.Dec.{T, ltb, ltb→lt}
 use lib.Ieee.Fits.{and-l, and-r}
 use lib.ListN.{length}
-use Rattle.endian.specs.Range.{sumTo}
-use Rattle.layout.specs.Layout.{levelsOf, countOf, nodesBefore, levelItem, sizeAt}
+use Rattle.layout.specs.Layout.{levelsOf, countOf, nodesBefore}
 use Rattle.manifest.specs.Verdict.{verdict}
 use Rattle.manifest.proofs.Sounds.{sound-ends, read-fits, sound as sound-manifest}
-use Rattle.nodes.specs.Nodes.{hasNode, levelBytes}
-
-pub level-bytes : (s : List ℕ) (l : ℕ) {first n t : ℕ} → t ≡ sumTo (sizeAt s first n) n → first ≡ levelItem s l → n ≡ countOf s l → t ≡ levelBytes s l
-unfolding levelBytes
-level-bytes s l {first} {n} {t} e f g = cc
+use Rattle.nodes.specs.Nodes.{hasNode}
 
 module _ (s : List ℕ) (l i : ℕ) (e : hasNode s l i ≡ true) where
   both : (l < levelsOf s) × (i < countOf s l)

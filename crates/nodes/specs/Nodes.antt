@@ -7,6 +7,7 @@ use Rattle.refusal.specs.Checks.{Check, check, answered}
 use Rattle.endian.specs.Range.{sumTo}
 use Rattle.layout.specs.Layout.{levelsOf, countOf, levelItem, xAt, yAt, zAt, sizeAt}
 use Rattle.manifest.specs.Verdict.{manifestChecks}
+use Rattle.fragmentsums.specs.Sums.{levelBytes}
 use Rattle.nodes.specs.declared.Node.{Node}
 use Rattle.nodes.specs.declared.NodeAnswer.{NodeAnswer}
 use Rattle.nodes.specs.declared.NodeAnswer.the-variants as N
@@ -20,13 +21,6 @@ unfoldable pub hasNode : List ℕ → ℕ → ℕ → Bool
 hasNode s l i = hasLevel s l && ltb i (countOf s l)
 
 -- ---- fragments
-
--- the size of the fragment of node i of level l, and the sizes of all of level l's together
-abbrev pub fragmentSize : List ℕ → ℕ → ℕ → ℕ
-fragmentSize s l i = sizeAt s (levelItem s l) (countOf s l) i
-
-unfoldable pub levelBytes : List ℕ → ℕ → ℕ
-levelBytes s l = sumTo (sizeAt s (levelItem s l) (countOf s l)) (countOf s l)
 
 -- where that fragment starts, counted from the first fragment: the sum of all earlier sizes, over all levels
 -- (source 001 names the sizes offsets; they are sizes) (RULES M7)

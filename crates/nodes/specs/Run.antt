@@ -4,7 +4,8 @@ use Prim.Native.Nat.{ℕ, zero, suc}
 use mathlib.Core.List.{List, [], _++_}
 use lib.ListN.{take, drop}
 use Rattle.layout.specs.Layout.{levelsOf, countOf}
-use Rattle.nodes.specs.Nodes.{fragmentSize, fragmentStart}
+use Rattle.fragmentsums.specs.Sums.{fragmentSize}
+use Rattle.nodes.specs.Nodes.{fragmentStart}
 
 -- the fragment of node i of level l, of the manifest s whose fragments are the run
 unfoldable pub fragmentOf : List ℕ → List ℕ → ℕ → ℕ → List ℕ

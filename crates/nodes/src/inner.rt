@@ -1,7 +1,7 @@
 // One node of a manifest that the judge found sound.
 use crate::Node;
-use crate::sums::bytes_before;
-use crate::sums::sizes;
+use fragmentsums::inner::bytes_before;
+use fragmentsums::inner::sizes;
 use layout::inner::count;
 use layout::inner::item;
 use layout::inner::nodes_before;

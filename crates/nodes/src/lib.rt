@@ -1,6 +1,5 @@
 // The nodes of a manifest, one by one, and their fragments.
 pub mod inner;
-pub mod sums;
 
 ghost use mathlib.Core.Path.{_≡_};
 ghost use Rattle.nodes.specs.Nodes.{nodeAnswer};

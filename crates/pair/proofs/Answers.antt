@@ -10,8 +10,8 @@ use Rattle.refusal.specs.Checks.{answered}
 use Rattle.refusal.proofs.Tests.{told-yes}
 use Rattle.sharding.specs.declared.Sharding.{Sharding}
 use Rattle.sharding.specs.Specification.{allowed, minishardCount, shardCount, noSuchShard}
-use Rattle.sharding.specs.Place.{shardOf}
-use Rattle.shard.specs.declared.faults.ShardFault.{ShardFault}
+use Rattle.placement.specs.Place.{shardOf}
+use Rattle.shard.specs.declared.ShardFault.{ShardFault}
 use Rattle.shard.specs.declared.CheckAnswer.the-variants as C
 use Rattle.shard.specs.Faults.{faultOf, firstFault, shardFault}
 use Rattle.shard.specs.File.{indexPart, dataPart, fileChecks, verdict, checkAnswer}

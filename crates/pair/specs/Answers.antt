@@ -5,7 +5,7 @@ use mathlib.Core.List.{List, _++_}
 use lib.Dec.{eqb}
 use Rattle.sharding.specs.declared.Sharding.{Sharding}
 use Rattle.sharding.specs.Specification.{noSuchShard}
-use Rattle.sharding.specs.Place.{shardOf}
+use Rattle.placement.specs.Place.{shardOf}
 use Rattle.shard.specs.declared.CheckAnswer.{CheckAnswer}
 use Rattle.shard.specs.declared.CheckAnswer.the-variants as C
 use Rattle.shard.specs.File.{checkAnswer}

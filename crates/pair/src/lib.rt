@@ -10,6 +10,7 @@ ghost use Rattle.pair.specs.Answers.{pairCheck, pairLookup, pairFragment
 use chosen::inner::lookup_in;
 use idsearch::LookupAnswer;
 use judge::first_fault;
+use placement::inner::shard_of;
 use seam::inner::length_number;
 use shard::CheckAnswer;
 use sharding::Sharding;
@@ -17,7 +18,6 @@ use sharding::inner::is_allowed;
 use sharding::inner::is_mesh;
 use sharding::inner::minishard_count;
 use sharding::inner::shard_count;
-use sharding::inner::shard_of;
 
 // Whether a pair is sound; else the refusal or the fault, with the first faulty minishard and the position in the joined file.
 pub fn check(spec: Sharding, shard: u64, index: &[u8], data: &[u8]) -> CheckAnswer

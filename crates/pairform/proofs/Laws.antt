@@ -17,8 +17,8 @@ use Rattle.listing.proofs.Refused.{count-refuses, listing-refuses, listing-kept
 use Rattle.unlisted.specs.declared.UnlistedAnswer.the-variants as U
 use Rattle.unlisted.specs.Answers.{unlistedAnswer}
 use Rattle.unlisted.proofs.Counted.{unlisted-refuses}
-use Rattle.settle.specs.declared.SettleAnswer.the-variants as S
-use Rattle.settle.specs.Answers.{lengthChecks, lengthAnswer, settleChecks, settleAnswer, settleLeft}
+use Rattle.settleanswers.specs.declared.SettleAnswer.the-variants as S
+use Rattle.settleanswers.specs.Answers.{lengthChecks, lengthAnswer, settleChecks, settleAnswer, settleLeft}
 use Rattle.settle.proofs.Refused.{length-refuses, settle-refuses, settle-kept}
 use Rattle.pairform.specs.Answers.{noMinishard, pairCount, pairListing, pairListingLeft, pairUnlisted, pairLength, pairSettle, pairSettleLeft}
 

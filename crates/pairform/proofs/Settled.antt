@@ -23,12 +23,12 @@ use Rattle.seam.specs.Pair.{pairChecks}
 use Rattle.seam.proofs.Pairs.{seamed-front, seamed-back}
 use Rattle.pair.specs.Answers.{pairCheck}
 use Rattle.pair.proofs.Laws.{sound-seamed}
-use Rattle.settle.specs.declared.SettleAnswer.{SettleAnswer}
-use Rattle.settle.specs.declared.SettleAnswer.the-variants as S
-use Rattle.settle.specs.Answers.{answerOf, lengthIn, settleIn, leftIn}
+use Rattle.settleanswers.specs.declared.SettleAnswer.{SettleAnswer}
+use Rattle.settleanswers.specs.declared.SettleAnswer.the-variants as S
+use Rattle.settleanswers.specs.Answers.{answerOf, lengthIn, settleIn, leftIn}
 use Rattle.formlength.specs.Settleable.{SettleableShard}
-use Rattle.settle.proofs.Answered.{length-by-check, settle-by-check, left-by-check}
-use Rattle.settle.proofs.WriteAnswers.{sound-settleable}
+use Rattle.settleanswers.proofs.Answered.{length-by-check, settle-by-check, left-by-check}
+use Rattle.settleparts.proofs.WriteAnswers.{sound-settleable}
 use Rattle.pairform.specs.Answers.{pairUnlisted, pairLength, pairSettle, pairSettleLeft}
 
 -- 1, 5 and 23 go before the check, or before what goes on after it

@@ -12,9 +12,9 @@ use Rattle.listing.specs.Listing.{countAnswer, listingAnswer, listingLeft}
 use Rattle.unlisted.specs.declared.UnlistedAnswer.{UnlistedAnswer}
 use Rattle.unlisted.specs.declared.UnlistedAnswer.the-variants as U
 use Rattle.unlisted.specs.Answers.{unlistedAnswer}
-use Rattle.settle.specs.declared.SettleAnswer.{SettleAnswer}
-use Rattle.settle.specs.declared.SettleAnswer.the-variants as S
-use Rattle.settle.specs.Answers.{lengthAnswer, settleAnswer, settleLeft}
+use Rattle.settleanswers.specs.declared.SettleAnswer.{SettleAnswer}
+use Rattle.settleanswers.specs.declared.SettleAnswer.the-variants as S
+use Rattle.settleanswers.specs.Answers.{lengthAnswer, settleAnswer, settleLeft}
 
 -- ---- the listing of a minishard
 

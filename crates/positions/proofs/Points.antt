@@ -22,8 +22,8 @@ use Rattle.endian.proofs.Little.{leAt-drop, leAt-take}
 use Rattle.endian.proofs.Ranges.{first-lt, first-holds, first-before}
 use Rattle.sharding.specs.declared.Sharding.{Sharding}
 use Rattle.sharding.specs.Specification.{isMesh, minishardCount, noSuchShard}
-use Rattle.sharding.specs.Place.{shardOf, minishardOf}
-use Rattle.sharding.proofs.Placed.{minishard-below}
+use Rattle.placement.specs.Place.{shardOf, minishardOf}
+use Rattle.placement.proofs.Placed.{minishard-below}
 use Rattle.shard.specs.declared.CheckAnswer.{CheckAnswer}
 use Rattle.shard.specs.declared.CheckAnswer.the-variants.{Sound, Faulty, Refused as CheckRefused}
 use Rattle.index.specs.Index.{entryStart, entryEnd, entryCount, idSteps, startSteps, sizes, mostShardBytes}
@@ -50,9 +50,9 @@ use Rattle.ranges.specs.Covered.{fileUnlisted}
 use Rattle.unlisted.specs.declared.UnlistedAnswer.the-variants as U
 use Rattle.unlisted.specs.Answers.{unlistedAnswer}
 use Rattle.unlisted.proofs.Counted.{unlisted-by-check}
-use Rattle.settle.specs.declared.SettleAnswer.the-variants as S
-use Rattle.settle.specs.Answers.{answerOf, lengthIn, settleIn, lengthAnswer, settleAnswer}
-use Rattle.settle.proofs.Answered.{length-by-check, settle-by-check}
+use Rattle.settleanswers.specs.declared.SettleAnswer.the-variants as S
+use Rattle.settleanswers.specs.Answers.{answerOf, lengthIn, settleIn, lengthAnswer, settleAnswer}
+use Rattle.settleanswers.proofs.Answered.{length-by-check, settle-by-check}
 use Rattle.positions.specs.Points.{AtEntry, AtFirst, AtIdStep, AtStartStep, Offending, seven, eight, nine, ten, eleven, fifteen, sixteen, seventeen, twentyone, PointsAt, Named}
 
 -- ---- which check a position is of

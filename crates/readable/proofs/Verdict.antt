@@ -16,7 +16,7 @@ use Rattle.segmentation.specs.Layout.{noVoxels, outside, across, down, deep, bl
 use Rattle.segmentation.specs.Labels.{labelWords, labelAnswer}
 use Rattle.segmentation.specs.Steps.{valueAnswer, blockAnswer, channelAnswer, voxelAnswer}
 use Rattle.packed.specs.Voxels.{refusalIn, Within, someRefused, chunkRefusal, AllReadable}
-use Rattle.packed.specs.Checks.{greatest, insideOf, blockCount, headerRefusal, channelHeaders, headersRefusal, placeRefusal, voxelsRefusal, blockRefusal, blocksRefusal}
+use Rattle.packed.specs.Checks.{greatest, insideOf, blockCount, headerRefusal, channelHeaders, headersRefusal, placeRefusal, rowRefusal, layerRefusal, voxelsRefusal, blockRefusal, blocksRefusal}
 use Rattle.segmentation.proofs.Stepwise.{stepwise}
 use Rattle.segmentation.proofs.Shapes.{some-voxels, whole-yes, whole-no}
 use Rattle.packed.proofs.Greatest.{within-or-past, le-greatest, greatest-le, greatest-at}
@@ -274,20 +274,34 @@ module _ (s : List ℕ) (sh : Shape) where
         unfolding placeRefusal
         place-is w v u ch nh = ap refusalIn (answer-good c n _ ch nh)
 
+      -- a place, a row, a layer and a block that are refused with k
+      module _ (k c n : ℕ) (ch : c < sh .channels) (nh : n < blockCount sh) (l : 0 < k) where
+        place-some : (w v u : ℕ) → u < insideOf sh n .x → v < insideOf sh n .y → w < insideOf sh n .z
+            → placeRefusal s (labelWords (sh .wide)) (word s c) (word s (word s c + 2 * n)) (word s (word s c + 2 * n + 1)) (sh .block) w v u ≡ k → someRefused k s sh ≡ true
+        place-some w v u uh vh wh q = block-voxel k c n w v u ch uh vh wh (place-is c n w v u ch nh ∙ q)
+
+        row-some : (w v : ℕ) → v < insideOf sh n .y → w < insideOf sh n .z
+            → rowRefusal s (labelWords (sh .wide)) (word s c) (word s (word s c + 2 * n)) (word s (word s c + 2 * n + 1)) (sh .block) (insideOf sh n) w v ≡ k → someRefused k s sh ≡ true
+        row-some w v vh wh q =
+            let u = row-at s (labelWords (sh .wide)) (word s c) (word s (word s c + 2 * n)) (word s (word s c + 2 * n + 1)) (sh .block) (insideOf sh n) w v (omega arith) in
+            place-some w v (u .0) (u .1) vh wh (u .2 ∙ q)
+
+        layer-some : (w : ℕ) → w < insideOf sh n .z → layerRefusal s (labelWords (sh .wide)) (word s c) (word s (word s c + 2 * n)) (word s (word s c + 2 * n + 1)) (sh .block) (insideOf sh n) w ≡ k → someRefused k s sh ≡ true
+        layer-some w wh q =
+            let v = layer-at s (labelWords (sh .wide)) (word s c) (word s (word s c + 2 * n)) (word s (word s c + 2 * n + 1)) (sh .block) (insideOf sh n) w (omega arith) in
+            row-some w (v .0) (v .1) wh (v .2 ∙ q)
+
+        block-some : blockRefusal s sh (word s c) n ≡ k → someRefused k s sh ≡ true
+        block-some q =
+            let e = sym (block-is c n) ∙ q in
+            let w = voxels-at s (labelWords (sh .wide)) (word s c) (word s (word s c + 2 * n)) (word s (word s c + 2 * n + 1)) (sh .block) (insideOf sh n) (omega arith) in
+            layer-some (w .0) (w .1) (w .2 ∙ e)
+
       blocks-some : (k : ℕ) → k ≡ blocksRefusal s sh → 0 < k → someRefused k s sh ≡ true
       blocks-some k e l =
           let c = blocks-found s sh (omega arith) in
           let n = channel-found s sh (c .0) (omega (arith, c .2)) in
-          let i = block-is (c .0) (n .0) in
-          let a = labelWords (sh .wide) in
-          let o = word s (c .0) in
-          let f = word s (o + 2 * n .0) in
-          let g = word s (o + 2 * n .0 + 1) in
-          let w = voxels-at s a o f g (sh .block) (insideOf sh (n .0)) (omega (arith, i, n .2, c .2)) in
-          let v = layer-at s a o f g (sh .block) (insideOf sh (n .0)) (w .0) (omega (arith, i, w .2, n .2, c .2)) in
-          let u = row-at s a o f g (sh .block) (insideOf sh (n .0)) (w .0) (v .0) (omega (arith, i, v .2, w .2, n .2, c .2)) in
-          block-voxel k (c .0) (n .0) (w .0) (v .0) (u .0) (c .1) (u .1) (v .1) (w .1)
-          (place-is (c .0) (n .0) (w .0) (v .0) (u .0) (c .1) (n .1) ∙ u .2 ∙ v .2 ∙ w .2 ∙ sym i ∙ n .2 ∙ c .2 ∙ sym e)
+          block-some k (c .0) (n .0) (c .1) (n .1) l (n .2 ∙ c .2 ∙ sym e)
 
       no-28 : 0 ≡ blocksRefusal s sh → someRefused 28 s sh ≡ false
       unfolding placeNumber

@@ -7,18 +7,18 @@ ghost use Rattle.endian.specs.Place.{paste};
 ghost use Rattle.morton.specs.Key.{keyBits, keyOf};
 ghost use Rattle.batch.specs.Batch.{cellAt, cellsOf, keysAnswer, keysLeft};
 ghost use Rattle.spread.specs.Spread.{Spreads};
-ghost use Rattle.spread.specs.Parts.{Planned};
+ghost use Rattle.keyplan.specs.Parts.{Planned};
 
 pub mod row;
 
 use grid::Cell;
 use grid::Extents;
 use grid::Volume;
+use keyplan::Plan;
+use keyplan::inner::plan;
 use refusal::Written;
-use spread::Plan;
-use spread::inner::key_by_table;
-use spread::inner::plan;
 use spread::table::spread_bytes;
+use tablekeys::inner::key_by_table;
 
 // The cell whose three numbers begin at `at`.
 fn cell_at(cells: &[u32], at: usize) -> Cell

@@ -1,69 +1,30 @@
 // The keys of a row of cells: what y and z give is found once.
 ghost use mathlib.Core.Path.{_≡_};
 ghost use mathlib.Core.List.{map};
-ghost use Prim.Native.Nat.{_+_, _-_, _*_, _^_, _<_, _≤_};
+ghost use Prim.Native.Nat.{_-_, _≤_};
 ghost use lib.ListN.{length};
 ghost use Rattle.endian.specs.Place.{paste};
 ghost use Rattle.morton.specs.Key.{keyBits, keyOf};
-ghost use Rattle.batch.specs.Batch.{eachInGrid, keysAnswer, keysLeft};
-ghost use Rattle.spread.specs.Spread.{spread, Spreads};
-ghost use Rattle.spread.specs.Parts.{restKey, Planned};
-ghost use Rattle.spread.specs.Row.{rowOf};
+ghost use Rattle.batch.specs.Batch.{keysAnswer, keysLeft};
+ghost use Rattle.spread.specs.Spread.{Spreads};
+ghost use Rattle.keyplan.specs.Parts.{Planned};
+ghost use Rattle.cellrows.specs.Row.{rowOf};
+use cellrows::inner::low_yz;
+use cellrows::inner::next_rest;
+use cellrows::inner::row_inside;
+use cellrows::inner::row_length;
 use grid::Cell;
 use grid::Extents;
 use grid::Volume;
 use grid::inner::grid;
-use grid::inner::inside;
 use grid::inner::zero_extent;
+use keyplan::Plan;
+use keyplan::inner::plan;
+use keyplan::inner::rest_key;
 use morton::inner::too_many_bits;
 use refusal::Written;
-use spread::Plan;
-use spread::inner::low_bits;
-use spread::inner::plan;
-use spread::inner::rest_key;
 use spread::inner::spread_bits;
 use spread::table::spread_bytes;
-
-// Each cell of a row is one of the grid's: its last one is.
-fn row_inside(grid: Extents, from: u32, to: u32, y: u32, z: u32) -> bool
-    ensures { λ r. ⌜ r ≡ eachInGrid grid (rowOf from to y z) ⌝ }
-{
-    if to <= from {
-        return true;
-    }
-    inside(grid, Cell { x: to - 1, y, z })
-}
-
-// How many cells a row has.
-fn row_length(from: u32, to: u32) -> usize
-    ensures { λ r. ⌜ r ≡ to - from ⌝ }
-{
-    if to <= from {
-        return 0;
-    }
-    (to - from) as usize
-}
-
-// What y and z give to the turns below n.
-fn low_yz(table: &[u32], y: u32, z: u32, n: u32) -> u64
-    requires { ⌜ Spreads (now table) × (n ≤ 21) ⌝ }
-    ensures { λ r. ⌜ (r ≡ 2 * spread n y + 4 * spread n z) × (r < 6 * 2 ^ 61) ⌝ }
-{
-    2 * spread_bits(table, y, n) + 4 * spread_bits(table, z, n)
-}
-
-// The bits of the later turns, from those of the cell before: they are the same within 2^low cells.
-fn next_rest(plan: Plan, x: u32, y: u32, z: u32, rest: u64) -> u64
-    requires { ⌜ Planned plan × (x + 1 < 2 ^ 32) ⌝ }
-    requires { ⌜ rest ≡ restKey (plan .low) (plan .grid) (record { x = x; y = y; z = z }) ⌝ }
-    ensures { λ r. ⌜ r ≡ restKey (plan .low) (plan .grid) (record { x = x + 1; y = y; z = z }) ⌝ }
-{
-    let next = x + 1;
-    if low_bits(next as u64, plan.low) == 0 {
-        return rest_key(plan, Cell { x: next, y, z });
-    }
-    rest
-}
 
 fn fill(plan: Plan, table: &[u32], from: u32, to: u32, y: u32, z: u32, keys: &mut [u64])
     requires { ⌜ Planned plan × Spreads (now table) ⌝ }

@@ -1,13 +1,11 @@
 -- A range of the joined file: 1, 23, 6, 24, then the file that holds it.
 use Prim.Native.Nat.{ℕ, zero, suc, _+_, _-_, _<_, _≤_}
 use mathlib.Core.Path.{_≡_, refl, sym, ap, _∙_}
-use mathlib.Core.Bool.{Bool, true, false, not, _&&_, or-true}
+use mathlib.Core.Bool.{Bool, true, false, not, _&&_}
 use mathlib.Core.List.{List, [], _∷_, _++_}
 use native.Mathlib.Omega.{arith}
 use lib.Dec.{ltb}
 use lib.ListN.{length, take, drop, length-append}
-use mir.Val.{Fits}
-use mir.Syntax.{w64}
 use borrow.Author.Needs.{needs}
 use borrow.Author.Tests.{lt-ltb, le-ltb, ltb-true, ltb-false}
 use Rattle.refusal.specs.Choice.{pick}
@@ -19,43 +17,13 @@ use Rattle.sharding.specs.declared.Sharding.{Sharding}
 use Rattle.sharding.specs.Specification.{allowed}
 use Rattle.shard.specs.File.{badFileLength}
 use Rattle.shard.proofs.Numbers.{pick-zero, unless-some, unless-none}
-use Rattle.seam.specs.declared.RangeAnswer.{RangeAnswer}
-use Rattle.seam.specs.declared.RangeAnswer.the-variants.{InIndex, InData, Refused}
+use Rattle.heldrange.specs.declared.RangeAnswer.{RangeAnswer}
+use Rattle.heldrange.specs.declared.RangeAnswer.the-variants.{InIndex, InData, Refused}
+use Rattle.heldrange.specs.Held.{badRange, heldRange, rangeIn, either, rangeStart, rangeBytes, Held}
+use Rattle.heldrange.proofs.Held.{in-picks, refused-held, held-in}
 use Rattle.seam.specs.Pair.{badSeam, lengthChecks, lengthNumber}
-use Rattle.seam.specs.Range.{badRange, rangeChecks, heldRange, rangeAnswer, rangeIn, either, rangeStart, rangeBytes, Held}
+use Rattle.seam.specs.Range.{rangeChecks, rangeAnswer}
 use Rattle.seam.proofs.Pairs.{seam-fits, joined-front, joined-rest}
-
--- ---- 24, as the code tests it
-
-in-picks : (seam n start end : ℕ) → rangeIn seam n start end ≡ pick (badRange seam n start end) (Refused 24) (heldRange seam start end)
-unfolding rangeIn
-in-picks seam n start end = by-picks Refused (check 24 (badRange seam n start end) ∷ []) (heldRange seam start end) refl
-
-module _ (seam n start end : ℕ) where
-  pub in-reversed : end < start → Refused 24 ≡ rangeIn seam n start end
-  unfolding badRange
-  in-reversed h = rw (in-picks seam n start end, lt-ltb end start h, or-true)
-
-  module _ (o : start ≤ end) where
-    pub in-past : n < end → Refused 24 ≡ rangeIn seam n start end
-    unfolding badRange
-    in-past h = rw (in-picks seam n start end, le-ltb end start o, lt-ltb n end h, or-true)
-
-    module _ (l : end ≤ n) where
-      module _ (s : start < seam) where
-        pub in-across : seam < end → Refused 24 ≡ rangeIn seam n start end
-        unfolding badRange
-        in-across h = rw (in-picks seam n start end, lt-ltb start seam s, lt-ltb seam end h)
-
-        pub in-index : end ≤ seam → InIndex start (end - start) ≡ rangeIn seam n start end
-        unfolding badRange heldRange
-        in-index h = rw (in-picks seam n start end, lt-ltb start seam s, le-ltb seam end h, le-ltb end start o, le-ltb n end l)
-
-      pub in-data : seam ≤ start → InData (start - seam) (end - start) ≡ rangeIn seam n start end
-      unfolding badRange heldRange
-      in-data h = rw (in-picks seam n start end, le-ltb start seam h, le-ltb end start o, le-ltb n end l)
-
-pub ruleset holding = (in-reversed, in-past, in-across, in-index, in-data, needs)
 
 -- ---- a range request
 
@@ -95,73 +63,10 @@ pub ruleset asking = (range-spec, range-length, range-held, seam-fits, told-yes,
 
 -- ---- what is handed out lies within its file
 
-refused-held : (k i d : ℕ) → Held (Refused k) i d
-refused-held k i d = record { inside = omega arith; fits = omega arith }
-
 unless-held : (k i d : ℕ) (a : RangeAnswer) → (k ≡ 0 → Held a i d) → Held (unless Refused k a) i d
 unfolding unless
 unless-held zero i d a h = h refl
 unless-held (suc k) i d a h = refused-held (suc k) i d
-
-module _ (seam d start end : ℕ) where
-  held-found : (b : Bool) → ltb start seam ≡ b → (b && ltb seam end) ≡ false → start ≤ end → end ≤ seam + d → seam + d < 18446744073709551616
-      → Held (pick b (InIndex start (end - start)) (InData (start - seam) (end - start))) seam d
-  held-found true e f o l s = let g = ltb-false seam end f in record { inside = omega arith; fits = omega arith }
-  held-found false e f o l s = let g = ltb-false start seam e in record { inside = omega arith; fits = omega arith }
-
-  held-in : (b : Bool) → badRange seam (seam + d) start end ≡ b → seam + d < 18446744073709551616 → Held (pick b (Refused 24) (heldRange seam start end)) seam d
-  unfolding badRange heldRange
-  held-in true e s = refused-held 24 seam d
-  held-in false e s =
-      let p = neither (ltb start seam && ltb seam end) _ e in
-      let q = neither (ltb end start) _ (p .1) in
-      held-found (ltb start seam) refl (p .0) (ltb-false _ _ (q .0)) (ltb-false _ _ (q .1)) s
-
--- as the code takes a part: r is what was found
-module _ {r : RangeAnswer} {a k : ℕ} where
-  module _ (q : r ≡ InIndex a k) where
-    pub index-end : {i d : ℕ} → Held r i d → a + k ≤ i
-    index-end h = rw q at (h .inside)
-
-    pub index-fits : {i d : ℕ} → Held r i d → Fits w64 (a + k)
-    index-fits h = record { fits = rw q at (h .fits) }
-
-    pub index-bytes : (index d : List ℕ) → take (a + k - a) (drop a index) ≡ rangeBytes r index d
-    index-bytes index d = let same : a + k - a ≡ k = omega arith in rw (q, same)
-
-    pub index-file : {A : Type 0} (x y : A) → x ≡ either r x y
-    index-file x y = rw q
-
-    pub index-place : (x y : ℕ) → a + x ≡ either r x y + rangeStart r
-    index-place x y = rw q (omega arith)
-
-  module _ (q : r ≡ InData a k) where
-    pub data-end : {i d : ℕ} → Held r i d → a + k ≤ d
-    data-end h = rw q at (h .inside)
-
-    pub data-fits : {i d : ℕ} → Held r i d → Fits w64 (a + k)
-    data-fits h = record { fits = rw q at (h .fits) }
-
-    pub data-bytes : (index d : List ℕ) → take (a + k - a) (drop a d) ≡ rangeBytes r index d
-    data-bytes index d = let same : a + k - a ≡ k = omega arith in rw (q, same)
-
-    pub data-file : {A : Type 0} (x y : A) → y ≡ either r x y
-    data-file x y = rw q
-
-    pub data-place : (x y : ℕ) → a + y ≡ either r x y + rangeStart r
-    data-place x y = rw q (omega arith)
-
-module _ {r : RangeAnswer} {n : ℕ} (q : r ≡ Refused n) where
-  pub none-bytes : (index d : List ℕ) → [] ≡ rangeBytes r index d
-  none-bytes index d = rw q
-
-  pub none-file : {A : Type 0} (x y : A) → y ≡ either r x y
-  none-file x y = rw q
-
-  pub none-place : (x y : ℕ) → 0 + y ≡ either r x y + rangeStart r
-  none-place x y = rw q (omega arith)
-
-pub ruleset parting = (index-end, index-fits, index-bytes, index-file, index-place, data-end, data-fits, data-bytes, data-file, data-place, none-bytes, none-file, none-place, needs)
 
 module _ (spec : Sharding) (index d : List ℕ) (start end : ℕ) where
   range-within : Held (rangeAnswer spec index d start end) (length index) (length d)

@@ -1,12 +1,8 @@
-// The lengths of the two files, and the ranges that each holds.
+// The lengths of the two files.
 ghost use mathlib.Core.Path.{_≡_};
 ghost use mathlib.Core.Bool.{true};
-ghost use Prim.Native.Nat.{_+_};
-ghost use lib.ListN.{length};
 ghost use Rattle.sharding.specs.Specification.{allowed};
 ghost use Rattle.seam.specs.Pair.{lengthNumber};
-ghost use Rattle.seam.specs.Range.{rangeIn, Held, either, rangeStart, rangeBytes};
-use crate::RangeAnswer;
 use shard::inner::MOST_SHARD_BYTES;
 use shard::inner::index_length;
 use sharding::Sharding;
@@ -26,50 +22,4 @@ pub fn length_number(spec: Sharding, index: &[u8], data: &[u8]) -> u8
         return 6;
     }
     0
-}
-
-// ---- ranges
-
-// Which file holds a range of a joined file of `n` bytes, or refusal 24.
-pub fn held(seam: u64, n: u64, start: u64, end: u64) -> RangeAnswer
-    ensures { λ r. ⌜ r ≡ rangeIn seam n start end ⌝ }
-{
-    if end < start {
-        return RangeAnswer::Refused(24);
-    }
-    if n < end {
-        return RangeAnswer::Refused(24);
-    }
-    if start < seam {
-        if seam < end {
-            return RangeAnswer::Refused(24);
-        }
-        return RangeAnswer::InIndex {
-            start: start as usize,
-            length: (end - start) as usize,
-        };
-    }
-    RangeAnswer::InData {
-        start: (start - seam) as usize,
-        length: (end - start) as usize,
-    }
-}
-
-// The part of one of the two files that an answer gives.
-pub fn held_part<'a>(index: &'a [u8], data: &'a [u8], found: RangeAnswer) -> &'a [u8]
-    requires { ⌜ Held found (length (now index)) (length (now «data»)) ⌝ }
-    ensures { λ r. ⌜ now r ≡ rangeBytes found (now (index .entry)) (now («data» .entry)) ⌝ }
-    ensures { λ r. ⌜ (r .ptr .0 ≡ either found (index .entry .ptr .0) («data» .entry .ptr .0)) × (r .ptr .1 ≡ either found (index .entry .ptr .1) («data» .entry .ptr .1) + rangeStart found) ⌝ }
-{
-    match found {
-        RangeAnswer::InIndex { start, length } => {
-            let end = start + length;
-            &index[start..end]
-        }
-        RangeAnswer::InData { start, length } => {
-            let end = start + length;
-            &data[start..end]
-        }
-        RangeAnswer::Refused(_) => &data[0..0],
-    }
 }

@@ -3,16 +3,13 @@ pub mod inner;
 
 ghost use mathlib.Core.Path.{_≡_};
 ghost use Prim.Native.Nat.{_+_};
-ghost use Rattle.seam.specs.Range.{rangeAnswer, either, rangeStart, rangeBytes};
+ghost use Rattle.heldrange.specs.Held.{either, rangeStart, rangeBytes};
+ghost use Rattle.seam.specs.Range.{rangeAnswer};
+use heldrange::RangeAnswer;
+use heldrange::inner::held;
+use heldrange::inner::held_part;
 use sharding::Sharding;
 use sharding::inner::is_allowed;
-
-// Which file holds a range of the joined file, where in that file, and how long it is.
-pub enum RangeAnswer {
-    InIndex { start: usize, length: usize },
-    InData { start: usize, length: usize },
-    Refused(u8),
-}
 
 // Where the bytes of the joined file from `start` up to `end`, end excluded, are, or the refusal.
 pub fn range(spec: Sharding, index: &[u8], data: &[u8], start: u64, end: u64) -> RangeAnswer
@@ -25,7 +22,7 @@ pub fn range(spec: Sharding, index: &[u8], data: &[u8], start: u64, end: u64) ->
     if number != 0 {
         return RangeAnswer::Refused(number);
     }
-    inner::held(
+    held(
         index.len() as u64,
         (index.len() + data.len()) as u64,
         start,
@@ -44,5 +41,5 @@ pub fn range_part<'a>(
     ensures answer { λ r. ⌜ now r ≡ rangeBytes (rangeAnswer spec (now (index .entry)) (now («data» .entry)) start end) (now (index .entry)) (now («data» .entry)) ⌝ }
     ensures place { λ r. ⌜ (r .ptr .0 ≡ either (rangeAnswer spec (now (index .entry)) (now («data» .entry)) start end) (index .entry .ptr .0) («data» .entry .ptr .0)) × (r .ptr .1 ≡ either (rangeAnswer spec (now (index .entry)) (now («data» .entry)) start end) (index .entry .ptr .1) («data» .entry .ptr .1) + rangeStart (rangeAnswer spec (now (index .entry)) (now («data» .entry)) start end)) ⌝ }
 {
-    inner::held_part(index, data, range(spec, index, data, start, end))
+    held_part(index, data, range(spec, index, data, start, end))
 }

@@ -16,10 +16,10 @@ use borrow.Author.Tests.{leb-true, ltb-true, le-leb, lt-ltb, eqb-true, eqb-false
 use Rattle.refusal.proofs.Tests.{both, neither}
 use Rattle.bitmap.specs.Positions.{within}
 use Rattle.bitmap.specs.Bits.{bitAt, Marked}
-use Rattle.bitmap.specs.Window.{noted}
+use Rattle.noted.specs.Window.{noted}
 use Rattle.bitmap.proofs.Words.{bit-shift, bit-zero}
 use Rattle.bitmap.proofs.Marks.{run-marked}
-use Rattle.bitmap.proofs.Windows.{clear-zeros}
+use Rattle.noted.proofs.Windows.{clear-zeros}
 use Rattle.seen.specs.Seen.{Seen, Sees, Blank}
 
 -- ---- reading

@@ -14,9 +14,9 @@ use Rattle.shard.specs.Sound.{SoundShard}
 use Rattle.form.specs.Content.{fileForm}
 use Rattle.form.proofs.Demand3.{Short, demand-3-form-sound, demand-3-form-same}
 use Rattle.shortest.proofs.Listed.{form-listed}
-use Rattle.settle.specs.declared.SettleAnswer.the-variants.{Length, Refused, Faulty}
-use Rattle.settle.specs.Answers.{lengthAnswer, settleAnswer, settleLeft}
-use Rattle.settle.proofs.Answered.{Ready, length-long, length-fits, answer-long, left-long, answer-fits, left-fits, refused-long}
+use Rattle.settleanswers.specs.declared.SettleAnswer.the-variants.{Length, Refused, Faulty}
+use Rattle.settleanswers.specs.Answers.{lengthAnswer, settleAnswer, settleLeft}
+use Rattle.settleanswers.proofs.Answered.{Ready, length-long, length-fits, answer-long, left-long, answer-fits, left-fits, refused-long}
 
 -- the settled form is longer than the output or than 1 GiB
 abbrev pub Longer : Sharding → List ℕ → List ℕ → Type 0

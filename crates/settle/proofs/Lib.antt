@@ -1,5 +1,4 @@
 -- Laws of settling, and demand 3.
 pub mod Refused
-pub mod Answered
 pub mod WriteAnswers
 pub mod Demand3

@@ -1,31 +1,13 @@
 // Settling a shard: writing it in its settled form.
-pub mod inner;
-
 ghost use mathlib.Core.Path.{_≡_};
-ghost use Rattle.settle.specs.Answers.{answerOf, lengthAnswer, settleAnswer, settleLeft};
+ghost use Rattle.settleanswers.specs.Answers.{lengthAnswer, settleAnswer, settleLeft};
 use inspect::check;
-use refusal::Written;
+use settleanswers::SettleAnswer;
+use settleanswers::answer_of;
+use settleparts::inner;
 use shard::CheckAnswer;
 use shard::inner::index_length;
 use sharding::Sharding;
-
-// What settling answers: the length of the settled form, or the refusal. The faults of a minishard come with the byte position of
-// what is wrong, counted from the beginning of the shard.
-pub enum SettleAnswer {
-    Length(usize),
-    Refused(u8),
-    Faulty { number: u8, position: u64 },
-}
-
-// What a writer over two parts answered, as an answer of settling.
-pub fn answer_of(written: Written) -> SettleAnswer
-    ensures { λ r. ⌜ r ≡ answerOf written ⌝ }
-{
-    match written {
-        Written::Length(n) => SettleAnswer::Length(n),
-        Written::Refused(number) => SettleAnswer::Refused(number),
-    }
-}
 
 // The length of the settled form of a sound shard, or the refusal. Unlisted bytes are refused unless the caller asks for `dropping` them.
 pub fn settled_length(spec: Sharding, shard: u64, file: &[u8], dropping: bool) -> SettleAnswer

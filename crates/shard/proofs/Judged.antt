@@ -14,7 +14,7 @@ use Rattle.refusal.proofs.Tests.{neither}
 use Rattle.twice.proofs.Ids.{repeats-no, repeats-miss}
 use Rattle.sharding.specs.declared.Sharding.{Sharding}
 use Rattle.sharding.specs.Specification.{isMesh}
-use Rattle.sharding.specs.Place.{shardOf, minishardOf}
+use Rattle.placement.specs.Place.{shardOf, minishardOf}
 use Rattle.manifest.specs.Verdict.{rightLength, realsFit, nodesRise, manifestChecks, verdict}
 use Rattle.manifest.specs.Soundness.{Sound}
 use Rattle.manifest.proofs.Sounds.{sound-if, sound-only}

@@ -12,7 +12,7 @@ use Rattle.endian.specs.Range.{first}
 use Rattle.twice.specs.Twice.{firstTwice}
 use Rattle.sharding.specs.declared.Sharding.{Sharding}
 use Rattle.index.specs.declared.Fault.{Fault}
-use Rattle.shard.specs.declared.faults.ShardFault.{ShardFault}
+use Rattle.shard.specs.declared.ShardFault.{ShardFault}
 use Rattle.index.specs.Index.{entryStart, entryEnd, entryCount, idSteps, startSteps, sizes}
 use Rattle.index.specs.Tests.{EntryTest, entryTest, entryPlace, rowPlace, firstOf, fault}
 use Rattle.shard.specs.Faults.{foreign, foreignAt, outside, idTest, placeTest, endTest, meshTests, entryTests, faultOf, faultAt, noFault, orLater, firstFault}

@@ -19,7 +19,7 @@ use Rattle.endian.specs.Range.{anyBelow}
 use Rattle.sharding.specs.declared.Sharding.{Sharding}
 use Rattle.sharding.specs.Specification.{allowed, minishardCount, noSuchShard}
 use Rattle.index.specs.declared.Fault.{Fault}
-use Rattle.shard.specs.declared.faults.ShardFault.{ShardFault}
+use Rattle.shard.specs.declared.ShardFault.{ShardFault}
 use Rattle.index.specs.Index.{entryStart, entryEnd, entryCount, mostShardBytes}
 use Rattle.index.specs.Tests.{EntryTest, fault, entryPlace, testPlace, firstOf}
 use Rattle.shard.specs.Faults.{badEntry, badLength, entryTests, faultAt, faultOf, orLater, firstFault, shardFault}

@@ -10,8 +10,8 @@ use lib.ListN.{length}
 use Rattle.endian.specs.Range.{sumTo, anyBelow, first}
 use Rattle.endian.proofs.Ranges.{sum-none, sum-step, any-none, any-more, any-miss, first-none, first-hit, told-none}
 use Rattle.sharding.specs.declared.Sharding.{Sharding}
-use Rattle.sharding.specs.declared.Place.{Place}
-use Rattle.sharding.specs.Place.{placeOf}
+use Rattle.placement.specs.declared.Place.{Place}
+use Rattle.placement.specs.Place.{placeOf}
 use Rattle.twice.specs.Twice.{firstTwice}
 use Rattle.index.specs.Index.{startSteps, sizes, idAt, startAt, endAt, mostShardBytes}
 use Rattle.index.specs.Reading.{Readable}

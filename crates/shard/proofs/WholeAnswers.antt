@@ -10,7 +10,7 @@ use Rattle.refusal.specs.Choice.{pick}
 use Rattle.refusal.proofs.Tests.{told-no, told-yes}
 use Rattle.sharding.specs.declared.Sharding.{Sharding}
 use Rattle.sharding.specs.Specification.{allowed, minishardCount, shardCount, noSuchShard}
-use Rattle.shard.specs.declared.faults.ShardFault.{ShardFault}
+use Rattle.shard.specs.declared.ShardFault.{ShardFault}
 use Rattle.shard.specs.declared.CheckAnswer.the-variants.{Sound, Refused, Faulty}
 use Rattle.shard.specs.Faults.{faultOf, firstFault, shardFault}
 use Rattle.index.specs.Index.{mostShardBytes}

@@ -8,9 +8,9 @@ use Rattle.refusal.specs.Choice.{pick}
 use Rattle.twice.specs.Twice.{repeats}
 use Rattle.sharding.specs.declared.Sharding.{Sharding}
 use Rattle.sharding.specs.Specification.{isMesh, minishardCount}
-use Rattle.sharding.specs.Place.{shardOf, minishardOf}
+use Rattle.placement.specs.Place.{shardOf, minishardOf}
 use Rattle.index.specs.declared.Fault.{Fault}
-use Rattle.shard.specs.declared.faults.ShardFault.{ShardFault}
+use Rattle.shard.specs.declared.ShardFault.{ShardFault}
 use Rattle.index.specs.Tests.{fault, entryPlace, EntryTest, entryTest, firstOf}
 use Rattle.index.specs.Index.{entryStart, entryEnd, entryCount, idSteps, startSteps, sizes, idAt, endAt}
 use Rattle.manifests.specs.Mesh.{manifestTests}

@@ -9,7 +9,7 @@ use lib.ListN.{length}
 use Rattle.refusal.specs.Checks.{firstNumber, firstPosition}
 use Rattle.sharding.specs.declared.Sharding.{Sharding}
 use Rattle.sharding.specs.Specification.{isMesh, allowed, minishardCount, shardCount, noSuchShard}
-use Rattle.sharding.specs.Place.{shardOf, minishardOf}
+use Rattle.placement.specs.Place.{shardOf, minishardOf}
 use Rattle.index.specs.Index.{entryStart, entryEnd, entryCount, idSteps, startSteps, sizes, idAt, startAt, endAt, chunkAt, mostShardBytes}
 use Rattle.manifest.specs.Soundness.{Sound}
 use Rattle.nodes.specs.Nodes.{fragmentsLength}

@@ -1,6 +1,12 @@
-// A shard: its layout, the leads of its chunks, what its judge is made of, what the whole-shard check answers.
-pub mod faults;
+// A shard: its layout, the leads of its chunks, its faults, what the whole-shard check answers.
 pub mod inner;
+
+// The fault of several minishards: of the first that has one.
+pub struct ShardFault {
+    pub number: u8,
+    pub minishard: u64,
+    pub position: u64,
+}
 
 // What the whole-shard check answers: 7 to 11, for a mesh also 15 to 17 and 21, come with the first faulty minishard and the byte
 // position of what is wrong there, counted from the beginning of the shard.

@@ -1,5 +1,3 @@
--- The sharding specification, and the place of an id.
+-- The sharding specification.
 pub mod Specification
-pub mod Place
-pub mod Batch
 pub mod Before

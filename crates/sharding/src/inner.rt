@@ -1,10 +1,8 @@
-// For callers that judge the specification once and then place many ids.
+// Tests of a specification and the numbers that it gives.
 ghost use mathlib.Core.Path.{_≡_};
 ghost use mathlib.Core.Bool.{true};
-ghost use Prim.Native.Nat.{_/_, _%_, _^_, _<_, _≤_};
+ghost use Prim.Native.Nat.{_^_, _<_, _≤_};
 ghost use Rattle.sharding.specs.Specification.{mostMinishardBits, mostShardBits, isMesh, allowed, minishardCount, shardCount};
-ghost use Rattle.sharding.specs.Place.{hashedId, shardOf, minishardOf, placeOf};
-use crate::Place;
 use crate::Sharding;
 
 const MOST_PRESHIFT: u8 = 63;
@@ -15,7 +13,7 @@ const MOST_SHARD_BITS: u8 = 32;
 
 const IDENTITY: u8 = 0;
 
-const MURMUR: u8 = 1;
+pub const MURMUR: u8 = 1;
 
 const VOLUME: u8 = 0;
 
@@ -58,64 +56,4 @@ pub fn shard_count(spec: Sharding) -> u64
     ensures { λ r. ⌜ (r ≡ shardCount spec) × ((0 < r) × (r ≤ 2 ^ mostShardBits)) ⌝ }
 {
     two_to(spec.shard_bits)
-}
-
-fn shifted(spec: Sharding, id: u64) -> u64
-    requires { ⌜ allowed spec ≡ true ⌝ }
-    ensures { λ r. ⌜ r ≡ id / 2 ^ spec .preshift ⌝ }
-{
-    id >> spec.preshift
-}
-
-// The hash of the shifted id.
-pub fn hashed_id(spec: Sharding, id: u64) -> u64
-    requires { ⌜ allowed spec ≡ true ⌝ }
-    ensures { λ r. ⌜ (r ≡ hashedId spec id) × (r < 2 ^ 64) ⌝ }
-{
-    if spec.hash == MURMUR {
-        murmur::hash(shifted(spec, id))
-    } else {
-        shifted(spec, id)
-    }
-}
-
-// The low bits of a hashed id.
-fn minishard_in(spec: Sharding, hashed: u64) -> u64
-    requires { ⌜ allowed spec ≡ true ⌝ }
-    ensures { λ r. ⌜ r ≡ hashed % minishardCount spec ⌝ }
-{
-    hashed % minishard_count(spec)
-}
-
-// The bits above those.
-fn shard_in(spec: Sharding, hashed: u64) -> u64
-    requires { ⌜ allowed spec ≡ true ⌝ }
-    ensures { λ r. ⌜ r ≡ hashed / minishardCount spec % shardCount spec ⌝ }
-{
-    (hashed >> spec.minishard_bits) % shard_count(spec)
-}
-
-pub fn minishard_of(spec: Sharding, id: u64) -> u64
-    requires { ⌜ allowed spec ≡ true ⌝ }
-    ensures { λ r. ⌜ (r ≡ minishardOf spec id) × (r < minishardCount spec) ⌝ }
-{
-    minishard_in(spec, hashed_id(spec, id))
-}
-
-pub fn shard_of(spec: Sharding, id: u64) -> u64
-    requires { ⌜ allowed spec ≡ true ⌝ }
-    ensures { λ r. ⌜ (r ≡ shardOf spec id) × (r < shardCount spec) ⌝ }
-{
-    shard_in(spec, hashed_id(spec, id))
-}
-
-pub fn place(spec: Sharding, id: u64) -> Place
-    requires { ⌜ allowed spec ≡ true ⌝ }
-    ensures { λ r. ⌜ (r ≡ placeOf spec id) × ((r .shard < shardCount spec) × (r .minishard < minishardCount spec)) ⌝ }
-{
-    let hashed = hashed_id(spec, id);
-    Place {
-        shard: shard_in(spec, hashed),
-        minishard: minishard_in(spec, hashed),
-    }
 }

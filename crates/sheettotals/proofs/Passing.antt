@@ -8,7 +8,7 @@ use borrow.Author.Needs.{needs}
 use borrow.Author.Tests.{lt-ltb, le-ltb}
 use lib.Dec.{ltb}
 use Rattle.ids.proofs.Cases.{le-or-lt}
-use Rattle.measure.specs.Answers.{mostTotal, passes}
+use Rattle.chunksums.specs.Totals.{mostTotal, passes}
 use Rattle.shardsheet.specs.declared.Sheet.{Sheet}
 use Rattle.shardsheet.specs.Sheet.{rows}
 use Rattle.sheettotals.specs.Totals.{anyPasses, both}

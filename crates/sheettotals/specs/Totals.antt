@@ -2,7 +2,7 @@
 use Prim.Native.Nat.{ℕ, _+_}
 use mathlib.Core.Bool.{Bool, false, _||_}
 use mathlib.Core.List.{List, [], _∷_}
-use Rattle.measure.specs.Answers.{passes}
+use Rattle.chunksums.specs.Totals.{passes}
 use Rattle.shardsheet.specs.declared.Sheet.{Sheet}
 
 -- RULES H3

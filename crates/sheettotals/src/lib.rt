@@ -1,7 +1,7 @@
 // Whether a total of two sheets passes.
 ghost use mathlib.Core.Path.{_≡_};
 ghost use Prim.Native.Nat.{_+_};
-ghost use Rattle.measure.specs.Answers.{passes};
+ghost use Rattle.chunksums.specs.Totals.{passes};
 ghost use Rattle.shardsheet.specs.Sheet.{rows};
 ghost use Rattle.sheettotals.specs.Totals.{anyPasses, both};
 use shardsheet::Sheet;

@@ -5,11 +5,12 @@ use Rattle.refusal.specs.Checks.{firstNumber, firstPosition, unless}
 use Rattle.endian.specs.Little.{le, leAt, row}
 use Rattle.endian.specs.Range.{sumTo, every, anyBelow, first}
 use Rattle.sharding.specs.Specification.{volume, mesh, allowed}
-use Rattle.sharding.specs.Place.{hashedId, shardOf, minishardOf}
+use Rattle.placement.specs.Place.{hashedId, shardOf, minishardOf}
 use Rattle.layout.specs.Layout.{itemAt as wordAt, isReal, countOf, sizeAt}
 use Rattle.layout.specs.Bits.{finiteBits, aboveZero}
 use Rattle.manifest.specs.Verdict.{rightLength, realFits, realsFit, inOrder, levelRises, riseAt, nodesRise}
-use Rattle.nodes.specs.Nodes.{levelBytes, fragmentsLength}
+use Rattle.fragmentsums.specs.Sums.{levelBytes}
+use Rattle.nodes.specs.Nodes.{fragmentsLength}
 use Rattle.twice.specs.Twice.{repeats}
 use Rattle.index.specs.Tests.{firstOf}
 use Rattle.index.specs.Index.{idAt, startAt}

@@ -1,6 +1,5 @@
 -- Laws of writing one minishard sorted.
 pub mod Filling
 pub mod Naming
-pub mod Copying
 pub mod Stepping
 pub mod SortedWhole

@@ -16,11 +16,12 @@ use Rattle.form.specs.Content.{itemsFrom, itemsAt, byId}
 use Rattle.form.proofs.Sorting.{sort-mem, length-sort}
 use Rattle.threerows.specs.declared.Entry.{Entry}
 use Rattle.threerows.specs.Rows.{idOf, noEntry}
-use Rattle.sortrows.specs.Rows.{sortById}
+use Rattle.heapturns.specs.Rows.{sortById}
 use Rattle.threerows.proofs.Cases.{Either, is, not, either, apart}
-use Rattle.sortrows.proofs.Places.{at-mem, apart-distinct}
+use Rattle.heapturns.proofs.Places.{at-mem, apart-distinct}
 use Rattle.minishard.specs.Writing.{Readable, LeadsIn, Apart}
-use Rattle.sorted.specs.Reordered.{storedAt, storedFrom, storedEntries, itemFrom, named, InData}
+use Rattle.itemruns.specs.Named.{itemFrom, named, InData}
+use Rattle.sorted.specs.Reordered.{storedAt, storedFrom, storedEntries}
 use Rattle.sorted.proofs.Filling.{length-stored, nth-stored}
 
 -- ---- the entries are the items

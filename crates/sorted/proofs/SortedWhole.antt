@@ -21,12 +21,13 @@ use Rattle.form.proofs.Sorting.{rising-sort, rising-later}
 use Rattle.form.proofs.Measures.{length-chunks, length-ids, length-starts, chunks-by-id}
 use Rattle.threerows.specs.declared.Entry.{Entry}
 use Rattle.threerows.specs.Rows.{idOf, entriesAt, rowsOf, Only, noEntry, nth}
-use Rattle.sortrows.specs.Rows.{sortById}
+use Rattle.heapturns.specs.Rows.{sortById}
 use Rattle.threerows.proofs.Bytes.{length-entries, entry-is, only-then, rows-written}
 use Rattle.minishard.specs.Writing.{Readable, LeadsIn, Apart, minishardLength, capped}
-use Rattle.sorted.specs.Reordered.{storedEntries, itemFrom, named, InData, SortedRows, RisingRow, stepsFrom}
+use Rattle.itemruns.specs.Named.{itemFrom, named, InData}
+use Rattle.sorted.specs.Reordered.{storedEntries, SortedRows, RisingRow, stepsFrom}
 use Rattle.sorted.proofs.Naming.{named-sorted, length-sorted, distinct-stored, inside-sorted}
-use Rattle.sorted.proofs.Copying.{read-after, read-before}
+use Rattle.itemruns.proofs.Copying.{read-after, read-before}
 use Rattle.sorted.proofs.Stepping.{steps-ids, steps-same}
 
 -- ---- the rows, sorted

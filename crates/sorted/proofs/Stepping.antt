@@ -15,7 +15,8 @@ use Rattle.shard.specs.Items.{itemOf}
 use Rattle.form.specs.Form.{idRow}
 use Rattle.threerows.specs.Rows.{entriesFrom, entriesAt}
 use Rattle.threerows.proofs.Bytes.{kept}
-use Rattle.sorted.specs.Reordered.{named, RisingRow, stepsFrom}
+use Rattle.itemruns.specs.Named.{named}
+use Rattle.sorted.specs.Reordered.{RisingRow, stepsFrom}
 
 -- ---- ids turned into steps
 

@@ -1,15 +1,11 @@
 -- What the writer that sorts takes and makes: entries with absolute numbers, and the items that they name (RULES U3).
-use Prim.Native.Nat.{ℕ, zero, suc, _+_, _*_, _-_, _≤_, _<_}
+use Prim.Native.Nat.{ℕ, zero, suc, _*_, _-_, _<_}
 use mathlib.Core.Path.{_≡_}
-use mathlib.Core.List.{List, [], _∷_, map}
-use lib.ListN.{length}
-use Rattle.sharding.specs.declared.Sharding.{Sharding}
+use mathlib.Core.List.{List, [], _∷_}
 use Rattle.index.specs.Index.{idSteps, startSteps, sizes, idAt, startAt}
-use Rattle.shard.specs.Items.{Item, itemOf, Led}
-use Rattle.form.specs.Sorted.{Member}
 use Rattle.threerows.specs.declared.Entry.{Entry}
 use Rattle.threerows.specs.Rows.{entriesAt, Only}
-use Rattle.sortrows.specs.Rows.{sortById}
+use Rattle.heapturns.specs.Rows.{sortById}
 
 -- entry i of the minishard index of n entries at s
 unfoldable pub storedAt : List ℕ → ℕ → ℕ → ℕ → Entry
@@ -23,18 +19,6 @@ storedFrom d s n i (suc k) = storedAt d s n i ∷ storedFrom d s n (suc i) k
 -- all of them
 unfoldable pub storedEntries : List ℕ → ℕ → ℕ → List Entry
 storedEntries d s n = storedFrom d s n 0 n
-
--- the item that an entry names, and those of several
-abbrev pub itemFrom : Sharding → List ℕ → Entry → Item
-itemFrom spec d e = itemOf spec d (e .id) (e .start) (e .size)
-
-unfoldable pub named : Sharding → List ℕ → List Entry → List Item
-named spec d es = map (itemFrom spec d) es
-
--- the chunk of each entry lies within d, and so does its lead
-pub record InData (spec : Sharding) (d : List ℕ) (es : List Entry) : Type 0 where
-  pub inside : (e : Entry) → Member e es → e .start + e .size ≤ length d
-  pub led : (e : Entry) → Member e es → Led spec d (e .start) (e .size)
 
 -- e is d₀ but for three rows at q, which hold the entries of the minishard index of n entries at s, sorted by id
 pub record SortedRows (d : List ℕ) (s n : ℕ) (d₀ : List ℕ) (q : ℕ) (e : List ℕ) : Type 0 where

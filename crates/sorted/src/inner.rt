@@ -6,22 +6,20 @@ ghost use lib.ListN.{length};
 ghost use Rattle.endian.specs.Little.{row, rowAt};
 ghost use Rattle.endian.specs.Place.{paste};
 ghost use Rattle.index.specs.Index.{mostShardBytes};
-ghost use Rattle.form.specs.Form.{chunksOf, chunksLength, startRow, partOf};
+ghost use Rattle.form.specs.Form.{partOf};
 ghost use Rattle.form.specs.Content.{itemsAt, byId};
 ghost use Rattle.threerows.specs.Rows.{entriesAt, Only};
 ghost use Rattle.minishard.specs.Writing.{Readable, LeadsIn, Apart, minishardLength};
-ghost use Rattle.sorted.specs.Reordered.{storedEntries, named, InData, RisingRow, stepsFrom, SortedRows};
-use copying::inner::copy_bytes;
+ghost use Rattle.sorted.specs.Reordered.{storedEntries, RisingRow, stepsFrom, SortedRows};
 use endian::inner::put_u64;
 use endian::inner::read_u64;
-use minishard::inner::may_stand;
+use itemruns::inner::copy_items;
 use minishard::inner::part_length;
-use shard::inner::lead_length;
 use sharding::Sharding;
 use sortrows::inner::sort_rows;
+use standing::inner::may_stand;
 use stored::inner::settle_stored;
 use threerows::Entry;
-use threerows::inner::get;
 use threerows::inner::put;
 
 // The entries with absolute numbers, as they stand, in three rows at q.
@@ -53,30 +51,6 @@ fn sort_index(data: &[u8], s: usize, n: usize, out: &mut [u8], q: usize)
 {
     put_rows(data, s, n, out, q);
     sort_rows(out, q, n);
-}
-
-// The items of the entries whose rows stand at q, lead and chunk in one run, one after the other in the order of the rows. The place
-// of an entry's start is then free for its start step: its lead, and for the first the minishard's place p too.
-fn copy_items(spec: Sharding, data: &[u8], n: usize, out: &mut [u8], q: usize, at: usize, p: usize)
-    requires { ⌜ InData spec (now «data») (entriesAt (now out) q n) × (p ≤ at) ⌝ }
-    requires { ⌜ (at + chunksLength (named spec (now «data») (entriesAt (now out) q n)) ≤ q) × (q + 24 * n ≤ length (now out)) ⌝ }
-    ensures { λ _. ⌜ now (out .exit) ≡ paste at (chunksOf (named spec (now («data» .entry)) (entriesAt (now (out .entry)) q n))) (paste (q + 8 * n) (row (startRow p (named spec (now («data» .entry)) (entriesAt (now (out .entry)) q n)))) (now (out .entry))) ⌝ }
-{
-    let mut to = at;
-    let mut place = p;
-    let mut i = 0;
-    while i < n {
-        let e = get(out, q, n, i);
-        let start = e.start as usize;
-        let size = e.size as usize;
-        let lead = lead_length(spec, data, start, size);
-        let len = lead + size;
-        copy_bytes(data, start - lead, len, out, to);
-        put_u64(out, q + 8 * n + 8 * i, (place + lead) as u64);
-        place = 0;
-        to += len;
-        i += 1;
-    }
 }
 
 // The rising ids of a row, turned into steps.

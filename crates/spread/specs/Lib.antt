@@ -1,3 +1,1 @@
 pub mod Spread
-pub mod Parts
-pub mod Row

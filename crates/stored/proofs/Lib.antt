@@ -1,3 +1,2 @@
 -- Laws of writing one minishard as it stands.
 pub mod StoredRows
-pub mod StoredChunks

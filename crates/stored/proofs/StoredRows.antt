@@ -4,7 +4,6 @@ use mathlib.Core.Path.{_≡_, refl, sym, ap, _∙_}
 use mathlib.Core.List.{List, [], _∷_, _++_, append-assoc}
 use native.Mathlib.Omega.{arith}
 use native.Mathlib.Nat.{add-zero, not-suc-le-zero}
-use borrow.Author.Needs.{needs}
 use lib.ListN.{length, getD, take, drop, replicate, replicate-append-replicate, length-append, length-replicate}
 use lib.Seq.{take-add, drop-drop}
 use mir.Val.{Fits}
@@ -109,11 +108,6 @@ starts-bytes spec d s (suc k) p none l =
     let e : 8 * suc k - 8 ≡ 8 * k = omega arith in
     rw (items-cons spec d s (suc k) 0 k none, starts-zero spec d s (suc k) 1 k none, add-zero p, e)
 
-pub starts-written : (p n at : ℕ) (o : List ℕ) {o₁ o₂ : List ℕ} → at + 8 * n ≤ length o → 0 < n → o₁ ≡ paste at (le 8 p) o
-    → o₂ ≡ paste (at + 8) (replicate (8 * n - 8) 0) o₁ → o₂ ≡ paste at (le 8 p ++ replicate (8 * n - 8) 0) o
-starts-written p n at o l h u v =
-    paste-then at (at + 8) (le 8 p) (replicate (8 * n - 8) 0) o u v (omega (arith, length-le 8 p)) (omega (arith, length-le 8 p))
-
 -- ---- a settled minishard
 
 -- its chunks alone
@@ -161,5 +155,3 @@ part-written spec d s n p at ids o r t b l e h₁ h₂ h₃ h₄ =
     let g₃ = paste-then at (ids + 8 * n) (A ++ B) C o g₂ h₃ (omega arith) (omega arith) in
     let g₄ = paste-then at (ids + 8 * n + 8 * n) ((A ++ B) ++ C) D o g₃ h₄ (omega arith) (omega arith) in
     g₄ ∙ rw (part-is spec d s n p r t (λ i. b i .fits)) (simp append-assoc)
-
-pub ruleset writing = (starts-written, needs)

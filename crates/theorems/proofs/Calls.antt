@@ -20,9 +20,9 @@ use Rattle.bounds.specs.Answers.{boundsChecks, boundsAnswer}
 use Rattle.batch.specs.Batch.{keysChecks, keysAnswer, keysLeft}
 use Rattle.overlap.specs.Cover.{coverChecks, coverAnswer, coverLeft}
 use Rattle.sharding.specs.declared.Sharding.{Sharding}
-use Rattle.sharding.specs.declared.PlaceAnswer.the-variants as P
-use Rattle.sharding.specs.Place.{placeChecks, placeAnswer}
-use Rattle.sharding.specs.Batch.{placesChecks, placesAnswer, shardsLeft, minishardsLeft}
+use Rattle.placement.specs.declared.PlaceAnswer.the-variants as P
+use Rattle.placement.specs.Place.{placeChecks, placeAnswer}
+use Rattle.manyplaces.specs.Batch.{placesChecks, placesAnswer, shardsLeft, minishardsLeft}
 use Rattle.chunknames.specs.Chunks.{chunkNameChecks, chunkNameAnswer, chunkNameLeft}
 use Rattle.names.specs.Shards.{fileNameChecks, fileNameAnswer, fileNameLeft}
 use Rattle.names.specs.declared.FileKind.{FileKind}

@@ -24,7 +24,7 @@ use Rattle.fragment.proofs.Depends.{fragment-depends-only-on-these}
 use Rattle.listing.proofs.Refused.{count-refuses, listing-refuses, listing-kept}
 use Rattle.listing.proofs.Listed.{listing-says-what-is-listed}
 use Rattle.form.proofs.Demand3.{file-form-length, demand-3-one-form, demand-3-same, demand-3-form-passes, demand-3-form-lists}
-use Rattle.settle.specs.declared.SettleAnswer.the-variants.{Length}
+use Rattle.settleanswers.specs.declared.SettleAnswer.the-variants.{Length}
 use Rattle.settle.proofs.Refused.{length-refuses, settle-refuses, settle-kept}
 use Rattle.settle.proofs.Demand3.{demand-3-form-settles, demand-3-length, demand-3-length-refused, demand-3-refused, demand-3-written}
 use Rattle.seam.proofs.Ranges.{range-refuses}

@@ -14,7 +14,7 @@ use Rattle.ids.proofs.Cases.{eq-or-not}
 use Rattle.shard.specs.declared.CheckAnswer.{CheckAnswer}
 use Rattle.shard.specs.declared.CheckAnswer.the-variants.{Sound, Refused, Faulty}
 use Rattle.measure.specs.declared.Counts.{Counts}
-use Rattle.measure.specs.Answers.{mostTotal, passes}
+use Rattle.chunksums.specs.Totals.{mostTotal, passes}
 use Rattle.shardsheet.specs.declared.Sheet.{Sheet}
 use Rattle.holdings.specs.declared.SheetAnswer.the-variants.{Total, Refused as SheetRefused}
 use Rattle.shardsheet.specs.Sheet.{rows, empty, tally, soundSheet, refusedSheet, shardSheet, numbers, isAmong, hasRow}

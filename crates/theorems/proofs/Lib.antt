@@ -1,5 +1,3 @@
-pub mod Table
-pub mod MeshTable
 pub mod Calls
 pub mod Measures
 pub mod Demands

@@ -22,7 +22,8 @@ use Rattle.pair.specs.Answers.{pairCheck}
 use Rattle.measure.specs.declared.MeasureAnswer.{MeasureAnswer}
 use Rattle.measure.specs.declared.MeasureAnswer.the-variants.{Sound, Refused, Faulty}
 use Rattle.measure.specs.Measures.{chunkBytes, fileMeasure}
-use Rattle.measure.specs.Answers.{passes, measuredIn, afterVerdict, measureAnswer, pairMeasure}
+use Rattle.chunksums.specs.Totals.{passes}
+use Rattle.measure.specs.Answers.{measuredIn, afterVerdict, measureAnswer, pairMeasure}
 use Rattle.measure.proofs.Answered.{measure-faulty, named-fault}
 use Rattle.shardsheet.specs.declared.Sheet.{Sheet}
 use Rattle.holdings.specs.declared.SheetAnswer.the-variants as Sh

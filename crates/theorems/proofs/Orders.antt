@@ -11,8 +11,8 @@ use Rattle.refusal.specs.Buffer.{room}
 use Rattle.endian.specs.Little.{le}
 use Rattle.sharding.specs.declared.Sharding.{Sharding}
 use Rattle.sharding.specs.Specification.{mesh, minishardBits, allowed, noSuchShard}
-use Rattle.sharding.specs.Place.{placeChecks}
-use Rattle.sharding.specs.Batch.{shardsOf, minishardsOf, placesChecks}
+use Rattle.placement.specs.Place.{placeChecks}
+use Rattle.manyplaces.specs.Batch.{shardsOf, minishardsOf, placesChecks}
 use Rattle.sharding.specs.Before.{allowedBefore}
 use Rattle.sharding.proofs.Allowed.{allowed-within}
 use Rattle.sharding.proofs.Before.{same-before}
@@ -35,11 +35,11 @@ use Rattle.ranges.specs.Covered.{unlistedBytes, fileUnlisted}
 use Rattle.ranges.proofs.Meaning.{missed-unlisted, none-unlisted}
 use Rattle.unlisted.proofs.Counted.{unlisted-sound}
 use Rattle.shortest.proofs.Listed.{form-listed}
-use Rattle.settle.specs.Answers.{losesBytes, unlistedCheck, lengthCheck, lengthChecks, lengthAnswer, settleCheck, settleChecks, settleAnswer, settleLeft}
-use Rattle.settle.proofs.Answered.{length-lost, answer-lost, left-lost}
+use Rattle.settleanswers.specs.Answers.{losesBytes, unlistedCheck, lengthCheck, lengthChecks, lengthAnswer, settleCheck, settleChecks, settleAnswer, settleLeft}
+use Rattle.settleanswers.proofs.Answered.{length-lost, answer-lost, left-lost}
 use Rattle.settle.proofs.Demand3.{demand-3-written}
 use Rattle.batch.proofs.Each.{keys-of-each}
-use Rattle.spread.proofs.Laws as S
+use Rattle.scan.proofs.Laws as S
 use Rattle.overlap.proofs.Laws.{listed-is, cell-listed, keys-rise, reversed-lists-none, outside-lists-none, keys-written}
 use Rattle.positions.proofs.Points.{check-points, lookup-points, fragment-points, count-points, listing-points, unlisted-named, length-named, settle-named}
 use Rattle.theorems.specs.Orders.{Order2, Order4, Order5, Order6, Order7, settleChecksBefore, lengthChecksBefore, Order8, Order9}

@@ -25,10 +25,10 @@ use Rattle.bounds.specs.Answers.{boundsChecks, boundsAnswer}
 use Rattle.batch.specs.Batch.{keysChecks, keysAnswer, keysLeft}
 use Rattle.overlap.specs.Cover.{coverChecks, coverAnswer, coverLeft}
 use Rattle.sharding.specs.declared.Sharding.{Sharding}
-use Rattle.sharding.specs.declared.PlaceAnswer.the-variants as P
+use Rattle.placement.specs.declared.PlaceAnswer.the-variants as P
 use Rattle.sharding.specs.Specification.{isMesh, noSuchShard}
-use Rattle.sharding.specs.Place.{minishardOf, placeChecks, placeAnswer}
-use Rattle.sharding.specs.Batch.{placesChecks, placesAnswer, shardsLeft, minishardsLeft}
+use Rattle.placement.specs.Place.{minishardOf, placeChecks, placeAnswer}
+use Rattle.manyplaces.specs.Batch.{placesChecks, placesAnswer, shardsLeft, minishardsLeft}
 use Rattle.chunknames.specs.Chunks.{chunkNameChecks, chunkNameAnswer, chunkNameLeft}
 use Rattle.names.specs.Shards.{fileNameChecks, fileNameAnswer, fileNameLeft}
 use Rattle.names.specs.declared.FileKind.{FileKind}
@@ -51,10 +51,10 @@ use Rattle.listing.specs.declared.CountAnswer.the-variants as N
 use Rattle.listing.specs.Listing.{listingOf, countChecks, countAnswer, listingChecks, listingAnswer, listingLeft}
 use Rattle.listing.specs.Triples.{Says}
 use Rattle.form.specs.Content.{fileForm, fileFormLength}
-use Rattle.settle.specs.declared.SettleAnswer.the-variants as S
-use Rattle.settle.specs.Answers.{lengthChecks, lengthAnswer, settleChecks, settleAnswer, settleLeft}
+use Rattle.settleanswers.specs.declared.SettleAnswer.the-variants as S
+use Rattle.settleanswers.specs.Answers.{lengthChecks, lengthAnswer, settleChecks, settleAnswer, settleLeft}
 use Rattle.seam.specs.Pair.{pairChecks}
-use Rattle.seam.specs.declared.RangeAnswer.the-variants as R
+use Rattle.heldrange.specs.declared.RangeAnswer.the-variants as R
 use Rattle.seam.specs.Range.{rangeChecks, rangeAnswer}
 use Rattle.pair.specs.Answers.{otherShard, pairCheck, pairLookup, pairFragment}
 use Rattle.pairform.specs.Answers.{noMinishard, pairCount, pairListing, pairListingLeft, pairUnlisted, pairLength, pairSettle, pairSettleLeft}
@@ -66,7 +66,8 @@ use Rattle.intake.specs.Calls.{openAnswer, openLeft, announceAnswer, announceLe
 use Rattle.measure.specs.declared.MeasureAnswer.{MeasureAnswer}
 use Rattle.measure.specs.declared.MeasureAnswer.the-variants as Ms
 use Rattle.measure.specs.Measures.{chunkBytes}
-use Rattle.measure.specs.Answers.{passes, measureAnswer, pairMeasure}
+use Rattle.chunksums.specs.Totals.{passes}
+use Rattle.measure.specs.Answers.{measureAnswer, pairMeasure}
 use Rattle.shardsheet.specs.declared.Sheet.{Sheet}
 use Rattle.holdings.specs.declared.SheetAnswer.the-variants as Sh
 use Rattle.shardsheet.specs.Sheet.{rows}
@@ -87,7 +88,8 @@ use Rattle.manifestread.specs.Fields.{headerAnswer, fieldChecks, fieldAnswer}
 use Rattle.nodes.specs.declared.NodeAnswer.the-variants as O
 use Rattle.nodes.specs.Run.{fragmentOf, joined}
 use Rattle.nodes.specs.Nodes.{hasNode, fragmentsLength, nodeAt, nodeChecks, nodeAnswer}
-use Rattle.levelnodes.specs.Level.{numbersOf, nodesOf, nodesChecks, nodesAnswer, nodesLeft}
+use Rattle.nodenumbers.specs.Numbers.{numbersOf, nodesOf}
+use Rattle.levelnodes.specs.Level.{nodesChecks, nodesAnswer, nodesLeft}
 use Rattle.corners.specs.declared.CornersAnswer.the-variants as Cs
 use Rattle.corners.specs.Boxes.{cornersChecks, cornersAnswer}
 

@@ -1,5 +1,3 @@
-pub mod Cases
-pub mod MeshCases
 pub mod Demands
 pub mod Orders
 pub mod Pairs

@@ -18,14 +18,14 @@ use Rattle.morton.specs.Key.{tooManyBits, keyOf, cellOf, isKey}
 use Rattle.morton.specs.Answers.{keyAnswer}
 use Rattle.batch.specs.Batch.{eachInGrid, keysOf, keysAnswer, keysLeft}
 use Rattle.spread.specs.Spread.{Spreads, Placed}
-use Rattle.spread.specs.Parts.{lowKey, restKey, Shared}
-use Rattle.spread.specs.Row.{rowOf}
+use Rattle.keyplan.specs.Parts.{lowKey, restKey, Shared}
+use Rattle.cellrows.specs.Row.{rowOf}
 use Rattle.overlap.specs.Cover.{coverKeys, coverAnswer, coverLeft}
 use Rattle.overlap.specs.Meaning.{SharesVoxel, RisingFrom, reversed, outside}
 use Rattle.sharding.specs.declared.Sharding.{Sharding}
 use Rattle.sharding.specs.Specification.{volume, mesh, isMesh, minishardBits, allowed, noSuchShard}
-use Rattle.sharding.specs.Place.{minishardOf, placeChecks}
-use Rattle.sharding.specs.Batch.{shardsOf, minishardsOf, placesChecks}
+use Rattle.placement.specs.Place.{minishardOf, placeChecks}
+use Rattle.manyplaces.specs.Batch.{shardsOf, minishardsOf, placesChecks}
 use Rattle.sharding.specs.Before.{mostMinishardBitsBefore, allowedBefore}
 use Rattle.names.specs.Shards.{shardName, shardNameChecks}
 use Rattle.shard.specs.declared.CheckAnswer.the-variants.{Sound, Faulty}
@@ -50,8 +50,8 @@ use Rattle.listing.specs.declared.CountAnswer.the-variants as N
 use Rattle.listing.specs.Listing.{countAnswer, listingAnswer}
 use Rattle.form.specs.Content.{fileForm, fileFormLength}
 use Rattle.form.specs.Before.{fileFormBefore, fileFormBeforeMesh}
-use Rattle.settle.specs.declared.SettleAnswer.the-variants as S
-use Rattle.settle.specs.Answers.{lengthCheck, settleCheck, lengthAnswer, settleAnswer, settleLeft}
+use Rattle.settleanswers.specs.declared.SettleAnswer.the-variants as S
+use Rattle.settleanswers.specs.Answers.{lengthCheck, settleCheck, lengthAnswer, settleAnswer, settleLeft}
 use Rattle.positions.specs.Points.{PointsAt, Named}
 use Rattle.card.specs.declared.Card.{Card}
 use Rattle.card.specs.declared.CardAnswer.the-variants.{Says, Refused}

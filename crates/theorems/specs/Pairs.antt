@@ -12,9 +12,10 @@ use Rattle.lookup.specs.Find.{lookupAnswer}
 use Rattle.fragment.specs.Fragment.{fragmentAnswer}
 use Rattle.listing.specs.Listing.{countAnswer, listingAnswer, listingLeft}
 use Rattle.unlisted.specs.Answers.{unlistedAnswer}
-use Rattle.settle.specs.Answers.{lengthAnswer, settleAnswer, settleLeft}
-use Rattle.seam.specs.declared.RangeAnswer.the-variants.{InIndex, InData}
-use Rattle.seam.specs.Range.{rangeChecks, rangeAnswer, rangeBytes}
+use Rattle.settleanswers.specs.Answers.{lengthAnswer, settleAnswer, settleLeft}
+use Rattle.heldrange.specs.declared.RangeAnswer.the-variants.{InIndex, InData}
+use Rattle.heldrange.specs.Held.{rangeBytes}
+use Rattle.seam.specs.Range.{rangeChecks, rangeAnswer}
 use Rattle.pair.specs.Answers.{pairCheck, pairLookup, pairFragment}
 use Rattle.pairform.specs.Answers.{pairCount, pairListing, pairListingLeft, pairUnlisted, pairLength, pairSettle, pairSettleLeft}
 

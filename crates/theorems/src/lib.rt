@@ -1,1 +1,1 @@
-// The cases and the demands, as statements about the other crates' definitions: specs/ and proofs/. No code of its own.
+// The demands and the promises of the orders, as statements about the other crates' definitions: specs/ and proofs/. No code of its own.

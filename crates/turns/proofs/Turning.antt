@@ -7,7 +7,7 @@ use native.Mathlib.Omega.{arith}
 use borrow.Author.Needs.{needs}
 use borrow.Author.Tests.{lt-ltb, le-ltb, eq-eqb, ne-eqb, eqb-true, eqb-false, not-true, not-false}
 use lib.Dec.{eqb}
-use lib.IntN.{ℤ, pos, negsuc}
+use lib.IntN.{ℤ, pos}
 use lib.ListN.{length, getD, take, drop}
 use lib.Seq.{length-take-le, take-append-le, drop-append-seam}
 use mir.Syntax.{w64}
@@ -20,8 +20,9 @@ use Rattle.holdings.specs.declared.SheetAnswer.{SheetAnswer}
 use Rattle.holdings.specs.declared.SheetAnswer.the-variants.{Total, Refused}
 use Rattle.shardsheet.specs.Sheet.{empty}
 use Rattle.holdings.specs.Answers.{addAnswer}
+use Rattle.inputend.specs.End.{isNone}
 use Rattle.turns.specs.declared.Turn.{Turn}
-use Rattle.turns.specs.Turns.{specIn, bodyLength, more, ended, cut, tooLong, full, turning, turnBy, turnOf, stopsShort, isNone, told, unreadable, TurnedBy, Turned, Told, Next, Reached, begun, went, mostTurns, Finished}
+use Rattle.turns.specs.Turns.{specIn, bodyLength, more, ended, cut, tooLong, full, turning, turnBy, turnOf, stopsShort, told, unreadable, TurnedBy, Turned, Told, Next, Reached, begun, went, mostTurns, Finished}
 
 pub spec-is : (head : List ℕ) → record { preshift = getD head 0 0; hash = getD head 1 0; «minishard_bits» = getD head 2 0; «shard_bits» = getD head 3 0; kind = getD head 4 0 } ≡ specIn head
 unfolding specIn
@@ -138,12 +139,7 @@ module _ (t : Turn) (z : ℤ) {b : Bool} (p : b ≡ isNone (toZ w64 (ofZ w64 z))
   unfolding told
   told-unreadable q = rw (← ap isNone (toZ-ofZ f), ← p, q)
 
-pub none-is : (z : ℤ) → SFits w64 z → eqb (ofZ w64 z) 0 ≡ isNone z
-unfolding isNone
-none-is (pos n) f = refl
-none-is (negsuc n) f = ne-eqb (18446744073709551616 - suc n) 0 (λ e. omega (arith, f .sfits))
-
-pub ruleset telling = (none-is, stops-short, told-stays, told-by, next-told, told-end, told-unreadable, needs)
+pub ruleset telling = (stops-short, told-stays, told-by, next-told, told-end, told-unreadable, needs)
 
 -- ---- turn after turn
 

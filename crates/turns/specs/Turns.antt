@@ -1,10 +1,10 @@
 -- What the program `sheet` makes of its input, shard by shard (RULES H5; docs/SHEET.md fixes the input).
 use Prim.Native.Nat.{ℕ, suc, _-_, _^_, _≤_}
 use mathlib.Core.Path.{_≡_}
-use mathlib.Core.Bool.{Bool, false, _||_}
+use mathlib.Core.Bool.{Bool, _||_}
 use mathlib.Core.List.{List}
 use lib.Dec.{ltb, eqb}
-use lib.IntN.{ℤ, pos, negsuc}
+use lib.IntN.{ℤ}
 use lib.ListN.{length, getD, take, drop}
 use Rattle.refusal.specs.Choice.{pick}
 use Rattle.endian.specs.Little.{leAt}
@@ -14,6 +14,7 @@ use Rattle.holdings.specs.declared.SheetAnswer.{SheetAnswer}
 use Rattle.holdings.specs.declared.SheetAnswer.the-variants.{Total, Refused}
 use Rattle.shardsheet.specs.Sheet.{empty}
 use Rattle.holdings.specs.Answers.{addAnswer}
+use Rattle.inputend.specs.End.{isNone}
 use Rattle.turns.specs.declared.Turn.{Turn}
 
 -- a shard's header: preshift, hash, minishard bits, shard bits and kind, one byte each, its number of 8 bytes and its length of 4, little-endian
@@ -78,11 +79,6 @@ bodyLength head = pick (ltb (length head) headerBytes) 0 (pick (ltb mostBytes (l
 
 unfoldable pub stopsShort : Turn → Bool
 stopsShort t = eqb (t .ending) ended || eqb (t .ending) cut
-
--- what a read of one byte more answers at the input's end: 0, and -1 where it fails
-unfoldable pub isNone : ℤ → Bool
-isNone (pos n) = eqb n 0
-isNone (negsuc n) = false
 
 unfoldable pub told : Turn → ℤ → Turn
 told t answer = pick (isNone answer) t (turning (t .sheet) unreadable)

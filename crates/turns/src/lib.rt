@@ -2,10 +2,11 @@
 ghost use mathlib.Core.Path.{_≡_};
 ghost use Prim.Native.Nat.{_≤_};
 ghost use lib.ListN.{length};
-ghost use Rattle.turns.specs.Turns.{headerBytes, specIn, bodyLength, turnOf, turnBy, stopsShort, isNone, told};
+ghost use Rattle.turns.specs.Turns.{headerBytes, specIn, bodyLength, turnOf, turnBy, stopsShort, told};
 use endian::inner::read_u32;
 use endian::inner::read_u64;
 use holdings::SheetAnswer;
+use inputend::is_none;
 use sharding::Sharding;
 use shardsheet::Sheet;
 
@@ -104,13 +105,6 @@ pub fn stops_short(turn: Turn) -> bool
 {
     let ending = turn.ending;
     (ending == END) | (ending == CUT)
-}
-
-// Whether a read answered that no byte is left. A failed one answers -1.
-fn is_none(answer: isize) -> bool
-    ensures { λ r. ⌜ r ≡ isNone answer ⌝ }
-{
-    answer == 0
 }
 
 // What is told of a turn that found too few bytes, by what one read more answered: only that can tell the input's end from a

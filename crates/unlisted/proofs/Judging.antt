@@ -15,7 +15,7 @@ use Rattle.sharding.specs.Specification.{minishardCount}
 use Rattle.index.specs.declared.Fault.{Fault}
 use Rattle.index.specs.Index.{entryStart, entryEnd, mostShardBytes}
 use Rattle.index.specs.Tests.{fault}
-use Rattle.shard.specs.declared.faults.ShardFault.{ShardFault}
+use Rattle.shard.specs.declared.ShardFault.{ShardFault}
 use Rattle.shard.specs.Faults.{faultOf, orLater, firstFault, shardFault}
 use Rattle.shard.specs.File.{indexLength}
 use Rattle.shard.specs.Sound.{SoundMinishard}

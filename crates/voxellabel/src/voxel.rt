@@ -3,49 +3,21 @@ ghost use mathlib.Core.Path.{_≡_};
 ghost use mathlib.Core.Bool.{false};
 ghost use Prim.Native.Nat.{_+_, _*_, _/_, _^_, _<_};
 ghost use lib.ListN.{length};
-ghost use Rattle.segmentation.specs.Layout.{noVoxels, blockNumber, placeNumber};
+ghost use Rattle.segmentation.specs.Layout.{noVoxels};
 ghost use Rattle.segmentation.specs.Labels.{labelWords};
 ghost use Rattle.segmentation.specs.Steps.{blockAnswer, channelAnswer, voxelAnswer};
 ghost use Rattle.values.specs.Far.{number, sumBelow};
-use grid::inner::grid_size;
 use segmentation::LabelAnswer;
 use segmentation::Shape;
 use segmentation::inner::is_width;
 use values::inner::Far;
 use values::inner::Sum;
 use values::inner::below;
-use values::inner::linear;
 use values::inner::value_label;
 use values::inner::word_at;
 use values::inner::words;
-
-// The number of the voxel's block, and the voxel's number inside it.
-fn block_of(shape: Shape, x: u32, y: u32, z: u32) -> Far
-    requires { ⌜ noVoxels shape ≡ false ⌝ }
-    ensures { λ r. ⌜ (number r ≡ blockNumber shape x y z) × (r .low < 2 ^ 32) × (0 < r .step) × (r .step < 2 ^ 32) ⌝ }
-{
-    let extents = shape.extents;
-    let block = shape.block;
-    let across = grid_size(extents.x, block.x);
-    let down = grid_size(extents.y, block.y);
-    Far {
-        low: (x / block.x) as u64,
-        step: across as u64,
-        high: linear(y / block.y, down, z / block.z),
-    }
-}
-
-fn place_of(shape: Shape, x: u32, y: u32, z: u32) -> Far
-    requires { ⌜ noVoxels shape ≡ false ⌝ }
-    ensures { λ r. ⌜ (number r ≡ placeNumber shape x y z) × (r .low < 2 ^ 32) × (0 < r .step) × (r .step < 2 ^ 32) ⌝ }
-{
-    let block = shape.block;
-    Far {
-        low: (x % block.x) as u64,
-        step: block.x as u64,
-        high: linear(y % block.y, block.y, z % block.z),
-    }
-}
+use voxelplace::inner::block_of;
+use voxelplace::inner::place_of;
 
 // The word after the first of the header of block n, where that header is whole.
 fn header_end(chunk: &[u8], o: u64, n: Far) -> Sum

@@ -11,10 +11,10 @@ use lib.Dec.{ltb, leb}
 use lib.ListN.{length, take, drop}
 use Rattle.endian.specs.Little.{leAt}
 use Rattle.bitmap.specs.Positions.{within, after, misses}
-use Rattle.bitmap.specs.Window.{span, noted, Notes, Clear}
+use Rattle.noted.specs.Window.{span, noted, Notes, Clear}
 use Rattle.bitmap.proofs.Within.{same-test, within-yes, within-before, within-past, within-from, within-to, within-empty}
 use Rattle.bitmap.proofs.Counts.{misses-le, misses-same, misses-after}
-use Rattle.bitmap.proofs.Windows.{notes-none, notes-as, notes-then}
+use Rattle.noted.proofs.Windows.{notes-none, notes-as, notes-then}
 use Rattle.sharding.specs.declared.Sharding.{Sharding}
 use Rattle.sharding.specs.Specification.{minishardCount}
 use Rattle.index.specs.Index.{entryStart, entryEnd, mostShardBytes}

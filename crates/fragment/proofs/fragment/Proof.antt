@@ -6,9 +6,20 @@ use Rattle.fragment.proofs.Handed.{manifest-sound, manifest-behind}
 use Rattle.fragment.proofs.fragment.Statement.{statement}
 use Rattle.fragment.proofs.fragment.Tie as tie
 
+returns : tie.Need-returns
+returns c = answer-volume _ _ _ _ _ _ (c .before .before .before .before .before .lookup .ensures) (c .before .before .before .found .given .1) (c .before .is-mesh .ensures) (c .if1 .taken)
+
+returns-2 : tie.Need-returns-2
+returns-2 c =
+    answer-mesh _ _ _ _ _ _ (c .before .before .before .before .before .before .before .lookup .ensures) (c .before .before .before .before .before .found .given .1) (c .before .before .before .is-mesh .ensures) (c .before .before .if1 .left)
+    (c .before .part-of .ensures .0) (c .fragment-in .ensures)
+
+returns-3 : tie.Need-returns-3
+returns-3 c = answer-refused _ _ _ _ _ _ (c .before .before .before .lookup .ensures) (c .before .found2 .given .1)
+
 pub fragment-spec : {M : Type 1} → statement M
 fragment-spec =
     tie.close
-    (tie.spec (λ c κs. search needs) (λ c. search needs) (λ c κs. search needs) (λ c. search answer-volume)
+    (tie.spec (λ c κs. search needs) (λ c. search needs) (λ c κs. search needs) returns
     (λ c κs. (search chunk-inside, search chunk-short)) (λ c κs. (search manifest-sound, search manifest-behind))
-    (λ c. search needs) (λ c. search needs) (λ c. search answer-mesh) (λ c. search answer-refused) (λ c. search answer-faulty))
+    (λ c. search needs) (λ c. search needs) returns-2 returns-3 (λ c. search answer-faulty))

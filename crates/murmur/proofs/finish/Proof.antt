@@ -1,13 +1,11 @@
 -- The results of the calls, put together, are the first two words.
 use borrow.Author.Needs.{needs}
-use Rattle.murmur.specs.Murmur.{summed}
-use Rattle.murmur.proofs.Words.{finished-words}
+use Rattle.murmur.proofs.Words.{finish-made}
 use Rattle.murmur.proofs.finish.Statement.{statement}
 use Rattle.murmur.proofs.finish.Tie as tie
 
 returns : tie.Need-returns
-unfolding summed
-returns c = rw finished-words cc
+returns c = search finish-made
 
 pub finish-spec : {M : Type 1} → statement M
 finish-spec =

@@ -1,12 +1,11 @@
 -- The results of the calls, put together.
 use borrow.Author.Needs.{needs}
-use Rattle.murmur.specs.Murmur.{fmix32}
+use Rattle.murmur.proofs.Words.{mixed-word}
 use Rattle.murmur.proofs.mix.Statement.{statement}
 use Rattle.murmur.proofs.mix.Tie as tie
 
 returns : tie.Need-returns
-unfolding fmix32
-returns c = cc
+returns c = search mixed-word
 
 pub mix-spec : {M : Type 1} → statement M
 mix-spec =

@@ -1,10 +1,11 @@
 -- The results of the calls, put together.
 use borrow.Author.Needs.{needs}
+use Rattle.murmur.proofs.Words.{total-made}
 use Rattle.murmur.proofs.total.Statement.{statement}
 use Rattle.murmur.proofs.total.Tie as tie
 
 returns : tie.Need-returns
-returns c = cc
+returns c = search total-made
 
 pub total-spec : {M : Type 1} → statement M
 total-spec =

@@ -1,7 +1,10 @@
 -- `cardfields::inner::offset_field` meets its contract.
-use Rattle.cardfields.proofs.Parsing.{parsing}
+use Rattle.cardfields.proofs.Parsing.{offset-field-is, parsing}
 use Rattle.cardfields.proofs.inner.offset_field.Statement.{statement}
 use Rattle.cardfields.proofs.inner.offset_field.Tie as tie
 
+returns : tie.Need-returns
+returns c = offset-field-is _ (c .before .before .field-at .ensures) (c .no-offset .ensures) (c .before .offset-at .ensures)
+
 pub offset-field-spec : {M : Type 1} → statement M
-offset-field-spec = tie.close (tie.spec (λ c κs. search parsing) (λ c κs. search parsing) (λ c κs. search parsing) (λ c. search parsing))
+offset-field-spec = tie.close (tie.spec (λ c κs. search parsing) (λ c κs. search parsing) (λ c κs. search parsing) returns)

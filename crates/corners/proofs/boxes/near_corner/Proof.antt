@@ -1,14 +1,10 @@
 -- Axis by axis.
-use Rattle.corners.proofs.Boxed.{boxes}
-use Rattle.corners.specs.Boxes.{nearCorner}
+use borrow.Author.Needs.{needs}
+use Rattle.corners.proofs.Boxed.{placed-x, placed-y, placed-z, near-made}
 use Rattle.corners.proofs.boxes.near_corner.Statement.{statement}
 use Rattle.corners.proofs.boxes.near_corner.Tie as tie
-
-returns : tie.Need-returns
-unfolding nearCorner
-returns c = cc
 
 pub near-corner-spec : {M : Type 1} → statement M
 near-corner-spec =
     tie.close
-    (tie.spec (λ c κs. search boxes) (λ c κs. search boxes) (λ c κs. search boxes) returns)
+    (tie.spec (λ c κs. search (placed-x, needs)) (λ c κs. search (placed-y, needs)) (λ c κs. search (placed-z, needs)) (λ c. search near-made))

@@ -4,4 +4,4 @@ use Rattle.coronagamba.proofs.labels.coronagamba_unpacked_length.Statem
 use Rattle.coronagamba.proofs.labels.coronagamba_unpacked_length.Tie as tie
 
 pub coronagamba-unpacked-length-spec : {M : Type 1} → statement M
-coronagamba-unpacked-length-spec = tie.close (tie.spec (λ c κs. search needs) (λ c. (search measuring, search measuring)) (λ c κs. search needs) (λ c κs. search needs) (λ c. search needs) (λ c. search needs) (λ c. search needs) (λ c. (search measuring, search measuring)) (λ c. (search measuring, search measuring)))
+coronagamba-unpacked-length-spec = tie.close (tie.spec (λ c κs. search needs) (λ c. (search measuring, search measuring)) (λ c κs. search needs) (λ c κs. search needs) (λ c κs. search needs) (λ c. (search measuring, search measuring)))

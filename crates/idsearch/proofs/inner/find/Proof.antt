@@ -19,6 +19,12 @@ Inv-loop base d p n id q t at₀ cur₀ i₀ at cur i =
 abbrev μ-loop : tie.MeasureT-loop
 μ-loop base d p n id q t at₀ cur₀ i₀ at cur i = n - i
 
+returns : tie.Need-returns Inv-loop μ-loop
+returns c =
+    let v = c .before .before .before .before .before .before .before .loop .inv in
+    seek-hit _ _ _ _ _ (v .0) (v .1) (c .before .before .before .before .before .before .loop-test .taken) (c .before .before .before .before .before .read-u64 .ensures .0) (c .before .before .before .before .wrapping-add-u64 .ensures)
+    (c .before .before .before .read-u642 .ensures .0) (c .before .before .wrapping-add-u642 .ensures) (c .before .read-u643 .ensures .0) (c .if1 .taken)
+
 pub find-spec : {M : Type 1} → statement M
 find-spec =
     tie.close
@@ -42,7 +48,7 @@ find-spec =
     (λ c. omega arith)
     (λ c κs. omega arith)
     (λ c. search tally-place-fits)
-    (λ c. search seek-hit)
+    returns
     (λ c κs. search needs)
     (λ c. omega arith)
     (λ c. omega arith)

@@ -1,4 +1,4 @@
-use Rattle.intakestate.proofs.States.{testing}
+use Rattle.intakestate.proofs.Spanning.{spanning}
 use Rattle.intakestate.proofs.inner.holds_last.Statement.{statement}
 use Rattle.intakestate.proofs.inner.holds_last.Tie as tie
 
@@ -6,10 +6,10 @@ pub holds-last-spec : {M : Type 1} → statement M
 holds-last-spec =
     tie.close
     (tie.spec
-    (λ c. search testing)
-    (λ c. search testing)
-    (λ c κs. search testing)
-    (λ c. search testing)
-    (λ c κs. search testing)
-    (λ c κs. search testing)
-    (λ c. search testing))
+    (λ c. search spanning)
+    (λ c. search spanning)
+    (λ c κs. search spanning)
+    (λ c. search spanning)
+    (λ c κs. search spanning)
+    (λ c κs. search spanning)
+    (λ c. search spanning))

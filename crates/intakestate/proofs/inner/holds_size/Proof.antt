@@ -1,4 +1,4 @@
-use Rattle.intakestate.proofs.States.{testing}
+use Rattle.intakestate.proofs.Spanning.{spanning}
 use Rattle.intakestate.proofs.inner.holds_size.Statement.{statement}
 use Rattle.intakestate.proofs.inner.holds_size.Tie as tie
 
@@ -6,6 +6,6 @@ pub holds-size-spec : {M : Type 1} → statement M
 holds-size-spec =
     tie.close
     (tie.spec
-    (λ c. search testing)
-    (λ c. search testing)
-    (λ c. search testing))
+    (λ c. search spanning)
+    (λ c. search spanning)
+    (λ c. search spanning))

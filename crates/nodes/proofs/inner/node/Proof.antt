@@ -1,6 +1,6 @@
 -- A sound manifest holds the level whole.
 use Rattle.nodes.proofs.Levels.{sound}
-use Rattle.nodes.proofs.Asked.{asked}
+use Rattle.nodes.proofs.Asked.{node-made}
 use Rattle.nodes.proofs.inner.node.Statement.{statement}
 use Rattle.nodes.proofs.inner.node.Tie as tie
 
@@ -9,4 +9,4 @@ node-spec =
     tie.close
     (tie.spec (λ c κs. search sound) (λ c. search sound) (λ c κs. search sound) (λ c. search sound) (λ c. search sound) (λ c κs. search sound)
     (λ c. search sound) (λ c. search sound) (λ c κs. search sound) (λ c κs. search sound) (λ c. search sound) (λ c κs. search sound)
-    (λ c. search asked))
+    (λ c. search node-made))

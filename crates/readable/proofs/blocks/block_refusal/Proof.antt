@@ -2,19 +2,15 @@ use borrow.Author.Needs.{needs}
 use native.Mathlib.Omega.{arith}
 use Rattle.segmentation.proofs.Shapes.{block-x}
 use Rattle.packed.proofs.Mild.{block-flat}
-use Rattle.packed.specs.Checks.{blockRefusal}
 use Rattle.packed.proofs.Inside.{inside-x-at, inside-y-at, inside-z-at}
+use Rattle.readable.proofs.Read.{width-read, block-read}
 use Rattle.readable.proofs.blocks.block_refusal.Statement.{statement}
 use Rattle.readable.proofs.blocks.block_refusal.Tie as tie
-
-returns-2 : tie.Need-returns-2
-unfolding blockRefusal
-returns-2 c = cc
 
 pub block-refusal-spec : {M : Type 1} → statement M
 block-refusal-spec =
     tie.close
     (tie.spec (λ c. omega arith) (λ c. omega arith) (λ c κs. omega arith) (λ c. search needs) (λ c κs. search needs) (λ c κs. search needs)
     (λ c. search block-flat) (λ c. omega arith) (λ c. omega arith) (λ c. omega arith) (λ c κs. omega arith) (λ c κs. search needs)
-    (λ c κs. (record { start = search needs; one = search needs; two = search needs; width = cc }, (search needs, search block-x, search inside-x-at, search inside-y-at, search inside-z-at)))
-    returns-2)
+    (λ c κs. (record { start = search needs; one = search needs; two = search needs; width = search width-read }, (search needs, search block-x, search inside-x-at, search inside-y-at, search inside-z-at)))
+    (λ c. search block-read))

@@ -1,13 +1,9 @@
 use borrow.Author.Needs.{needs}
 use Rattle.segmentation.proofs.Shapes.{block-x, block-y, some-blocks}
 use Rattle.packed.proofs.Inside.{some-rows, rest-of-fits, layer-fits}
-use Rattle.packed.specs.Checks.{insideOf}
+use Rattle.readable.proofs.Read.{inside-read}
 use Rattle.readable.proofs.blocks.inside_of.Statement.{statement}
 use Rattle.readable.proofs.blocks.inside_of.Tie as tie
-
-returns : tie.Need-returns
-unfolding insideOf
-returns c = cc
 
 pub inside-of-spec : {M : Type 1} → statement M
 inside-of-spec =
@@ -15,4 +11,4 @@ inside-of-spec =
     (tie.spec (λ c κs. search block-x) (λ c. search needs) (λ c κs. search block-y) (λ c. search needs) (λ c. search some-blocks)
     (λ c. search (rest-of-fits, some-blocks)) (λ c κs. search needs) (λ c. search some-blocks) (λ c. search some-rows)
     (λ c. search (rest-of-fits, some-rows)) (λ c κs. search needs) (λ c. search some-blocks) (λ c. search some-rows)
-    (λ c. search (layer-fits, some-blocks, some-rows)) (λ c κs. search needs) returns)
+    (λ c. search (layer-fits, some-blocks, some-rows)) (λ c κs. search needs) (λ c. search inside-read))

@@ -8,10 +8,10 @@ use lib.ListN.{length}
 use Rattle.endian.specs.Place.{paste}
 use Rattle.morton.specs.Key.{keyOf}
 use Rattle.spread.specs.Spread.{spread}
-use Rattle.spread.specs.Parts.{restKey}
-use Rattle.spread.specs.Row.{cellsFrom}
-use Rattle.spread.proofs.Sums.{key-sum, key-sum-fits}
-use Rattle.spread.proofs.Rows.{low-row, row-start, row-next, row-end}
+use Rattle.keyplan.specs.Parts.{restKey}
+use Rattle.cellrows.specs.Row.{cellsFrom}
+use Rattle.keyplan.proofs.Sums.{key-sum, key-sum-fits}
+use Rattle.cellrows.proofs.Rows.{low-row, row-start, row-next, row-end}
 use Rattle.scan.proofs.row.fill.Statement.{statement}
 use Rattle.scan.proofs.row.fill.Tie as tie
 

@@ -4,7 +4,7 @@ use borrow.Author.Needs.{needs}
 use Rattle.grid.proofs.Ways.{tested}
 use Rattle.morton.proofs.Ways.{few}
 use Rattle.batch.proofs.Threes.{keys-refused, keys-kept, keys-over}
-use Rattle.spread.proofs.Rows.{row-2-extent, row-2-cell, row-3, row-13, row-0, too-short, long-enough, room, row-written}
+use Rattle.cellrows.proofs.Rows.{row-2-extent, row-2-cell, row-3, row-13, row-0, too-short, long-enough, room, row-written}
 use Rattle.scan.proofs.row.row_keys.Statement.{statement}
 use Rattle.scan.proofs.row.row_keys.Tie as tie
 

@@ -1,5 +1,5 @@
 use borrow.Author.Needs.{needs}
-use Rattle.minishard.proofs.Climbing.{standing}
+use Rattle.standing.proofs.Climbing.{standing}
 use Rattle.sorted.proofs.inner.settle_part.Statement.{statement}
 use Rattle.sorted.proofs.inner.settle_part.Tie as tie
 

@@ -1,5 +1,5 @@
 use borrow.Author.Needs.{needs}
-use Rattle.stored.proofs.StoredRows.{writing, part-written}
+use Rattle.stored.proofs.StoredRows.{part-written}
 use Rattle.stored.proofs.inner.settle_stored.Statement.{statement}
 use Rattle.stored.proofs.inner.settle_stored.Tie as tie
 
@@ -18,6 +18,6 @@ returns c =
 pub settle-stored-spec : {M : Type 1} → statement M
 settle-stored-spec =
     tie.close
-    (tie.spec (λ c. search writing) (λ c κs. search writing) (λ c. search writing) (λ c κs. search writing) (λ c. search writing)
-    (λ c. search writing) (λ c κs. search writing) (λ c. search writing) (λ c. search writing) (λ c. search writing) (λ c. search writing)
-    (λ c. search writing) (λ c κs. search writing) (λ c. search writing) (λ c. search writing) (λ c. search writing) (λ c. search writing) returns)
+    (tie.spec (λ c. search needs) (λ c κs. search needs) (λ c. search needs) (λ c κs. search needs) (λ c. search needs)
+    (λ c. search needs) (λ c κs. search needs) (λ c. search needs) (λ c. search needs) (λ c. search needs) (λ c. search needs)
+    (λ c. search needs) (λ c κs. search needs) (λ c. search needs) (λ c. search needs) (λ c. search needs) (λ c. search needs) returns)

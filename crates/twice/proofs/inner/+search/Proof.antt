@@ -4,12 +4,12 @@ use native.Mathlib.Omega.{arith}
 use borrow.Author.Needs.{needs}
 use borrow.Fn.Kinds.{In}
 use borrow.Fn.PlainCycle.{Measures, is, falls, and}
-use Rattle.twice.proofs.Filters.{twice-soon}
+use Rattle.twice.proofs.Soon.{twice-soon}
 use Rattle.twice.proofs.inner.search.Reads as search′
 use Rattle.twice.proofs.inner.search.Kinds as search-kinds
 use Rattle.twice.proofs.inner.+search.Lts-search as search-lts
 use Rattle.passes.proofs.inner.many_passes.Reads as many-passes-reads
-use Rattle.twice.proofs.inner.sifted.Reads as sifted-reads
+use Rattle.idfilter.proofs.inner.sifted.Reads as sifted-reads
 use Rattle.twice.proofs.inner.+search.{statement}
 use Rattle.twice.proofs.inner.+search.Tie.{close}
 

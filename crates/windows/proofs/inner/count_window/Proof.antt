@@ -1,5 +1,5 @@
 use borrow.Author.Needs.{needs}
-use Rattle.bitmap.proofs.Windows.{clear-zeros, zeros-long}
+use Rattle.noted.proofs.Windows.{clear-zeros, zeros-long}
 use Rattle.windows.proofs.inner.count_window.Statement.{statement}
 use Rattle.windows.proofs.inner.count_window.Tie as tie
 

@@ -1,7 +1,7 @@
 use Prim.Native.Nat.{_-_, _≤_}
 use borrow.Author.Needs.{needs}
 use Rattle.bitmap.specs.Positions.{after}
-use Rattle.bitmap.specs.Window.{Notes}
+use Rattle.noted.specs.Window.{Notes}
 use Rattle.ranges.specs.Covered.{coveredIn}
 use Rattle.windows.proofs.Noting.{covering}
 use Rattle.windows.proofs.inner.note_all.Statement.{statement}

@@ -1,7 +1,7 @@
 use Prim.Native.Nat.{_-_}
 use borrow.Author.Needs.{needs}
 use Rattle.bitmap.specs.Positions.{after}
-use Rattle.bitmap.specs.Window.{Notes}
+use Rattle.noted.specs.Window.{Notes}
 use Rattle.ranges.specs.Covered.{inItems}
 use Rattle.stretch.proofs.Walk.{Walk, walk-inside, walk-led, walk-next}
 use Rattle.windows.proofs.Noting.{items-next, going}

@@ -1,7 +1,0 @@
--- `cardwriting::writing::put_offset` meets its contract.
-use Rattle.card.proofs.Composing.{composing}
-use Rattle.cardwriting.proofs.writing.put_offset.Statement.{statement}
-use Rattle.cardwriting.proofs.writing.put_offset.Tie as tie
-
-pub put-offset-spec : {M : Type 1} → statement M
-put-offset-spec = tie.close (tie.spec (λ c κs. search composing) (λ c. search composing) (λ c κs. search composing) (λ c. search composing) (λ c. search composing))

@@ -1,0 +1,1 @@
+// The worked cases, in one table, and that all of them hold: specs/ and proofs/. No code of its own.

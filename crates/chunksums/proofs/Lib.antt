@@ -1,0 +1,2 @@
+-- Laws of counts and sizes, added up.
+pub mod Counting

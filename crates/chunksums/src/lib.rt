@@ -1,0 +1,2 @@
+// How many chunks minishards list, and their sizes together, up to a sum that passes 64 bits.
+pub mod inner;

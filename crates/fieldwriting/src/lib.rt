@@ -1,0 +1,2 @@
+// Writing the fields that each deposit card has.
+pub mod inner;

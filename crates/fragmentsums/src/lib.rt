@@ -1,0 +1,2 @@
+// Sums of the sizes of a manifest's fragments.
+pub mod inner;

@@ -1,0 +1,2 @@
+-- Laws of the end of an input.
+pub mod Ended

@@ -1,0 +1,2 @@
+-- The end of an input (RULES H5).
+pub mod End

@@ -1,0 +1,2 @@
+-- Laws of copying items in the order of entries.
+pub mod Copying

@@ -1,0 +1,13 @@
+use Rattle.namewriting.proofs.Naming.{filing}
+use Rattle.namewriting.proofs.inner.file_name.Statement.{statement}
+use Rattle.namewriting.proofs.inner.file_name.Tie as tie
+
+pub file-name-spec : {M : Type 1} → statement M
+file-name-spec =
+    tie.close
+    (tie.spec
+    (λ c κs. search filing)
+    (λ c. search filing)
+    (λ c κs. search filing)
+    (λ c. search filing)
+    (λ c. search filing))

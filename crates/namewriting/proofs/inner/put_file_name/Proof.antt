@@ -1,0 +1,17 @@
+use Rattle.namewriting.proofs.Naming.{naming}
+use Rattle.namewriting.proofs.inner.put_file_name.Statement.{statement}
+use Rattle.namewriting.proofs.inner.put_file_name.Tie as tie
+
+pub put-file-name-spec : {M : Type 1} → statement M
+put-file-name-spec =
+    tie.close
+    (tie.spec
+    (λ c κs. search naming)
+    (λ c κs. search naming)
+    (λ c. search naming)
+    (λ c κs. search naming)
+    (λ c. search naming)
+    (λ c κs. search naming)
+    (λ c. search naming)
+    (λ c. search naming)
+    (λ c. search naming))

@@ -1,0 +1,2 @@
+// Writing the names of shard files.
+pub mod inner;

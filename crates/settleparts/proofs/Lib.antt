@@ -1,0 +1,2 @@
+-- Laws of settling a shard of two parts.
+pub mod WriteAnswers

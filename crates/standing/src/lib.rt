@@ -1,0 +1,2 @@
+// Whether a minishard may be written as it stands.
+pub mod inner;
