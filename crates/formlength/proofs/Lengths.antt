@@ -81,11 +81,11 @@ pub content-none : (spec : Sharding) (index d : List ℕ) (m k : ℕ) → k ≡ 
 unfolding contentFrom
 content-none spec index d m k e = rw e
 
-length-nil : (c : List (List Item)) → c ≡ [] → partsLength c ≡ 0
+pub length-nil : (c : List (List Item)) → c ≡ [] → partsLength c ≡ 0
 unfolding partsLength
 length-nil c e = rw e
 
-length-cons : (xs : List Item) (c : List (List Item)) → partsLength (xs ∷ c) ≡ partLength xs + partsLength c
+pub length-cons : (xs : List Item) (c : List (List Item)) → partsLength (xs ∷ c) ≡ partLength xs + partsLength c
 unfolding partsLength
 length-cons xs c = refl
 

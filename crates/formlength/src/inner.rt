@@ -12,7 +12,7 @@ use sharding::Sharding;
 use sharding::inner::minishard_count;
 
 // The length of minishard m, settled.
-fn one_length(spec: Sharding, index: &[u8], data: &[u8], m: usize) -> usize
+pub fn one_length(spec: Sharding, index: &[u8], data: &[u8], m: usize) -> usize
     requires { ⌜ 16 * m + 16 ≤ length (now index) ⌝ }
     requires { ⌜ SettleableIn spec (now index) (now «data») m ⌝ }
     ensures { λ r. ⌜ r ≡ capped (oneLength spec (now (index .entry)) (now («data» .entry)) m) ⌝ }

@@ -91,28 +91,28 @@ pub ruleset reading = (entry-written, ordered-read, readable-read, leads-read, a
 
 -- ---- the shard
 
-entries-cons : (p : ℕ) (xs : List Item) (c : List (List Item)) → row (entriesFrom p (xs ∷ c)) ≡ entryBytes p xs ++ row (entriesFrom (p + partLength xs) c)
+pub entries-cons : (p : ℕ) (xs : List Item) (c : List (List Item)) → row (entriesFrom p (xs ∷ c)) ≡ entryBytes p xs ++ row (entriesFrom (p + partLength xs) c)
 unfolding entriesFrom row entryBytes
 entries-cons p xs c = simp (append-assoc, append-nil)
 
-parts-cons : (p : ℕ) (xs : List Item) (c : List (List Item)) → partsFrom p (xs ∷ c) ≡ partOf p xs ++ partsFrom (p + partLength xs) c
+pub parts-cons : (p : ℕ) (xs : List Item) (c : List (List Item)) → partsFrom p (xs ∷ c) ≡ partOf p xs ++ partsFrom (p + partLength xs) c
 unfolding partsFrom
 parts-cons p xs c = refl
 
-entries-nil : (p : ℕ) (c : List (List Item)) → c ≡ [] → row (entriesFrom p c) ≡ []
+pub entries-nil : (p : ℕ) (c : List (List Item)) → c ≡ [] → row (entriesFrom p c) ≡ []
 unfolding entriesFrom row
 entries-nil p c e = rw e
 
-parts-nil : (p : ℕ) (c : List (List Item)) → c ≡ [] → partsFrom p c ≡ []
+pub parts-nil : (p : ℕ) (c : List (List Item)) → c ≡ [] → partsFrom p c ≡ []
 unfolding partsFrom
 parts-nil p c e = rw e
 
-length-entry : (p : ℕ) (xs : List Item) → length (entryBytes p xs) ≡ 16
+pub length-entry : (p : ℕ) (xs : List Item) → length (entryBytes p xs) ≡ 16
 unfolding entryBytes
 length-entry p xs = length-row (entryBegin p xs ∷ entryFinish p xs ∷ [])
 
 -- nothing is left to write
-paste-done : (at : ℕ) (xs d : List ℕ) {e : List ℕ} → xs ≡ [] → paste at xs d ≡ e → d ≡ e
+pub paste-done : (at : ℕ) (xs d : List ℕ) {e : List ℕ} → xs ≡ [] → paste at xs d ≡ e → d ≡ e
 paste-done at xs d n h = sym (paste-nil at d) ∙ ap (λ (z : List ℕ). paste at z d) (sym n) ∙ h
 
 -- the loop's head: out₀ is the output where it begins; out is the output now

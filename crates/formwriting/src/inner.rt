@@ -29,7 +29,7 @@ fn put_entry(out: &mut [u8], at: usize, begin: usize, end: usize)
 }
 
 // Minishard m at the place p, and its entry in the shard index. An empty one may point past the data, and is not read.
-fn settle_one(
+pub fn settle_one(
     spec: Sharding,
     index: &[u8],
     data: &[u8],

@@ -35,7 +35,7 @@ use Rattle.lookup.proofs.Handed.{found-file, chosenEntry, found-bytes}
 
 -- ---- rows that are alike in their first n numbers
 
-abbrev Alike : ℕ → (ℕ → ℕ) → (ℕ → ℕ) → Type 0
+abbrev pub Alike : ℕ → (ℕ → ℕ) → (ℕ → ℕ) → Type 0
 Alike n f g = (i : ℕ) → i < n → f i ≡ g i
 
 same-sum : (f g : ℕ → ℕ) (n : ℕ) → Alike n f g → sumTo f n ≡ sumTo g n
@@ -48,24 +48,24 @@ module _ (f g : ℕ → ℕ) (n : ℕ) (p : Alike n f g) where
   unfolding idAt
   same-id i l = rw (same-sum f g (suc i) (λ j h. p j (omega arith)))
 
-  same-bad : (i : ℕ) → i < n → badId f i ≡ badId g i
+  pub same-bad : (i : ℕ) → i < n → badId f i ≡ badId g i
   unfolding repeats
   same-bad i l = same-any (λ j. eqb (idAt f j) (idAt f i)) (λ j. eqb (idAt g j) (idAt g i)) i (λ j h. rw (same-id j (omega arith), same-id i l))
 
-  same-foreign : (spec : Sharding) (shard m i : ℕ) → i < n → foreignAt spec shard m f i ≡ foreignAt spec shard m g i
+  pub same-foreign : (spec : Sharding) (shard m i : ℕ) → i < n → foreignAt spec shard m f i ≡ foreignAt spec shard m g i
   unfolding foreignAt
   same-foreign spec shard m i l = rw (same-id i l)
 
-  same-is : (id i : ℕ) → i < n → isId f id i ≡ isId g id i
+  pub same-is : (id i : ℕ) → i < n → isId f id i ≡ isId g id i
   unfolding isId
   same-is id i l = rw (same-id i l)
 
 module _ (f g h k : ℕ → ℕ) (n : ℕ) (p : Alike n f g) (q : Alike n h k) where
-  same-start : (i : ℕ) → i < n → startAt f h i ≡ startAt g k i
+  pub same-start : (i : ℕ) → i < n → startAt f h i ≡ startAt g k i
   unfolding startAt
   same-start i l = rw (same-sum f g (suc i) (λ j t. p j (omega arith)), same-sum h k i (λ j t. q j (omega arith)))
 
-  same-outside : {len len′ : ℕ} → len ≡ len′ → (i : ℕ) → i < n → outside len f h i ≡ outside len′ g k i
+  pub same-outside : {len len′ : ℕ} → len ≡ len′ → (i : ℕ) → i < n → outside len f h i ≡ outside len′ g k i
   unfolding outside
   same-outside o i l = rw (o, same-start i l, q i l)
 

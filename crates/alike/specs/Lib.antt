@@ -1,0 +1,3 @@
+-- When two minishards list the same.
+pub mod Alike
+pub mod Walk

@@ -1,0 +1,2 @@
+// Whether two minishards list the same.
+pub mod inner;

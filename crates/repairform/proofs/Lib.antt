@@ -1,0 +1,3 @@
+-- Laws of what is chosen of two copies.
+pub mod OneMinishard
+pub mod AllMinishards

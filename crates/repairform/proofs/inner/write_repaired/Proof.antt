@@ -1,0 +1,12 @@
+use Rattle.repairform.proofs.AllMinishards.{counting}
+use Rattle.repairform.proofs.inner.write_repaired.Statement.{statement}
+use Rattle.repairform.proofs.inner.write_repaired.Tie as tie
+
+pub write-repaired-spec : {M : Type 1} → statement M
+write-repaired-spec =
+    tie.close
+    (tie.spec
+    (λ c κs. search counting)
+    (λ c κs. search counting)
+    (λ c. search counting)
+    (λ c. search counting))

@@ -1,0 +1,3 @@
+-- What is chosen of two copies of a shard.
+pub mod Chosen
+pub mod Choosing

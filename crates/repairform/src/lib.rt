@@ -1,0 +1,2 @@
+// The settled form of what is chosen of two copies of a shard.
+pub mod inner;
