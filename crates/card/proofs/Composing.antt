@@ -15,14 +15,14 @@ use Rattle.endian.specs.Place.{paste}
 use Rattle.endian.proofs.Little.{length-le}
 use Rattle.endian.proofs.Paste.{paste-nil, paste-then}
 use Rattle.endian.proofs.Buffer.{too-long, kept-whole, how-long, at-front}
-use Rattle.grid.specs.declared.Extents.{Extents}
-use Rattle.grid.specs.declared.Offset.{Offset}
-use Rattle.grid.specs.declared.Volume.{Volume}
+use Rattle.morton.specs.declared.grid.Extents.{Extents}
+use Rattle.morton.specs.declared.grid.Offset.{Offset}
+use Rattle.morton.specs.declared.grid.Volume.{Volume}
 use Rattle.sharding.specs.Specification.{mesh, isMesh, minishardBits, shardBits}
 use Rattle.sharding.specs.declared.Sharding.{Sharding}
 use Rattle.card.specs.declared.Card.{Card}
 use Rattle.card.specs.Layout.{head, field, oneByte, three, shardingBytes, extentsBytes, offsetTag, offsetBytes, volumeBytes, kindBytes, cardBytes}
-use Rattle.cardfields.specs.Twos.{bits32, noOffset}
+use Rattle.card.specs.cardfields.Twos.{bits32, noOffset}
 
 -- ---- how long
 length-head : (tag n : ℕ) → length (head tag n) ≡ 3

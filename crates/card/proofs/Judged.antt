@@ -14,13 +14,13 @@ use Rattle.refusal.specs.declared.Written.the-variants.{Length, Refused as Writ
 use Rattle.refusal.proofs.Picks.{AllIn, all-in}
 use Rattle.refusal.proofs.Refusing.{answered-both}
 use Rattle.refusal.proofs.Tests.{told-no, told-yes}
-use Rattle.grid.specs.Grid.{gridOf, zeroExtent}
+use Rattle.morton.specs.grid.Grid.{gridOf, zeroExtent}
 use Rattle.morton.specs.Key.{keyBits, tooManyBits}
 use Rattle.sharding.specs.Specification.{allowed}
 use Rattle.card.specs.declared.Card.{Card}
 use Rattle.card.specs.declared.CardAnswer.the-variants.{Says, Refused}
 use Rattle.card.specs.Layout.{cardBytes}
-use Rattle.cardform.specs.Form.{wellFormed}
+use Rattle.card.specs.cardform.Form.{wellFormed}
 use Rattle.card.specs.Reading.{cardIn}
 use Rattle.card.specs.Answers.{recordChecks, fault, readChecks, readAnswer, writeChecks, writeAnswer, writeLeft}
 

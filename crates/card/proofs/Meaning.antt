@@ -19,8 +19,8 @@ use Rattle.endian.proofs.Little.{leAt-le, le-leAt, leAt-bound}
 use Rattle.endian.proofs.Part.{part-length}
 use Rattle.endian.proofs.Buffer.{written-short, written-fits, leftBy-fits}
 use Rattle.refusal.proofs.Tests.{both}
-use Rattle.grid.specs.declared.Offset.{Offset}
-use Rattle.grid.specs.Grid.{InU32, gridOf, zeroExtent}
+use Rattle.morton.specs.declared.grid.Offset.{Offset}
+use Rattle.morton.specs.grid.Grid.{InU32, gridOf, zeroExtent}
 use Rattle.morton.specs.Key.{tooManyBits}
 use Rattle.sharding.specs.Specification.{volume, mesh, isMesh, minishardBits, shardBits, allowed, Within}
 use Rattle.sharding.specs.declared.Sharding.{Sharding}
@@ -28,15 +28,15 @@ use Rattle.sharding.proofs.Allowed.{allowed-within}
 use Rattle.card.specs.declared.Card.{Card}
 use Rattle.card.specs.declared.CardAnswer.the-variants.{Says, Refused}
 use Rattle.card.specs.Layout.{head, field, oneByte, three, shardingBytes, extentsBytes, offsetTag, offsetBytes, volumeBytes, kindBytes, cardBytes, Ranged, Bytes}
-use Rattle.cardfields.specs.Twos.{bits32, isZero, noOffset, InI32, signed32}
-use Rattle.cardfields.specs.Fields.{fieldAt, sixFields, offsetAt, offsetField, kindField}
+use Rattle.card.specs.cardfields.Twos.{bits32, isZero, noOffset, InI32, signed32}
+use Rattle.card.specs.cardfields.Fields.{fieldAt, sixFields, offsetAt, offsetField, kindField}
 use Rattle.card.specs.Reading.{extentsAt, kindIn, shardingIn, zeros, offsetIn, volumeIn, cardIn}
-use Rattle.cardform.specs.Form.{wellFormed}
+use Rattle.card.specs.cardform.Form.{wellFormed}
 use Rattle.card.specs.Answers.{recordChecks, fault, readAnswer, writeAnswer, writeLeft}
 use Rattle.card.specs.Meaning.{OneCard}
-use Rattle.cardfields.proofs.Words.{bits-signed, signed-bits, bits-below, signed-in}
-use Rattle.cardform.proofs.Parsing.{CardLength, formed-length, formed-never}
-use Rattle.cardform.proofs.Parsing.CardLength.{bare, shifted, bareMesh, shiftedMesh}
+use Rattle.card.proofs.cardfields.Words.{bits-signed, signed-bits, bits-below, signed-in}
+use Rattle.card.proofs.cardform.Parsing.{CardLength, formed-length, formed-never}
+use Rattle.card.proofs.cardform.Parsing.CardLength.{bare, shifted, bareMesh, shiftedMesh}
 use Rattle.card.proofs.Judged.{faultless, read-first, write-first, left-first}
 
 -- ---- the bytes of a record are read back as the record

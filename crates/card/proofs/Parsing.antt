@@ -8,13 +8,13 @@ use lib.Dec.{eqb}
 use lib.IntN.{pos}
 use lib.ListN.{length, getD}
 use Rattle.endian.specs.Little.{leAt}
-use Rattle.grid.specs.declared.Extents.{Extents}
-use Rattle.grid.specs.declared.Offset.{Offset}
-use Rattle.grid.specs.declared.Volume.{Volume}
+use Rattle.morton.specs.declared.grid.Extents.{Extents}
+use Rattle.morton.specs.declared.grid.Offset.{Offset}
+use Rattle.morton.specs.declared.grid.Volume.{Volume}
 use Rattle.sharding.specs.declared.Sharding.{Sharding}
-use Rattle.cardform.proofs.Parsing.{room-46, room-31, room-61}
+use Rattle.card.proofs.cardform.Parsing.{room-46, room-31, room-61}
 use Rattle.card.specs.declared.Card.{Card}
-use Rattle.cardfields.specs.Fields.{offsetAt}
+use Rattle.card.specs.cardfields.Fields.{offsetAt}
 use Rattle.card.specs.Reading.{extentsAt, kindIn, shardingIn, offsetIn, volumeIn, cardIn}
 
 pub sharding-made : (s : List ℕ) {a b c d k : ℕ} → a ≡ getD s 3 0 → b ≡ getD s 7 0 → c ≡ getD s 11 0 → d ≡ getD s 15 0 → k ≡ kindIn s

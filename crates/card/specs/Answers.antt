@@ -7,14 +7,14 @@ use Rattle.refusal.specs.Checks.{Check, check, firstNumber, answered, left}
 use Rattle.refusal.specs.Buffer.{room, over}
 use Rattle.refusal.specs.declared.Written.{Written}
 use Rattle.refusal.specs.declared.Written.the-variants.{Length, Refused as WriteRefused}
-use Rattle.grid.specs.Grid.{gridOf, zeroExtent}
+use Rattle.morton.specs.grid.Grid.{gridOf, zeroExtent}
 use Rattle.morton.specs.Key.{tooManyBits}
 use Rattle.sharding.specs.Specification.{allowed}
 use Rattle.card.specs.declared.Card.{Card}
 use Rattle.card.specs.declared.CardAnswer.{CardAnswer}
 use Rattle.card.specs.declared.CardAnswer.the-variants.{Says, Refused}
 use Rattle.card.specs.Layout.{cardBytes}
-use Rattle.cardform.specs.Form.{wellFormed}
+use Rattle.card.specs.cardform.Form.{wellFormed}
 use Rattle.card.specs.Reading.{cardIn}
 
 -- 1, 2 and 3 of what a card says (RULES C4)

@@ -4,13 +4,13 @@ use mathlib.Core.List.{List, [], _∷_, _++_}
 use lib.ListN.{length, getD}
 use Rattle.refusal.specs.Choice.{pick}
 use Rattle.endian.specs.Little.{le}
-use Rattle.grid.specs.Grid.{InU32}
-use Rattle.grid.specs.declared.Extents.{Extents}
-use Rattle.grid.specs.declared.Offset.{Offset}
-use Rattle.grid.specs.declared.Volume.{Volume}
+use Rattle.morton.specs.grid.Grid.{InU32}
+use Rattle.morton.specs.declared.grid.Extents.{Extents}
+use Rattle.morton.specs.declared.grid.Offset.{Offset}
+use Rattle.morton.specs.declared.grid.Volume.{Volume}
 use Rattle.sharding.specs.Specification.{mesh, isMesh, minishardBits, shardBits}
 use Rattle.sharding.specs.declared.Sharding.{Sharding}
-use Rattle.cardfields.specs.Twos.{bits32, noOffset, InI32}
+use Rattle.card.specs.cardfields.Twos.{bits32, noOffset, InI32}
 use Rattle.card.specs.declared.Card.{Card}
 
 -- "a one-byte tag, a two-byte little-endian length"

@@ -7,12 +7,12 @@ use lib.IntN.{pos}
 use lib.ListN.{length, getD}
 use Rattle.refusal.specs.Choice.{pick}
 use Rattle.endian.specs.Little.{leAt}
-use Rattle.grid.specs.declared.Extents.{Extents}
-use Rattle.grid.specs.declared.Offset.{Offset}
-use Rattle.grid.specs.declared.Volume.{Volume}
+use Rattle.morton.specs.declared.grid.Extents.{Extents}
+use Rattle.morton.specs.declared.grid.Offset.{Offset}
+use Rattle.morton.specs.declared.grid.Volume.{Volume}
 use Rattle.sharding.specs.Specification.{volume, mesh}
 use Rattle.sharding.specs.declared.Sharding.{Sharding}
-use Rattle.cardfields.specs.Fields.{offsetAt}
+use Rattle.card.specs.cardfields.Fields.{offsetAt}
 use Rattle.card.specs.declared.Card.{Card}
 
 unfoldable pub extentsAt : List ℕ → ℕ → Extents

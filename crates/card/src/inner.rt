@@ -12,7 +12,7 @@ pub fn judge(card: Card) -> u8
     if !sharding::inner::is_allowed(sharding) {
         return 1;
     }
-    if grid::inner::zero_extent(volume) {
+    if morton::grid::inner::zero_extent(volume) {
         return 2;
     }
     if 64 < morton::inner::volume_key_bits(volume) {

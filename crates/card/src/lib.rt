@@ -1,11 +1,17 @@
 // The deposit card: what an archive's volume is and how its chunks are sharded, in 46 or 61 bytes,
 // of a mesh in 50 or 65.
+pub mod cardfields;
+pub mod cardform;
+pub mod cardwriting;
+pub mod fieldwriting;
 pub mod inner;
+pub mod oldcards;
+pub mod optional;
 mod reading;
 
 ghost use mathlib.Core.Path.{_≡_};
 ghost use Rattle.card.specs.Answers.{readAnswer};
-use grid::Volume;
+use morton::grid::Volume;
 use sharding::Sharding;
 
 #[repr(C)]
@@ -23,7 +29,7 @@ pub enum CardAnswer {
 pub fn read_card(bytes: &[u8]) -> CardAnswer
     ensures answer { λ r. ⌜ r ≡ readAnswer (now (bytes .entry)) ⌝ }
 {
-    if !cardform::well_formed(bytes) {
+    if !crate::cardform::well_formed(bytes) {
         return CardAnswer::Refused(14);
     }
     let card = reading::card_in(bytes);

@@ -4,14 +4,14 @@ ghost use mathlib.Core.Bool.{true};
 ghost use Prim.Native.Nat.{_+_, _≤_};
 ghost use lib.ListN.{length};
 ghost use Rattle.card.specs.Reading.{extentsAt, kindIn, shardingIn, offsetIn, volumeIn, cardIn};
-ghost use Rattle.cardform.specs.Form.{wellFormed};
+ghost use Rattle.card.specs.cardform.Form.{wellFormed};
 use crate::Card;
-use cardfields::inner::byte;
-use cardfields::inner::offset_at;
+use crate::cardfields::inner::byte;
+use crate::cardfields::inner::offset_at;
 use endian::inner;
-use grid::Extents;
-use grid::Offset;
-use grid::Volume;
+use morton::grid::Extents;
+use morton::grid::Offset;
+use morton::grid::Volume;
 use sharding::Sharding;
 
 fn extents_at(s: &[u8], at: usize) -> Extents

@@ -8,12 +8,12 @@ use Rattle.refusal.specs.Checks.{answered}
 use Rattle.refusal.specs.declared.Written.{Written}
 use Rattle.refusal.specs.declared.Written.the-variants.{Refused}
 use Rattle.refusal.proofs.Picks.{by-picks}
-use Rattle.segmentation.specs.declared.Shape.{Shape}
-use Rattle.segmentation.specs.declared.LabelAnswer.{LabelAnswer}
-use Rattle.segmentation.specs.declared.LabelAnswer.the-variants.{Label, Refused as Unlabelled}
-use Rattle.segmentation.specs.Labels.{labelAnswer}
-use Rattle.rawform.specs.Raw.{lengthAnswer, unpackAnswer, unpackLeft}
-use Rattle.word.specs.Word.{writtenWord, lengthAfter}
+use Rattle.compressed_segmentation.specs.declared.segmentation.Shape.{Shape}
+use Rattle.compressed_segmentation.specs.declared.segmentation.LabelAnswer.{LabelAnswer}
+use Rattle.compressed_segmentation.specs.declared.segmentation.LabelAnswer.the-variants.{Label, Refused as Unlabelled}
+use Rattle.compressed_segmentation.specs.segmentation.Labels.{labelAnswer}
+use Rattle.compressed_segmentation.specs.rawform.Raw.{lengthAnswer, unpackAnswer, unpackLeft}
+use Rattle.coronagamba.specs.word.Word.{writtenWord, lengthAfter}
 use Rattle.coronagamba.specs.Labels.{noWidth, widthChecks, labelBy, writtenBy, leftBy, labelWord, labelAfter}
 use Rattle.coronagamba.proofs.Told.{told, after, given, left}
 

@@ -12,19 +12,19 @@ use Rattle.sharding.specs.Specification.{noSuchShard}
 use Rattle.shard.specs.declared.CheckAnswer.{CheckAnswer}
 use Rattle.shard.specs.declared.CheckAnswer.the-variants as C
 use Rattle.shard.specs.File.{checkAnswer}
-use Rattle.idsearch.specs.declared.LookupAnswer.{LookupAnswer}
-use Rattle.idsearch.specs.declared.LookupAnswer.the-variants as L
-use Rattle.listing.specs.declared.CountAnswer.{CountAnswer}
-use Rattle.listing.specs.declared.CountAnswer.the-variants as N
+use Rattle.lookup.specs.declared.idsearch.LookupAnswer.{LookupAnswer}
+use Rattle.lookup.specs.declared.idsearch.LookupAnswer.the-variants as L
+use Rattle.lookup.specs.declared.listing.CountAnswer.{CountAnswer}
+use Rattle.lookup.specs.declared.listing.CountAnswer.the-variants as N
 use Rattle.unlisted.specs.declared.UnlistedAnswer.{UnlistedAnswer}
 use Rattle.unlisted.specs.declared.UnlistedAnswer.the-variants as U
-use Rattle.settleanswers.specs.declared.SettleAnswer.{SettleAnswer}
-use Rattle.settleanswers.specs.declared.SettleAnswer.the-variants as S
-use Rattle.heldrange.specs.declared.RangeAnswer.{RangeAnswer}
-use Rattle.heldrange.specs.declared.RangeAnswer.the-variants as R
-use Rattle.seam.specs.Pair.{pairChecks}
-use Rattle.pair.specs.Answers.{otherShard, pairCheck, pairLookup, pairFragment}
-use Rattle.pairform.specs.Answers.{noMinishard, pairCount, pairListing, pairUnlisted, pairLength, pairSettle}
+use Rattle.settle.specs.declared.settleanswers.SettleAnswer.{SettleAnswer}
+use Rattle.settle.specs.declared.settleanswers.SettleAnswer.the-variants as S
+use Rattle.split_shard.specs.declared.heldrange.RangeAnswer.{RangeAnswer}
+use Rattle.split_shard.specs.declared.heldrange.RangeAnswer.the-variants as R
+use Rattle.split_shard.specs.seam.Pair.{pairChecks}
+use Rattle.split_shard.specs.pair.Answers.{otherShard, pairCheck, pairLookup, pairFragment}
+use Rattle.split_shard.specs.pairform.Answers.{noMinishard, pairCount, pairListing, pairUnlisted, pairLength, pairSettle}
 use Rattle.coronagamba.specs.Pairs.{rangeWord, fileAfter, placeAfter, rangeAfter}
 use Rattle.coronagamba.proofs.Told.{told, after}
 use Rattle.coronagamba.proofs.Checked.{minishard-fits, check-fits, lookup-fits, fragment-fits, count-fits, listing-fits, unlisted-fits, length-fits, settle-fits}

@@ -9,17 +9,17 @@ use lib.ListN.{getD}
 use lib.Ieee.{binary32, isNan, toBits}
 use borrow.Author.Tests.{lt-ltb}
 use Rattle.refusal.specs.Choice.{pick}
-use Rattle.layout.specs.Layout.{itemAt, levelsOf, isReal, fieldCount}
-use Rattle.layout.specs.Bits.{realAt}
-use Rattle.manifest.specs.Verdict.{verdict}
-use Rattle.manifestread.specs.Fields.{headerAt, headerAnswer, fieldAt, fieldAnswer}
-use Rattle.manifestread.specs.declared.Header.{Header}
-use Rattle.manifestread.specs.declared.HeaderAnswer.{HeaderAnswer}
-use Rattle.manifestread.specs.declared.HeaderAnswer.the-variants as H
-use Rattle.manifestread.specs.declared.Field.the-variants as F
-use Rattle.manifest.proofs.Sounds.{sound-ends}
-use Rattle.manifestread.proofs.Asked.{header-given, field-given}
-use Rattle.manifestread.proofs.Fields.{real-bits, header-number}
+use Rattle.mesh_manifest.specs.layout.Layout.{itemAt, levelsOf, isReal, fieldCount}
+use Rattle.mesh_manifest.specs.layout.Bits.{realAt}
+use Rattle.mesh_manifest.specs.manifest.Verdict.{verdict}
+use Rattle.mesh_manifest.specs.manifestread.Fields.{headerAt, headerAnswer, fieldAt, fieldAnswer}
+use Rattle.mesh_manifest.specs.declared.manifestread.Header.{Header}
+use Rattle.mesh_manifest.specs.declared.manifestread.HeaderAnswer.{HeaderAnswer}
+use Rattle.mesh_manifest.specs.declared.manifestread.HeaderAnswer.the-variants as H
+use Rattle.mesh_manifest.specs.declared.manifestread.Field.the-variants as F
+use Rattle.mesh_manifest.proofs.manifest.Sounds.{sound-ends}
+use Rattle.mesh_manifest.proofs.manifestread.Asked.{header-given, field-given}
+use Rattle.mesh_manifest.proofs.manifestread.Fields.{real-bits, header-number}
 use Rattle.coronagamba.specs.Manifests.{headerAfter, valueAfter}
 
 module _ (s : List ℕ) {a : HeaderAnswer} {h : Header} (e : a ≡ headerAnswer s) (g : a ≡ H.Header h) where

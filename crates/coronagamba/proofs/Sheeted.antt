@@ -8,18 +8,18 @@ use lib.ListN.{getD}
 use Rattle.sharding.specs.declared.Sharding.{Sharding}
 use Rattle.shard.specs.declared.CheckAnswer.the-variants as C
 use Rattle.shard.specs.File.{indexPart, dataPart, checkAnswer}
-use Rattle.pair.specs.Answers.{pairCheck}
-use Rattle.measure.specs.declared.Counts.{Counts}
-use Rattle.measure.specs.declared.MeasureAnswer.{MeasureAnswer}
-use Rattle.measure.specs.declared.MeasureAnswer.the-variants as M
-use Rattle.measure.specs.Answers.{measureAnswer, pairMeasure}
-use Rattle.measure.proofs.Answered.{named-fault}
-use Rattle.shardsheet.specs.declared.Sheet.{Sheet}
+use Rattle.split_shard.specs.pair.Answers.{pairCheck}
+use Rattle.holdings.specs.declared.measure.Counts.{Counts}
+use Rattle.holdings.specs.declared.measure.MeasureAnswer.{MeasureAnswer}
+use Rattle.holdings.specs.declared.measure.MeasureAnswer.the-variants as M
+use Rattle.holdings.specs.measure.Answers.{measureAnswer, pairMeasure}
+use Rattle.holdings.proofs.measure.Answered.{named-fault}
+use Rattle.holdings.specs.declared.shardsheet.Sheet.{Sheet}
 use Rattle.holdings.specs.declared.SheetAnswer.{SheetAnswer}
 use Rattle.holdings.specs.declared.SheetAnswer.the-variants.{Total, Refused}
-use Rattle.shardsheet.specs.Sheet.{rows}
+use Rattle.holdings.specs.shardsheet.Sheet.{rows}
 use Rattle.holdings.specs.Answers.{joinAnswer, addAnswer, pairAddAnswer}
-use Rattle.word.specs.Word.{word}
+use Rattle.coronagamba.specs.word.Word.{word}
 use Rattle.coronagamba.specs.Sheets.{measureWord, countsOf, countsAfter, sheetOf, sheetWord, rowsAfter}
 use Rattle.coronagamba.proofs.Told.{told, after, given, left}
 use Rattle.coronagamba.proofs.Checked.{minishard-fits, check-fits}

@@ -4,7 +4,7 @@ use mathlib.Core.Path.{_≡_}
 use borrow.Author.Needs.{needs}
 use Rattle.refusal.specs.declared.Written.{Written}
 use Rattle.refusal.specs.declared.Written.the-variants.{Length, Refused}
-use Rattle.word.specs.Word.{writtenWord, lengthAfter}
+use Rattle.coronagamba.specs.word.Word.{writtenWord, lengthAfter}
 use Rattle.coronagamba.proofs.Told.{told, after, given, left}
 
 module _ {a b : Written} {n : ℕ} (e : b ≡ a) where

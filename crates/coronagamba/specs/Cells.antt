@@ -2,14 +2,14 @@
 use Prim.Native.Nat.{ℕ}
 use mathlib.Core.List.{List, [], _∷_}
 use lib.IntN.{ℤ}
-use Rattle.grid.specs.declared.GridAnswer.{GridAnswer}
-use Rattle.grid.specs.declared.GridAnswer.the-variants.{Grid, Refused as GridRefused}
+use Rattle.morton.specs.declared.grid.GridAnswer.{GridAnswer}
+use Rattle.morton.specs.declared.grid.GridAnswer.the-variants.{Grid, Refused as GridRefused}
 use Rattle.morton.specs.declared.KeyAnswer.{KeyAnswer}
 use Rattle.morton.specs.declared.KeyAnswer.the-variants.{Key, Refused as KeyRefused}
 use Rattle.morton.specs.declared.CellAnswer.{CellAnswer}
 use Rattle.morton.specs.declared.CellAnswer.the-variants.{At, Refused as CellRefused}
-use Rattle.bounds.specs.declared.BoundsAnswer.{BoundsAnswer}
-use Rattle.bounds.specs.declared.BoundsAnswer.the-variants.{Within, Refused as BoundsRefused}
+use Rattle.morton.specs.declared.bounds.BoundsAnswer.{BoundsAnswer}
+use Rattle.morton.specs.declared.bounds.BoundsAnswer.the-variants.{Within, Refused as BoundsRefused}
 
 abbrev pub gridWord : GridAnswer → ℕ
 gridWord (Grid grid) = 0

@@ -6,10 +6,10 @@ use lib.Dec.{eqb}
 use Rattle.refusal.specs.Checks.{Check, check, answered, left}
 use Rattle.refusal.specs.declared.Written.{Written}
 use Rattle.refusal.specs.declared.Written.the-variants as W
-use Rattle.grid.specs.declared.Extents.{Extents}
-use Rattle.segmentation.specs.declared.Shape.{Shape}
-use Rattle.segmentation.specs.declared.LabelAnswer.{LabelAnswer}
-use Rattle.segmentation.specs.declared.LabelAnswer.the-variants.{Label, Refused}
+use Rattle.morton.specs.declared.grid.Extents.{Extents}
+use Rattle.compressed_segmentation.specs.declared.segmentation.Shape.{Shape}
+use Rattle.compressed_segmentation.specs.declared.segmentation.LabelAnswer.{LabelAnswer}
+use Rattle.compressed_segmentation.specs.declared.segmentation.LabelAnswer.the-variants.{Label, Refused}
 
 -- "32- or 64-bit labels" (RULES E1): no other number is a label width
 abbrev pub noWidth : ℕ → Bool

@@ -1,3 +1,4 @@
+pub mod word
 pub mod Version
 pub mod Places
 pub mod Cells

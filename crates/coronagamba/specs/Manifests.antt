@@ -2,18 +2,18 @@
 use Prim.Native.Nat.{ℕ}
 use mathlib.Core.List.{List, [], _∷_}
 use lib.Ieee.{Float, binary32, toBits}
-use Rattle.manifest.specs.declared.ManifestAnswer.{ManifestAnswer}
-use Rattle.manifest.specs.declared.ManifestAnswer.the-variants as M
-use Rattle.manifestread.specs.declared.Header.{Header}
-use Rattle.manifestread.specs.declared.HeaderAnswer.{HeaderAnswer}
-use Rattle.manifestread.specs.declared.HeaderAnswer.the-variants as H
-use Rattle.manifestread.specs.declared.Field.{Field}
-use Rattle.manifestread.specs.declared.Field.the-variants as F
-use Rattle.nodes.specs.declared.NodeAnswer.{NodeAnswer}
-use Rattle.nodes.specs.declared.NodeAnswer.the-variants as N
-use Rattle.corners.specs.declared.Corner.{Corner}
-use Rattle.corners.specs.declared.CornersAnswer.{CornersAnswer}
-use Rattle.corners.specs.declared.CornersAnswer.the-variants as C
+use Rattle.mesh_manifest.specs.declared.manifest.ManifestAnswer.{ManifestAnswer}
+use Rattle.mesh_manifest.specs.declared.manifest.ManifestAnswer.the-variants as M
+use Rattle.mesh_manifest.specs.declared.manifestread.Header.{Header}
+use Rattle.mesh_manifest.specs.declared.manifestread.HeaderAnswer.{HeaderAnswer}
+use Rattle.mesh_manifest.specs.declared.manifestread.HeaderAnswer.the-variants as H
+use Rattle.mesh_manifest.specs.declared.manifestread.Field.{Field}
+use Rattle.mesh_manifest.specs.declared.manifestread.Field.the-variants as F
+use Rattle.mesh_manifest.specs.declared.nodes.NodeAnswer.{NodeAnswer}
+use Rattle.mesh_manifest.specs.declared.nodes.NodeAnswer.the-variants as N
+use Rattle.mesh_manifest.specs.declared.corners.Corner.{Corner}
+use Rattle.mesh_manifest.specs.declared.corners.CornersAnswer.{CornersAnswer}
+use Rattle.mesh_manifest.specs.declared.corners.CornersAnswer.the-variants as C
 
 abbrev pub manifestWord : ManifestAnswer → ℕ
 manifestWord M.Sound = 0

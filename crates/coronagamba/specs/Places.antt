@@ -1,7 +1,7 @@
 -- The place of an id across the C border: the answer word, and what the two lent numbers hold afterwards.
 use Prim.Native.Nat.{ℕ}
-use Rattle.placement.specs.declared.PlaceAnswer.{PlaceAnswer}
-use Rattle.placement.specs.declared.PlaceAnswer.the-variants.{At, Refused}
+use Rattle.sharding.specs.declared.placement.PlaceAnswer.{PlaceAnswer}
+use Rattle.sharding.specs.declared.placement.PlaceAnswer.the-variants.{At, Refused}
 
 abbrev pub placeWord : PlaceAnswer → ℕ
 placeWord (At place) = 0

@@ -3,14 +3,14 @@ use Prim.Native.Nat.{ℕ}
 use mathlib.Core.List.{List, [], _∷_}
 use mathlib.Core.Option.{some}
 use lib.ListN.{getD}
-use Rattle.measure.specs.declared.Counts.{Counts}
-use Rattle.measure.specs.declared.MeasureAnswer.{MeasureAnswer}
-use Rattle.measure.specs.declared.MeasureAnswer.the-variants.{Sound, Refused, Faulty}
-use Rattle.shardsheet.specs.declared.Sheet.{Sheet}
+use Rattle.holdings.specs.declared.measure.Counts.{Counts}
+use Rattle.holdings.specs.declared.measure.MeasureAnswer.{MeasureAnswer}
+use Rattle.holdings.specs.declared.measure.MeasureAnswer.the-variants.{Sound, Refused, Faulty}
+use Rattle.holdings.specs.declared.shardsheet.Sheet.{Sheet}
 use Rattle.holdings.specs.declared.SheetAnswer.{SheetAnswer}
 use Rattle.holdings.specs.declared.SheetAnswer.the-variants.{Total, Refused as SheetRefused}
-use Rattle.shardsheet.specs.Sheet.{rows}
-use Rattle.word.specs.Word.{word}
+use Rattle.holdings.specs.shardsheet.Sheet.{rows}
+use Rattle.coronagamba.specs.word.Word.{word}
 
 -- ---- the measure of a shard
 

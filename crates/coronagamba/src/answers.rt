@@ -2,20 +2,20 @@
 ghost use mathlib.Core.Path.{_≡_};
 ghost use Prim.Native.Nat.{ℕ, _+_, _<_};
 ghost use Rattle.shard.specs.declared.CheckAnswer.the-variants.{Faulty};
-ghost use Rattle.idsearch.specs.declared.LookupAnswer.the-variants.{Faulty as FaultFound};
-ghost use Rattle.listing.specs.declared.CountAnswer.the-variants.{Faulty as FaultCounted};
+ghost use Rattle.lookup.specs.declared.idsearch.LookupAnswer.the-variants.{Faulty as FaultFound};
+ghost use Rattle.lookup.specs.declared.listing.CountAnswer.the-variants.{Faulty as FaultCounted};
 ghost use Rattle.unlisted.specs.declared.UnlistedAnswer.the-variants.{Faulty as FaultUnlisted};
-ghost use Rattle.settleanswers.specs.declared.SettleAnswer.the-variants.{Faulty as FaultSettled};
-ghost use Rattle.word.specs.Word.{writtenWord, lengthAfter};
+ghost use Rattle.settle.specs.declared.settleanswers.SettleAnswer.the-variants.{Faulty as FaultSettled};
+ghost use Rattle.coronagamba.specs.word.Word.{writtenWord, lengthAfter};
 ghost use Rattle.coronagamba.specs.Shards.{checkWord, lookupWord, startAfter, sizeAfter, countWord, countAfter, settleWord, formAfter, unlistedWord, unlistedAfter};
-use idsearch::LookupAnswer;
-use listing::CountAnswer;
+use crate::word::inner::fault_word;
+use crate::word::inner::position_word;
+use lookup::idsearch::LookupAnswer;
+use lookup::listing::CountAnswer;
 use refusal::Written;
-use settleanswers::SettleAnswer;
+use settle::settleanswers::SettleAnswer;
 use shard::CheckAnswer;
 use unlisted::UnlistedAnswer;
-use word::inner::fault_word;
-use word::inner::position_word;
 
 // A length is written, or the word is the refusal.
 pub fn put_length(answer: Written, length: &mut u64) -> u64

@@ -1,12 +1,12 @@
 // Deposit cards.
 ghost use mathlib.Core.Path.{_≡_};
 ghost use Rattle.card.specs.Answers.{readAnswer, writeAnswer, writeLeft};
-ghost use Rattle.word.specs.Word.{writtenWord, lengthAfter};
+ghost use Rattle.coronagamba.specs.word.Word.{writtenWord, lengthAfter};
 ghost use Rattle.coronagamba.specs.Cards.{cardWord, shardingAfter, volumeAfter, chunkAfter, offsetAfter};
 use crate::answers::put_length;
 use crate::numbers::put_card;
 use card::Card;
-use grid::Volume;
+use morton::grid::Volume;
 use sharding::Sharding;
 
 // What a deposit card of these bytes says. Writes preshift, hash, minishard bits, shard bits and kind
@@ -45,6 +45,6 @@ pub extern "C" fn coronagamba_card_write(
     ensures out { λ _. ⌜ now (out .exit) ≡ writeLeft (record { sharding = sharding; volume = volume }) (now (out .entry)) ⌝ }
     ensures length { λ _. ⌜ now (length .exit) ≡ lengthAfter (writeAnswer (record { sharding = sharding; volume = volume }) (now (out .entry))) (now (length .entry)) ⌝ }
 {
-    let answer = cardwriting::write_card(Card { sharding, volume }, out);
+    let answer = card::cardwriting::write_card(Card { sharding, volume }, out);
     put_length(answer, length)
 }

@@ -1,22 +1,22 @@
 // Volumes, cells and keys.
 ghost use mathlib.Core.Path.{_≡_};
 ghost use mathlib.Core.List.{[], _∷_};
-ghost use Rattle.grid.specs.Answers.{gridAnswer};
+ghost use Rattle.morton.specs.grid.Answers.{gridAnswer};
 ghost use Rattle.morton.specs.Answers.{keyAnswer, cellAnswer};
-ghost use Rattle.bounds.specs.Answers.{boundsAnswer};
-ghost use Rattle.batch.specs.Batch.{cellsOf, keysAnswer, keysLeft};
-ghost use Rattle.cellrows.specs.Row.{rowOf};
-ghost use Rattle.overlap.specs.Cover.{coverAnswer, coverLeft};
-ghost use Rattle.word.specs.Word.{writtenWord, lengthAfter};
+ghost use Rattle.morton.specs.bounds.Answers.{boundsAnswer};
+ghost use Rattle.morton.specs.batch.Batch.{cellsOf, keysAnswer, keysLeft};
+ghost use Rattle.morton.specs.cellrows.Row.{rowOf};
+ghost use Rattle.cover.specs.overlap.Cover.{coverAnswer, coverLeft};
+ghost use Rattle.coronagamba.specs.word.Word.{writtenWord, lengthAfter};
 ghost use Rattle.coronagamba.specs.Cells.{gridWord, gridAfter, keyWord, keyAfter, cellWord, cellAfter, boundsWord, beginAfter, endAfter};
 use crate::answers::put_length;
-use bounds::BoundsAnswer;
-use bounds::Point;
-use grid::Cell;
-use grid::GridAnswer;
-use grid::Volume;
 use morton::CellAnswer;
 use morton::KeyAnswer;
+use morton::bounds::BoundsAnswer;
+use morton::bounds::Point;
+use morton::grid::Cell;
+use morton::grid::GridAnswer;
+use morton::grid::Volume;
 
 // How many cells the volume has. Writes the numbers along x, y and z to `grid`.
 // Refusals: 2 where an extent is 0
@@ -25,7 +25,7 @@ pub extern "C" fn coronagamba_grid_of(volume: Volume, grid: &mut [u32; 3]) -> u6
     ensures answer { λ r. ⌜ r ≡ gridWord (gridAnswer volume) ⌝ }
     ensures grid { λ _. ⌜ now (grid .exit) ≡ gridAfter (gridAnswer volume) (now (grid .entry)) ⌝ }
 {
-    match grid::grid_of(volume) {
+    match morton::grid::grid_of(volume) {
         GridAnswer::Grid(g) => {
             *grid = [g.x, g.y, g.z];
             0
@@ -66,7 +66,7 @@ pub extern "C" fn coronagamba_keys_of(
     ensures keys { λ _. ⌜ now (keys .exit) ≡ keysLeft volume (cellsOf (now (cells .entry))) (now (keys .entry)) ⌝ }
     ensures length { λ _. ⌜ now (length .exit) ≡ lengthAfter (keysAnswer volume (cellsOf (now (cells .entry))) (now (keys .entry))) (now (length .entry)) ⌝ }
 {
-    let answer = scan::keys_of(volume, cells, keys);
+    let answer = morton::scan::keys_of(volume, cells, keys);
     put_length(answer, length)
 }
 
@@ -89,7 +89,7 @@ pub extern "C" fn coronagamba_row_keys(
     ensures keys { λ _. ⌜ now (keys .exit) ≡ keysLeft volume (rowOf from to y z) (now (keys .entry)) ⌝ }
     ensures length { λ _. ⌜ now (length .exit) ≡ lengthAfter (keysAnswer volume (rowOf from to y z) (now (keys .entry))) (now (length .entry)) ⌝ }
 {
-    let answer = scan::row::row_keys(volume, from, to, y, z, keys);
+    let answer = morton::scan::row::row_keys(volume, from, to, y, z, keys);
     put_length(answer, length)
 }
 
@@ -151,7 +151,7 @@ pub extern "C" fn coronagamba_bounds_of(
     ensures begin { λ _. ⌜ now (begin .exit) ≡ beginAfter (boundsAnswer volume cell) (now (begin .entry)) ⌝ }
     ensures end { λ _. ⌜ now (end .exit) ≡ endAfter (boundsAnswer volume cell) (now (end .entry)) ⌝ }
 {
-    match bounds::bounds_of(volume, cell) {
+    match morton::bounds::bounds_of(volume, cell) {
         BoundsAnswer::Within(bounds) => {
             *begin = three(bounds.begin);
             *end = three(bounds.end);

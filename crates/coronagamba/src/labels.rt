@@ -1,13 +1,13 @@
 // Labels inside a chunk: the label of a voxel, a whole chunk unpacked.
 ghost use mathlib.Core.Path.{_≡_};
-ghost use Rattle.segmentation.specs.Labels.{labelAnswer};
-ghost use Rattle.rawform.specs.Raw.{lengthAnswer, unpackAnswer, unpackLeft};
-ghost use Rattle.word.specs.Word.{writtenWord, lengthAfter};
+ghost use Rattle.compressed_segmentation.specs.segmentation.Labels.{labelAnswer};
+ghost use Rattle.compressed_segmentation.specs.rawform.Raw.{lengthAnswer, unpackAnswer, unpackLeft};
+ghost use Rattle.coronagamba.specs.word.Word.{writtenWord, lengthAfter};
 ghost use Rattle.coronagamba.specs.Labels.{noWidth, labelBy, writtenBy, leftBy, shapeOf, labelWord, labelAfter};
 use crate::answers::put_length;
-use grid::Extents;
-use segmentation::LabelAnswer;
-use segmentation::Shape;
+use compressed_segmentation::segmentation::LabelAnswer;
+use compressed_segmentation::segmentation::Shape;
+use morton::grid::Extents;
 
 // No label has this many bits.
 fn no_width(bits: u8) -> bool
@@ -55,7 +55,7 @@ pub extern "C" fn coronagamba_label(
     if no_width(bits) {
         return 2;
     }
-    match voxellabel::label_of(
+    match compressed_segmentation::voxellabel::label_of(
         chunk,
         shape_of(size, block, channels, bits),
         x,
@@ -90,7 +90,12 @@ pub extern "C" fn coronagamba_unpacked_length(
     if no_width(bits) {
         return 2;
     }
-    let answer = unpack::unpacked_length(shape_of(size, block, channels, bits));
+    let answer = compressed_segmentation::unpack::unpacked_length(shape_of(
+        size,
+        block,
+        channels,
+        bits,
+    ));
     put_length(answer, length)
 }
 
@@ -118,6 +123,10 @@ pub extern "C" fn coronagamba_unpack(
     if no_width(bits) {
         return 2;
     }
-    let answer = unpack::unpack(chunk, shape_of(size, block, channels, bits), out);
+    let answer = compressed_segmentation::unpack::unpack(
+        chunk,
+        shape_of(size, block, channels, bits),
+        out,
+    );
     put_length(answer, length)
 }

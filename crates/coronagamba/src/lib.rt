@@ -13,3 +13,4 @@ pub mod shards;
 pub mod sheets;
 pub mod texts;
 pub mod version;
+pub mod word;

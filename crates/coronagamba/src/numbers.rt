@@ -4,8 +4,8 @@ ghost use mathlib.Core.List.{[], _∷_};
 ghost use Rattle.sharding.specs.Specification.{minishardBits, shardBits};
 ghost use Rattle.coronagamba.specs.Cards.{cardWord, shardingAfter, volumeAfter, chunkAfter, offsetAfter};
 use card::CardAnswer;
-use grid::Extents;
-use grid::Offset;
+use morton::grid::Extents;
+use morton::grid::Offset;
 use sharding::Sharding;
 
 pub fn five(sharding: Sharding) -> [u8; 5]

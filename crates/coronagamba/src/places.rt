@@ -1,12 +1,12 @@
 // Ids and shards.
 ghost use mathlib.Core.Path.{_≡_};
-ghost use Rattle.placement.specs.Place.{placeAnswer};
-ghost use Rattle.manyplaces.specs.Batch.{placesAnswer, shardsLeft, minishardsLeft};
-ghost use Rattle.word.specs.Word.{writtenWord, lengthAfter};
+ghost use Rattle.sharding.specs.placement.Place.{placeAnswer};
+ghost use Rattle.sharding.specs.manyplaces.Batch.{placesAnswer, shardsLeft, minishardsLeft};
+ghost use Rattle.coronagamba.specs.word.Word.{writtenWord, lengthAfter};
 ghost use Rattle.coronagamba.specs.Places.{placeWord, shardAfter, minishardAfter};
 use crate::answers::put_length;
-use placement::PlaceAnswer;
 use sharding::Sharding;
+use sharding::placement::PlaceAnswer;
 
 // The shard and the minishard of an id. Writes them to `shard` and `minishard`.
 // Refusals: 1
@@ -21,7 +21,7 @@ pub extern "C" fn coronagamba_place_of(
     ensures shard { λ _. ⌜ now (shard .exit) ≡ shardAfter (placeAnswer sharding id) (now (shard .entry)) ⌝ }
     ensures minishard { λ _. ⌜ now (minishard .exit) ≡ minishardAfter (placeAnswer sharding id) (now (minishard .entry)) ⌝ }
 {
-    match placement::place_of(sharding, id) {
+    match sharding::placement::place_of(sharding, id) {
         PlaceAnswer::At(place) => {
             *shard = place.shard;
             *minishard = place.minishard;
@@ -47,6 +47,6 @@ pub extern "C" fn coronagamba_places_of(
     ensures minishards { λ _. ⌜ now (minishards .exit) ≡ minishardsLeft sharding (now (ids .entry)) (now (shards .entry)) (now (minishards .entry)) ⌝ }
     ensures length { λ _. ⌜ now (length .exit) ≡ lengthAfter (placesAnswer sharding (now (ids .entry)) (now (shards .entry)) (now (minishards .entry))) (now (length .entry)) ⌝ }
 {
-    let answer = manyplaces::places_of(sharding, ids, shards, minishards);
+    let answer = sharding::manyplaces::places_of(sharding, ids, shards, minishards);
     put_length(answer, length)
 }

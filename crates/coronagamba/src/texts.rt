@@ -1,11 +1,11 @@
 // File names.
 ghost use mathlib.Core.Path.{_≡_};
-ghost use Rattle.chunknames.specs.Chunks.{chunkNameAnswer, chunkNameLeft};
+ghost use Rattle.names.specs.chunknames.Chunks.{chunkNameAnswer, chunkNameLeft};
 ghost use Rattle.names.specs.Shards.{shardNameAnswer, shardNameLeft};
-ghost use Rattle.word.specs.Word.{writtenWord, lengthAfter};
+ghost use Rattle.coronagamba.specs.word.Word.{writtenWord, lengthAfter};
 use crate::answers::put_length;
-use grid::Cell;
-use grid::Volume;
+use morton::grid::Cell;
+use morton::grid::Volume;
 use sharding::Sharding;
 
 // The file name of a cell's chunk where chunks are not sharded. Writes its ASCII bytes, at most 71
@@ -22,7 +22,7 @@ pub extern "C" fn coronagamba_chunk_name(
     ensures out { λ _. ⌜ now (out .exit) ≡ chunkNameLeft volume cell (now (out .entry)) ⌝ }
     ensures length { λ _. ⌜ now (length .exit) ≡ lengthAfter (chunkNameAnswer volume cell (now (out .entry))) (now (length .entry)) ⌝ }
 {
-    let answer = chunknames::chunk_name(volume, cell, out);
+    let answer = names::chunknames::chunk_name(volume, cell, out);
     put_length(answer, length)
 }
 
@@ -40,6 +40,6 @@ pub extern "C" fn coronagamba_shard_name(
     ensures out { λ _. ⌜ now (out .exit) ≡ shardNameLeft sharding shard (now (out .entry)) ⌝ }
     ensures length { λ _. ⌜ now (length .exit) ≡ lengthAfter (shardNameAnswer sharding shard (now (out .entry))) (now (length .entry)) ⌝ }
 {
-    let answer = shardnames::shard_name(sharding, shard, out);
+    let answer = names::shardnames::shard_name(sharding, shard, out);
     put_length(answer, length)
 }

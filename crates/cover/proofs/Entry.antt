@@ -13,16 +13,16 @@ use Rattle.refusal.specs.declared.Written.the-variants.{Length, Refused}
 use Rattle.refusal.proofs.Refusing.{by-number, by-none}
 use Rattle.endian.specs.Place.{paste}
 use Rattle.endian.proofs.Paste.{paste-front}
-use Rattle.bounds.specs.declared.Point.{Point}
-use Rattle.grid.specs.declared.Extents.{Extents}
-use Rattle.grid.specs.declared.Volume.{Volume}
-use Rattle.grid.specs.Grid.{gridOf, zeroExtent}
+use Rattle.morton.specs.declared.bounds.Point.{Point}
+use Rattle.morton.specs.declared.grid.Extents.{Extents}
+use Rattle.morton.specs.declared.grid.Volume.{Volume}
+use Rattle.morton.specs.grid.Grid.{gridOf, zeroExtent}
 use Rattle.morton.specs.Key.{keyBits, tooManyBits}
 use Rattle.morton.proofs.Laws.{few-bits-are, many-bits-are}
-use Rattle.overlap.specs.declared.Part.{Part}
-use Rattle.overlap.specs.Cover.{coverKeys, coverChecks, coverAnswer, coverLeft}
-use Rattle.overlap.specs.Marked.{leftBits, partKeys, width, Framed, Whole}
-use Rattle.descent.proofs.Cuts.{markedCells, keys-count}
+use Rattle.cover.specs.declared.overlap.Part.{Part}
+use Rattle.cover.specs.overlap.Cover.{coverKeys, coverChecks, coverAnswer, coverLeft}
+use Rattle.cover.specs.overlap.Marked.{leftBits, partKeys, width, Framed, Whole}
+use Rattle.cover.proofs.descent.Cuts.{markedCells, keys-count}
 
 module _ (v : Volume) (lower upper : Point) (d : List ℕ) where
   pub cover-refused : {k : ℕ} → firstNumber (coverChecks v lower upper d) ≡ k → 0 < k → Refused k ≡ coverAnswer v lower upper d

@@ -9,9 +9,9 @@ use borrow.Author.Needs.{needs}
 use borrow.Author.Tests.{le-ltb}
 use mir.Syntax.{w64}
 use mir.Val.{Fits}
-use Rattle.overlap.specs.declared.Along.{Along}
-use Rattle.overlap.specs.Marked.{width}
-use Rattle.overlap.proofs.Tests.{ltb-same}
+use Rattle.cover.specs.declared.overlap.Along.{Along}
+use Rattle.cover.specs.overlap.Marked.{width}
+use Rattle.cover.proofs.overlap.Tests.{ltb-same}
 
 -- ---- marked cells
 pub width-is : (a : Along) {r : ℕ} → r ≡ a .to - a .from → r ≡ width a

@@ -1,10 +1,14 @@
 // Which chunks cover a box of voxels.
+pub mod descent;
+pub mod halves;
+pub mod overlap;
+
 ghost use mathlib.Core.Path.{_≡_};
-ghost use Rattle.overlap.specs.Cover.{coverAnswer, coverLeft};
-use bounds::Point;
-use descent::search;
-use grid::Volume;
-use overlap::spans;
+ghost use Rattle.cover.specs.overlap.Cover.{coverAnswer, coverLeft};
+use crate::descent::search;
+use crate::overlap::spans;
+use morton::bounds::Point;
+use morton::grid::Volume;
 use refusal::Written;
 
 mod parts;
@@ -15,7 +19,7 @@ pub fn cover(volume: Volume, lower: Point, upper: Point, out: &mut [u64]) -> Wri
     ensures answer { λ r. ⌜ r ≡ coverAnswer volume lower upper (now (out .entry)) ⌝ }
     ensures out { λ _. ⌜ now (out .exit) ≡ coverLeft volume lower upper (now (out .entry)) ⌝ }
 {
-    if grid::inner::zero_extent(volume) {
+    if morton::grid::inner::zero_extent(volume) {
         return Written::Refused(2);
     }
     if 64 < morton::inner::volume_key_bits(volume) {
@@ -27,5 +31,5 @@ pub fn cover(volume: Volume, lower: Point, upper: Point, out: &mut [u64]) -> Wri
     if parts::exceeds(face, deep, out.len() as u64) {
         return Written::Refused(13);
     }
-    Written::Length(search(grid::inner::grid(volume), whole, out))
+    Written::Length(search(morton::grid::inner::grid(volume), whole, out))
 }

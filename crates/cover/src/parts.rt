@@ -2,9 +2,9 @@
 ghost use mathlib.Core.Path.{_≡_};
 ghost use Prim.Native.Nat.{_-_, _*_, _^_, _<_};
 ghost use lib.Dec.{ltb};
-ghost use Rattle.overlap.specs.Marked.{width};
-use overlap::Along;
-use overlap::Part;
+ghost use Rattle.cover.specs.overlap.Marked.{width};
+use crate::overlap::Along;
+use crate::overlap::Part;
 
 fn less(a: u32, b: u32) -> u32
     ensures { λ r. ⌜ r ≡ a - b ⌝ }

@@ -7,8 +7,8 @@ use native.Mathlib.Nat.{add-zero, zero-add, add-assoc}
 use lib.ListN.{replicate, replicate-append-replicate}
 use Rattle.endian.specs.Little.{le, row}
 use Rattle.shard.specs.Items.{Item}
-use Rattle.form.specs.Form.{chunksOf, chunksLength, idRow, startRow, sizeRow, indexOf, partOf, partLength, partsFrom, partsLength, entryBegin, entryFinish, entriesFrom, settled}
-use Rattle.waiting.specs.Held.{pair}
+use Rattle.settled_form.specs.form.Form.{chunksOf, chunksLength, idRow, startRow, sizeRow, indexOf, partOf, partLength, partsFrom, partsLength, entryBegin, entryFinish, entriesFrom, settled}
+use Rattle.intake.specs.waiting.Held.{pair}
 
 -- the entry in the shard index of a minishard at the place p
 abbrev pub entryOf : ℕ → List Item → List ℕ

@@ -12,18 +12,18 @@ use Rattle.refusal.specs.Checks.{firstNumber}
 use Rattle.endian.specs.Place.{paste}
 use Rattle.endian.proofs.Paste.{length-paste}
 use Rattle.sharding.specs.declared.Sharding.{Sharding}
-use Rattle.placement.specs.Place.{minishardOf}
+use Rattle.sharding.specs.placement.Place.{minishardOf}
 use Rattle.shard.specs.File.{indexLength}
-use Rattle.waiting.specs.Held.{pair, indexHeld}
-use Rattle.waiting.proofs.Writing.{length-index}
-use Rattle.waiting.proofs.Pairs.{pair-kept}
-use Rattle.intakestate.specs.declared.Intake.{Intake}
-use Rattle.intakestate.specs.State.{sane, Usable}
-use Rattle.intaketests.specs.Tests.{otherLengths, unusable, countIn}
-use Rattle.admission.specs.Refusals.{announceChecks}
-use Rattle.admission.proofs.Passing.{opens, announces, hands}
+use Rattle.intake.specs.waiting.Held.{pair, indexHeld}
+use Rattle.intake.proofs.waiting.Writing.{length-index}
+use Rattle.intake.proofs.waiting.Pairs.{pair-kept}
+use Rattle.intake.specs.declared.intakestate.Intake.{Intake}
+use Rattle.intake.specs.intakestate.State.{sane, Usable}
+use Rattle.intake.specs.intaketests.Tests.{otherLengths, unusable, countIn}
+use Rattle.intake.specs.admission.Refusals.{announceChecks}
+use Rattle.intake.proofs.admission.Passing.{opens, announces, hands}
 use Rattle.intake.specs.declared.IntakeAnswer.the-variants.{Next}
-use Rattle.intakesteps.specs.Steps.{endedLeft, turnedLeft, announced}
+use Rattle.intake.specs.intakesteps.Steps.{endedLeft, turnedLeft, announced}
 use Rattle.intake.specs.Calls.{announceAnswer, announceLeft, announceWaiting, partLeft}
 use Rattle.intake.proofs.Answered.{announce-left, announce-waiting, part-left}
 use Rattle.intake.proofs.Refused.{open-told, announce-told, part-told}

@@ -8,9 +8,9 @@ use lib.ListN.{length, length-append}
 use Rattle.endian.specs.Place.{paste}
 use Rattle.endian.proofs.Paste.{paste-nil, paste-on}
 use Rattle.shard.specs.File.{indexLength}
-use Rattle.intakestate.specs.declared.Intake.{Intake}
-use Rattle.admission.proofs.Passing.{hands}
-use Rattle.intakesteps.specs.Steps.{taken}
+use Rattle.intake.specs.declared.intakestate.Intake.{Intake}
+use Rattle.intake.proofs.admission.Passing.{hands}
+use Rattle.intake.specs.intakesteps.Steps.{taken}
 use Rattle.intake.specs.Calls.{partLeft}
 use Rattle.intake.proofs.Answered.{part-left}
 use Rattle.intake.proofs.Refused.{part-told}

@@ -15,21 +15,21 @@ use Rattle.endian.specs.Place.{paste}
 use Rattle.endian.proofs.Paste.{paste-nil}
 use Rattle.sharding.specs.declared.Sharding.{Sharding}
 use Rattle.sharding.specs.Specification.{minishardCount, minishardBits}
-use Rattle.placement.specs.Place.{minishardOf}
-use Rattle.placement.proofs.Placed.{minishard-below}
+use Rattle.sharding.specs.placement.Place.{minishardOf}
+use Rattle.sharding.proofs.placement.Placed.{minishard-below}
 use Rattle.shard.specs.File.{indexLength}
 use Rattle.shard.specs.Items.{Item}
-use Rattle.form.specs.Form.{chunksOf, chunksLength, partLength, partsLength, settled}
-use Rattle.waiting.specs.Held.{pair}
-use Rattle.intakestate.specs.declared.Intake.{Intake}
-use Rattle.intakestate.specs.State.{announcedLength}
-use Rattle.admission.proofs.Passing.{opens, announces, closes}
-use Rattle.intaketests.proofs.Passing.{not-below}
+use Rattle.settled_form.specs.form.Form.{chunksOf, chunksLength, partLength, partsLength, settled}
+use Rattle.intake.specs.waiting.Held.{pair}
+use Rattle.intake.specs.declared.intakestate.Intake.{Intake}
+use Rattle.intake.specs.intakestate.State.{announcedLength}
+use Rattle.intake.proofs.admission.Passing.{opens, announces, closes}
+use Rattle.intake.proofs.intaketests.Passing.{not-below}
 use Rattle.intake.specs.declared.IntakeAnswer.the-variants.{Next}
 use Rattle.intake.specs.declared.CloseAnswer.the-variants.{Closed}
-use Rattle.intakesteps.specs.Steps.{endedLeft, opened, turned, turnedLeft, noted, announced, taken}
+use Rattle.intake.specs.intakesteps.Steps.{endedLeft, opened, turned, turnedLeft, noted, announced, taken}
 use Rattle.intake.specs.Calls.{openLeft, announceAnswer, announceLeft, announceWaiting, closeAnswer, closeLeft}
-use Rattle.intakesteps.proofs.Stepped.{turned-count}
+use Rattle.intake.proofs.intakesteps.Stepped.{turned-count}
 use Rattle.intake.proofs.Answered.{open-left, announce-left, announce-waiting, close-left}
 use Rattle.intake.proofs.Refused.{open-told, announce-told, close-told}
 use Rattle.delivered.specs.Delivered.{Delivery, joined, asItem, asItems}

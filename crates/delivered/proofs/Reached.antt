@@ -13,18 +13,18 @@ use Rattle.refusal.proofs.Tests.{both, neither}
 use Rattle.endian.specs.Place.{paste}
 use Rattle.sharding.specs.declared.Sharding.{Sharding}
 use Rattle.sharding.specs.Specification.{noSuchShard}
-use Rattle.placement.specs.Place.{shardOf, minishardOf}
+use Rattle.sharding.specs.placement.Place.{shardOf, minishardOf}
 use Rattle.shard.specs.File.{indexLength}
-use Rattle.waiting.specs.Held.{pair, idHeld, sizeHeld}
-use Rattle.waiting.proofs.Pairs.{pair-id, pair-size}
-use Rattle.intakestate.specs.declared.Intake.{Intake}
-use Rattle.intakestate.specs.State.{most, announcedLength, notVolume, fresh, placed, begun, spans, waits, going, sane}
-use Rattle.intaketests.specs.Tests.{outOfOrder, countIn}
-use Rattle.intakestate.proofs.Passing.{volume-allowed, Fresh, fresh-parts, going-parts, Sane, sane-parts}
-use Rattle.intaketests.proofs.Passing.{unusable-parts, not-below, foreign-ours}
-use Rattle.admission.proofs.Passing.{Opens, Announces}
-use Rattle.intakesteps.specs.Steps.{opened, turned, announced, taken}
-use Rattle.intakesteps.proofs.Stepped.{turned-count}
+use Rattle.intake.specs.waiting.Held.{pair, idHeld, sizeHeld}
+use Rattle.intake.proofs.waiting.Pairs.{pair-id, pair-size}
+use Rattle.intake.specs.declared.intakestate.Intake.{Intake}
+use Rattle.intake.specs.intakestate.State.{most, announcedLength, notVolume, fresh, placed, begun, spans, waits, going, sane}
+use Rattle.intake.specs.intaketests.Tests.{outOfOrder, countIn}
+use Rattle.intake.proofs.intakestate.Passing.{volume-allowed, Fresh, fresh-parts, going-parts, Sane, sane-parts}
+use Rattle.intake.proofs.intaketests.Passing.{unusable-parts, not-below, foreign-ours}
+use Rattle.intake.proofs.admission.Passing.{Opens, Announces}
+use Rattle.intake.specs.intakesteps.Steps.{opened, turned, announced, taken}
+use Rattle.intake.proofs.intakesteps.Stepped.{turned-count}
 use Rattle.delivered.proofs.Keeping.{turned-there}
 
 positive : (k : ℕ) → (k ≡ 0 → ⊥) → 0 < k

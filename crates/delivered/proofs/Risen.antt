@@ -10,15 +10,15 @@ use lib.ListN.{length}
 use borrow.Author.Tests.{leb-false, lt-ltb, eqb-true, eqb-false, eq-eqb, ne-eqb}
 use Rattle.refusal.proofs.Tests.{neither}
 use Rattle.sharding.specs.declared.Sharding.{Sharding}
-use Rattle.placement.specs.Place.{shardOf, minishardOf}
+use Rattle.sharding.specs.placement.Place.{shardOf, minishardOf}
 use Rattle.shard.specs.Items.{Item}
-use Rattle.form.specs.Sorted.{Member, Rising}
-use Rattle.form.specs.Content.{idOf}
-use Rattle.intakestate.specs.declared.Intake.{Intake}
-use Rattle.intaketests.specs.Tests.{outOfOrder}
-use Rattle.admission.proofs.Passing.{announces}
-use Rattle.intaketests.proofs.Passing.{not-below, foreign-ours}
-use Rattle.intakesteps.specs.Steps.{turned, announced, taken}
+use Rattle.settled_form.specs.form.Sorted.{Member, Rising}
+use Rattle.settled_form.specs.form.Content.{idOf}
+use Rattle.intake.specs.declared.intakestate.Intake.{Intake}
+use Rattle.intake.specs.intaketests.Tests.{outOfOrder}
+use Rattle.intake.proofs.admission.Passing.{announces}
+use Rattle.intake.proofs.intaketests.Passing.{not-below, foreign-ours}
+use Rattle.intake.specs.intakesteps.Steps.{turned, announced, taken}
 use Rattle.intake.proofs.Refused.{announce-told}
 use Rattle.delivered.specs.Delivered.{Delivery, joined, asItem, asItems, inMinishard, Precedes, InOrder}
 use Rattle.delivered.specs.Runs.{Desk, Takes, Delivers, no-chunk, chunk}

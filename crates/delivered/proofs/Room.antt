@@ -11,18 +11,18 @@ use lib.Seq.{getD-at}
 use Rattle.refusal.specs.Checks.{firstNumber}
 use Rattle.sharding.specs.declared.Sharding.{Sharding}
 use Rattle.sharding.specs.Specification.{minishardCount}
-use Rattle.placement.specs.Place.{minishardOf}
-use Rattle.placement.proofs.Placed.{minishard-below}
+use Rattle.sharding.specs.placement.Place.{minishardOf}
+use Rattle.sharding.proofs.placement.Placed.{minishard-below}
 use Rattle.shard.specs.File.{indexLength}
 use Rattle.shard.specs.Items.{Item}
-use Rattle.form.specs.Form.{partsLength, settled, settledLength}
-use Rattle.form.proofs.Measures.{length-settled}
-use Rattle.intakestate.specs.declared.Intake.{Intake}
-use Rattle.intakestate.specs.State.{announcedLength}
-use Rattle.intaketests.specs.Tests.{outOfOrder, countIn, noRoom}
-use Rattle.admission.specs.Refusals.{openChecks}
-use Rattle.intaketests.proofs.Passing.{not-below}
-use Rattle.intakesteps.proofs.Stepped.{turned-count}
+use Rattle.settled_form.specs.form.Form.{partsLength, settled, settledLength}
+use Rattle.settled_form.proofs.form.Measures.{length-settled}
+use Rattle.intake.specs.declared.intakestate.Intake.{Intake}
+use Rattle.intake.specs.intakestate.State.{announcedLength}
+use Rattle.intake.specs.intaketests.Tests.{outOfOrder, countIn, noRoom}
+use Rattle.intake.specs.admission.Refusals.{openChecks}
+use Rattle.intake.proofs.intaketests.Passing.{not-below}
+use Rattle.intake.proofs.intakesteps.Stepped.{turned-count}
 use Rattle.delivered.specs.Delivered.{Delivery, asItems, inMinishard, gathered}
 use Rattle.delivered.specs.Runs.{Desk, Takes}
 use Rattle.delivered.specs.Says.{tooLong, noPairLeft, openSays}

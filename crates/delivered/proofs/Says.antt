@@ -10,17 +10,17 @@ use borrow.Author.Tests.{ltb-false, lt-ltb, le-ltb, eq-eqb}
 use Rattle.refusal.specs.Choice.{pick}
 use Rattle.refusal.specs.Checks.{firstNumber, unless}
 use Rattle.sharding.specs.declared.Sharding.{Sharding}
-use Rattle.placement.specs.Place.{shardOf, minishardOf}
+use Rattle.sharding.specs.placement.Place.{shardOf, minishardOf}
 use Rattle.shard.specs.Items.{Item}
-use Rattle.intakestate.specs.declared.Intake.{Intake}
-use Rattle.intakestate.specs.State.{sane}
-use Rattle.intaketests.specs.Tests.{otherLengths, foreign, unusable, outOfOrder}
-use Rattle.admission.specs.Refusals.{announceChecks, partChecks, closeChecks}
-use Rattle.intakestate.proofs.Passing.{volume-allowed, sane-parts}
-use Rattle.admission.proofs.Passing.{Closes, closes}
+use Rattle.intake.specs.declared.intakestate.Intake.{Intake}
+use Rattle.intake.specs.intakestate.State.{sane}
+use Rattle.intake.specs.intaketests.Tests.{otherLengths, foreign, unusable, outOfOrder}
+use Rattle.intake.specs.admission.Refusals.{announceChecks, partChecks, closeChecks}
+use Rattle.intake.proofs.intakestate.Passing.{volume-allowed, sane-parts}
+use Rattle.intake.proofs.admission.Passing.{Closes, closes}
 use Rattle.intake.specs.declared.IntakeAnswer.the-variants.{Next, Refused}
 use Rattle.intake.specs.declared.CloseAnswer.the-variants.{Closed, Refused as NotClosed}
-use Rattle.intakesteps.specs.Steps.{turned, announced, taken, closed}
+use Rattle.intake.specs.intakesteps.Steps.{turned, announced, taken, closed}
 use Rattle.intake.specs.Calls.{announceAnswer, partAnswer, closeAnswer, closeLeft}
 use Rattle.intake.proofs.Answered.{close-left}
 use Rattle.intake.proofs.Refused.{announce-told, close-told}

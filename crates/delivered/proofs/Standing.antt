@@ -16,12 +16,12 @@ use Rattle.endian.proofs.Paste.{paste-skip, paste-front}
 use Rattle.sharding.specs.Specification.{minishardCount}
 use Rattle.shard.specs.File.{indexLength}
 use Rattle.shard.specs.Items.{Item}
-use Rattle.form.specs.Form.{chunksOf, chunksLength, idRow, startRow, sizeRow, indexOf, partOf, partLength, partsFrom, partsLength, entryBegin, entryFinish, entriesFrom, settled, settledLength}
-use Rattle.form.proofs.Measures.{length-chunks, length-shard-index, length-settled}
-use Rattle.waiting.specs.Held.{pair, idHeld, sizeHeld, stepsHeld, sizesHeld, startsFrom, indexHeld}
-use Rattle.waiting.proofs.Pairs.{length-pair}
-use Rattle.intakestate.specs.declared.Intake.{Intake}
-use Rattle.intakesteps.specs.Steps.{endedLeft}
+use Rattle.settled_form.specs.form.Form.{chunksOf, chunksLength, idRow, startRow, sizeRow, indexOf, partOf, partLength, partsFrom, partsLength, entryBegin, entryFinish, entriesFrom, settled, settledLength}
+use Rattle.settled_form.proofs.form.Measures.{length-chunks, length-shard-index, length-settled}
+use Rattle.intake.specs.waiting.Held.{pair, idHeld, sizeHeld, stepsHeld, sizesHeld, startsFrom, indexHeld}
+use Rattle.intake.proofs.waiting.Pairs.{length-pair}
+use Rattle.intake.specs.declared.intakestate.Intake.{Intake}
+use Rattle.intake.specs.intakesteps.Steps.{endedLeft}
 use Rattle.delivered.proofs.Appends.{entryOf, empties, among-length, among-settled}
 
 -- ---- what a list begins with, and what stands behind that: what stood there in another list, its base

@@ -6,11 +6,11 @@ use lib.Dec.{eqb}
 use Rattle.refusal.specs.Choice.{pick}
 use Rattle.sharding.specs.declared.Sharding.{Sharding}
 use Rattle.sharding.specs.Specification.{minishardCount}
-use Rattle.placement.specs.Place.{minishardOf}
+use Rattle.sharding.specs.placement.Place.{minishardOf}
 use Rattle.shard.specs.Items.{Item}
-use Rattle.form.specs.Sorted.{Member}
-use Rattle.form.specs.Form.{settled}
-use Rattle.form.specs.Content.{byId}
+use Rattle.settled_form.specs.form.Sorted.{Member}
+use Rattle.settled_form.specs.form.Form.{settled}
+use Rattle.settled_form.specs.form.Content.{byId}
 
 -- a chunk as it is delivered: its id, the size that is announced, and its bytes "in successive parts of any lengths"
 pub record Delivery : Type 0 where

@@ -7,10 +7,10 @@ use lib.ListN.{length}
 use Rattle.refusal.specs.Checks.{Check, check}
 use Rattle.sharding.specs.declared.Sharding.{Sharding}
 use Rattle.sharding.specs.Specification.{noSuchShard}
-use Rattle.placement.specs.Place.{shardOf, minishardOf}
+use Rattle.sharding.specs.placement.Place.{shardOf, minishardOf}
 use Rattle.shard.specs.Items.{Item}
-use Rattle.form.specs.Form.{settled}
-use Rattle.intakestate.specs.State.{most, notVolume}
+use Rattle.settled_form.specs.form.Form.{settled}
+use Rattle.intake.specs.intakestate.State.{most, notVolume}
 use Rattle.delivered.specs.Delivered.{Delivery, joined, asItems, inMinishard, gathered}
 
 -- 25: the id is not above the last one that came, by minishard and then by id

@@ -7,10 +7,10 @@ use native.Mathlib.Omega.{arith}
 use borrow.Author.Needs.{needs}
 use borrow.Author.Tests.{ltb-false}
 use Rattle.refusal.proofs.Tests.{neither}
-use Rattle.chunksums.specs.Totals.{mostTotal, passes}
-use Rattle.shardsheet.specs.declared.Sheet.{Sheet}
-use Rattle.shardsheet.specs.Sheet.{rows}
-use Rattle.sheettotals.specs.Totals.{anyPasses, both}
+use Rattle.holdings.specs.chunksums.Totals.{mostTotal, passes}
+use Rattle.holdings.specs.declared.shardsheet.Sheet.{Sheet}
+use Rattle.holdings.specs.shardsheet.Sheet.{rows}
+use Rattle.holdings.specs.sheettotals.Totals.{anyPasses, both}
 use Rattle.holdings.specs.Joining.{Totals, Joins}
 
 -- none of the numbers passes

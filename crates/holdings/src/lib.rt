@@ -1,15 +1,19 @@
 // The yearly holdings sheet: shards sound, shards refused for each number, and what the sound ones hold.
+pub mod chunksums;
+pub mod measure;
 mod rows;
+pub mod shardsheet;
+pub mod sheettotals;
 
 ghost use mathlib.Core.Path.{_≡_};
 ghost use Rattle.holdings.specs.Answers.{joinAnswer, addAnswer, pairAddAnswer};
+use crate::measure::measure;
+use crate::measure::measure_pair;
 use crate::rows::add_measured;
 use crate::rows::together;
-use measure::measure;
-use measure::measure_pair;
+use crate::shardsheet::Sheet;
+use crate::sheettotals::passes;
 use sharding::Sharding;
-use shardsheet::Sheet;
-use sheettotals::passes;
 
 // The new sheet, or 27.
 pub enum SheetAnswer {

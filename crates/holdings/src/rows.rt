@@ -4,10 +4,10 @@ ghost use Rattle.holdings.specs.Joining.{Totals, Joins};
 ghost use Rattle.holdings.specs.Answers.{measuredAnswer};
 use crate::SheetAnswer;
 use crate::join;
-use measure::MeasureAnswer;
-use shardsheet::Sheet;
-use shardsheet::refused_sheet;
-use shardsheet::sound_sheet;
+use crate::measure::MeasureAnswer;
+use crate::shardsheet::Sheet;
+use crate::shardsheet::refused_sheet;
+use crate::shardsheet::sound_sheet;
 
 // A row's total, where it does not pass.
 fn total(a: u64, b: u64) -> u64

@@ -7,18 +7,18 @@ use borrow.Author.Needs.{needs}
 use borrow.Author.Tests.{not-true, not-false}
 use Rattle.refusal.specs.Choice.{pick}
 use Rattle.refusal.specs.Checks.{firstNumber, unless}
-use Rattle.text.specs.Parts.{ws}
+use Rattle.json.specs.text.Parts.{ws}
 use Rattle.json.specs.Grammar.{deepest, isJson}
 use Rattle.card.specs.declared.Card.{Card}
 use Rattle.card.specs.declared.CardAnswer.the-variants.{Says, Refused}
 use Rattle.card.specs.Answers.{fault}
-use Rattle.text.specs.declared.Found.{Found}
-use Rattle.text.specs.declared.Found.the-variants.{At, Nothing}
-use Rattle.scale.specs.declared.Settings.{Settings}
-use Rattle.scale.specs.declared.Settings.the-variants.{Are as SettingsAre, Wrong as NoSettings}
-use Rattle.places.specs.Places.{needed, element}
-use Rattle.members.specs.Words.{scalesName}
-use Rattle.scale.specs.Scale.{settingsAt}
+use Rattle.json.specs.declared.text.Found.{Found}
+use Rattle.json.specs.declared.text.Found.the-variants.{At, Nothing}
+use Rattle.info.specs.declared.scale.Settings.{Settings}
+use Rattle.info.specs.declared.scale.Settings.the-variants.{Are as SettingsAre, Wrong as NoSettings}
+use Rattle.json.specs.places.Places.{needed, element}
+use Rattle.info.specs.members.Words.{scalesName}
+use Rattle.info.specs.scale.Scale.{settingsAt}
 use Rattle.info.specs.Settings.{scaleAt, settingsOf}
 use Rattle.info.specs.Answers.{noSettings, recordOf, infoChecks, infoAnswer}
 

@@ -10,8 +10,8 @@ use Rattle.card.specs.Reading.{zeros}
 use Rattle.card.specs.declared.Card.{Card}
 use Rattle.card.specs.declared.CardAnswer.{CardAnswer}
 use Rattle.card.specs.declared.CardAnswer.the-variants.{Says, Refused}
-use Rattle.scale.specs.declared.Settings.{Settings}
-use Rattle.scale.specs.declared.Settings.the-variants.{Are, Wrong}
+use Rattle.info.specs.declared.scale.Settings.{Settings}
+use Rattle.info.specs.declared.scale.Settings.the-variants.{Are, Wrong}
 use Rattle.info.specs.Settings.{settingsOf}
 
 -- "no scale k, a needed member missing, a used one doubled or of the wrong kind, another @type or a refused encoding"

@@ -1,3 +1,7 @@
 -- The info file: its settings by places in the text, and what reading answers.
+pub mod wholes
+pub mod members
+pub mod scale
+pub mod document
 pub mod Settings
 pub mod Answers

@@ -1,14 +1,14 @@
 -- The settings of scale k that an info file says, as the record of a card (order 1).
 use Prim.Native.Nat.{ℕ}
 use mathlib.Core.List.{List}
-use Rattle.text.specs.Parts.{ws}
-use Rattle.text.specs.declared.Found.{Found}
-use Rattle.text.specs.declared.Found.the-variants.{Nothing}
-use Rattle.scale.specs.declared.Settings.{Settings}
-use Rattle.scale.specs.declared.Settings.the-variants.{Wrong as NoSettings}
-use Rattle.places.specs.Places.{needed, element}
-use Rattle.members.specs.Words.{scalesName}
-use Rattle.scale.specs.Scale.{whenAt, settingsAt}
+use Rattle.json.specs.text.Parts.{ws}
+use Rattle.json.specs.declared.text.Found.{Found}
+use Rattle.json.specs.declared.text.Found.the-variants.{Nothing}
+use Rattle.info.specs.declared.scale.Settings.{Settings}
+use Rattle.info.specs.declared.scale.Settings.the-variants.{Wrong as NoSettings}
+use Rattle.json.specs.places.Places.{needed, element}
+use Rattle.info.specs.members.Words.{scalesName}
+use Rattle.info.specs.scale.Scale.{whenAt, settingsAt}
 
 -- scale k, from 0, of the outermost value's scales
 unfoldable pub scaleAt : List ℕ → ℕ → Found

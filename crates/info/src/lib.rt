@@ -1,11 +1,15 @@
 // Reading the settings of a volume from the text of its info file.
+pub mod document;
+pub mod members;
 mod parts;
+pub mod scale;
+pub mod wholes;
 
 ghost use mathlib.Core.Path.{_≡_};
 ghost use Rattle.info.specs.Answers.{infoAnswer};
+use crate::scale::Settings;
 use card::Card;
 use card::CardAnswer;
-use scale::Settings;
 
 // The settings of the scale as a card says them: refused with 19, 20, 1, 2 or 3.
 // The time is linear in the text: it is walked once as JSON, once along the outermost members, once along the scales to the one that
@@ -14,7 +18,7 @@ use scale::Settings;
 pub fn read_info(text: &[u8], scale: u64) -> CardAnswer
     ensures answer { λ r. ⌜ r ≡ infoAnswer (now (text .entry)) scale ⌝ }
 {
-    if !jsontext::is_json(text) {
+    if !json::jsontext::is_json(text) {
         return CardAnswer::Refused(19);
     }
     let Settings::Are(card) = parts::settings_of(text, scale) else {

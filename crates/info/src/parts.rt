@@ -1,18 +1,18 @@
 // The scale that is asked for, and its settings, from the text of an info file.
 ghost use mathlib.Core.Path.{_≡_};
 ghost use Rattle.info.specs.Settings.{scaleAt, settingsOf};
-use scale::Settings;
-use scale::parts::settings_at;
-use text::Found;
+use crate::scale::Settings;
+use crate::scale::parts::settings_at;
+use json::text::Found;
 
 // Scale k.
 fn scale_at(s: &[u8], k: u64) -> Found
     ensures { λ r. ⌜ r ≡ scaleAt (now (s .entry)) k ⌝ }
 {
-    let Found::At(v) = places::needed(s, text::skip_ws(s, 0), b"scales") else {
+    let Found::At(v) = json::places::needed(s, json::text::skip_ws(s, 0), b"scales") else {
         return Found::Nothing;
     };
-    places::element(s, v, k)
+    json::places::element(s, v, k)
 }
 
 pub fn settings_of(s: &[u8], k: u64) -> Settings

@@ -11,18 +11,18 @@ use Rattle.refusal.proofs.Refusing.{by-number, by-none}
 use Rattle.endian.specs.Place.{paste}
 use Rattle.sharding.specs.declared.Sharding.{Sharding}
 use Rattle.sharding.specs.Specification.{allowed}
-use Rattle.placement.specs.Place.{minishardOf}
+use Rattle.sharding.specs.placement.Place.{minishardOf}
 use Rattle.shard.specs.File.{indexLength}
-use Rattle.waiting.specs.Held.{pair}
-use Rattle.intakestate.specs.declared.Intake.{Intake}
-use Rattle.intakestate.specs.State.{most, announcedLength, Usable}
-use Rattle.intaketests.specs.Tests.{countIn}
-use Rattle.admission.specs.Refusals.{openChecks, announceChecks, partChecks, closeChecks}
-use Rattle.intakestate.proofs.Passing.{volume-allowed}
-use Rattle.admission.proofs.Passing.{opens, hands, closes}
+use Rattle.intake.specs.waiting.Held.{pair}
+use Rattle.intake.specs.declared.intakestate.Intake.{Intake}
+use Rattle.intake.specs.intakestate.State.{most, announcedLength, Usable}
+use Rattle.intake.specs.intaketests.Tests.{countIn}
+use Rattle.intake.specs.admission.Refusals.{openChecks, announceChecks, partChecks, closeChecks}
+use Rattle.intake.proofs.intakestate.Passing.{volume-allowed}
+use Rattle.intake.proofs.admission.Passing.{opens, hands, closes}
 use Rattle.intake.specs.declared.IntakeAnswer.the-variants.{Next, Refused}
 use Rattle.intake.specs.declared.CloseAnswer.the-variants.{Closed, Refused as NotClosed}
-use Rattle.intakesteps.specs.Steps.{endedLeft, turnedLeft, opened, announced, taken, closed}
+use Rattle.intake.specs.intakesteps.Steps.{endedLeft, turnedLeft, opened, announced, taken, closed}
 use Rattle.intake.specs.Calls.{openAnswer, openLeft, announceAnswer, announceLeft, announceWaiting, partAnswer, partLeft, closeAnswer, closeLeft}
 
 -- ---- of any call: n is the number of the refusal that the code found

@@ -6,14 +6,14 @@ use lib.ListN.{length, replicate}
 use Rattle.refusal.specs.Checks.{answered, left}
 use Rattle.endian.specs.Place.{paste}
 use Rattle.sharding.specs.declared.Sharding.{Sharding}
-use Rattle.placement.specs.Place.{minishardOf}
+use Rattle.sharding.specs.placement.Place.{minishardOf}
 use Rattle.shard.specs.File.{indexLength}
-use Rattle.waiting.specs.Held.{pair}
-use Rattle.intakestate.specs.declared.Intake.{Intake}
-use Rattle.intakestate.specs.State.{announcedLength}
-use Rattle.intaketests.specs.Tests.{countIn}
-use Rattle.admission.specs.Refusals.{openChecks, announceChecks, partChecks, closeChecks}
-use Rattle.intakesteps.specs.Steps.{endedLeft, turnedLeft, opened, announced, taken, closed}
+use Rattle.intake.specs.waiting.Held.{pair}
+use Rattle.intake.specs.declared.intakestate.Intake.{Intake}
+use Rattle.intake.specs.intakestate.State.{announcedLength}
+use Rattle.intake.specs.intaketests.Tests.{countIn}
+use Rattle.intake.specs.admission.Refusals.{openChecks, announceChecks, partChecks, closeChecks}
+use Rattle.intake.specs.intakesteps.Steps.{endedLeft, turnedLeft, opened, announced, taken, closed}
 use Rattle.intake.specs.declared.IntakeAnswer.{IntakeAnswer}
 use Rattle.intake.specs.declared.IntakeAnswer.the-variants.{Next, Refused}
 use Rattle.intake.specs.declared.CloseAnswer.{CloseAnswer}

@@ -1,14 +1,23 @@
 // Intake from the scanner: a new volume shard, written in its settled form while its chunks come in parts.
+pub mod admission;
+pub mod intakenumbers;
+pub mod intakeplaces;
+pub mod intakesanity;
+pub mod intakestate;
+pub mod intakesteps;
+pub mod intaketests;
+pub mod waiting;
+
 ghost use mathlib.Core.Path.{_≡_};
 ghost use Rattle.intake.specs.Calls.{openAnswer, openLeft, announceAnswer, announceLeft, announceWaiting, partAnswer, partLeft, closeAnswer, closeLeft};
-use admission::inner::announce_refusal;
-use admission::inner::close_refusal;
-use admission::inner::open_refusal;
-use admission::inner::part_refusal;
-use intakeplaces::inner::put_entries;
-use intakestate::Intake;
-use intakesteps::inner;
-use intaketests::inner::announced_length;
+use crate::admission::inner::announce_refusal;
+use crate::admission::inner::close_refusal;
+use crate::admission::inner::open_refusal;
+use crate::admission::inner::part_refusal;
+use crate::intakeplaces::inner::put_entries;
+use crate::intakestate::Intake;
+use crate::intakesteps::inner;
+use crate::intaketests::inner::announced_length;
 use sharding::Sharding;
 
 // What a call answers: the state for the next one, or the refusal, which changes neither the state nor a buffer.

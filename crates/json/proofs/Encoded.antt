@@ -8,14 +8,14 @@ use borrow.Author.Tests.{leb-true}
 use lib.Dec.{leb}
 use lib.ListN.{length, getD}
 use Rattle.refusal.proofs.Tests.{both}
-use Rattle.text.specs.Bytes.{choose, same, inside, isWs, isDigit, byteAt, span}
-use Rattle.text.specs.Parts.{andThen, digits, wordAt}
-use Rattle.text.specs.Numbers.{isSign, isE, someDigits, intAt, fracAt, signAt, expAt, unsignedAt, numberAt}
-use Rattle.text.specs.declared.Found.{Found}
-use Rattle.text.specs.declared.Found.the-variants.{At, Nothing}
-use Rattle.text.proofs.Laws.{if-yes, if-no, if-case, then-case, nowhere, is-same, in-text, span-on, span-stop, digit-zero}
-use Rattle.characters.specs.Chars.{Utf8}
-use Rattle.strings.proofs.Encoded.{encoded-both, encoded-low, encoded-step, or-case, same-low, inside-low, string-encoded}
+use Rattle.json.specs.text.Bytes.{choose, same, inside, isWs, isDigit, byteAt, span}
+use Rattle.json.specs.text.Parts.{andThen, digits, wordAt}
+use Rattle.json.specs.text.Numbers.{isSign, isE, someDigits, intAt, fracAt, signAt, expAt, unsignedAt, numberAt}
+use Rattle.json.specs.declared.text.Found.{Found}
+use Rattle.json.specs.declared.text.Found.the-variants.{At, Nothing}
+use Rattle.json.proofs.text.Laws.{if-yes, if-no, if-case, then-case, nowhere, is-same, in-text, span-on, span-stop, digit-zero}
+use Rattle.json.specs.characters.Chars.{Utf8}
+use Rattle.json.proofs.strings.Encoded.{encoded-both, encoded-low, encoded-step, or-case, same-low, inside-low, string-encoded}
 use Rattle.json.specs.Rfc.{Ws, Items, Listed, Member, ValueOf, Value, JsonText}
 
 at-encoded : (s : List ℕ) (i a e : ℕ) → At a ≡ At e → Utf8 s i a → Utf8 s i e

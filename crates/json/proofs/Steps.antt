@@ -6,14 +6,14 @@ use native.Mathlib.Omega.{arith}
 use native.Mathlib.Numerals.{sub-one}
 use borrow.Author.Needs.{needs}
 use lib.ListN.{length, getD}
-use Rattle.text.specs.Bytes.{choose, same}
-use Rattle.text.specs.Parts.{ws, markAt, closeAt, wordAt}
-use Rattle.text.specs.Numbers.{numberAt}
-use Rattle.text.specs.declared.Found.{Found}
-use Rattle.text.specs.declared.Found.the-variants.{At, Nothing}
-use Rattle.text.proofs.Laws.{if-eq, if-ne, then-at, then-nothing, at-byte}
-use Rattle.text.proofs.Steps.{mark-room}
-use Rattle.strings.specs.Chars.{stringAt}
+use Rattle.json.specs.text.Bytes.{choose, same}
+use Rattle.json.specs.text.Parts.{ws, markAt, closeAt, wordAt}
+use Rattle.json.specs.text.Numbers.{numberAt}
+use Rattle.json.specs.declared.text.Found.{Found}
+use Rattle.json.specs.declared.text.Found.the-variants.{At, Nothing}
+use Rattle.json.proofs.text.Laws.{if-eq, if-ne, then-at, then-nothing, at-byte}
+use Rattle.json.proofs.text.Steps.{mark-room}
+use Rattle.json.specs.strings.Chars.{stringAt}
 use Rattle.json.specs.Grammar.{endOf, scalarAt, itemsAt, listAt, memberAt, valueAt}
 use Rattle.json.proofs.Ahead.{Ahead, value-ahead, member-ahead, mark-ahead}
 use Rattle.json.proofs.Turns.{items-none, items-last, items-on, mark-most}

@@ -5,11 +5,11 @@ use mathlib.Core.Path.{_≡_}
 use mathlib.Core.Bool.{true}
 use mathlib.Core.List.{List, [], _∷_}
 use lib.ListN.{length}
-use Rattle.text.specs.Bytes.{byteAt, isWs}
-use Rattle.text.specs.Parts.{wordAt}
-use Rattle.text.specs.Numbers.{numberAt}
-use Rattle.text.specs.declared.Found.the-variants.{At}
-use Rattle.strings.specs.Chars.{String}
+use Rattle.json.specs.text.Bytes.{byteAt, isWs}
+use Rattle.json.specs.text.Parts.{wordAt}
+use Rattle.json.specs.text.Numbers.{numberAt}
+use Rattle.json.specs.declared.text.Found.the-variants.{At}
+use Rattle.json.specs.strings.Chars.{String}
 
 -- ws = *( space / tab / line feed / carriage return )
 pub data Ws (s : List ℕ) : ℕ → ℕ → Type 0 where

@@ -1,25 +1,31 @@
 // JSON text (RFC 8259): where its values end, to a depth.
+pub mod characters;
+pub mod jsontext;
+pub mod places;
+pub mod strings;
+pub mod text;
+
 ghost use mathlib.Core.Path.{_≡_};
 ghost use Rattle.json.specs.Grammar.{endOf, scalarAt, listAt, memberAt, valueAt};
-use text::Found;
+use crate::text::Found;
 
 fn skip_scalar(s: &[u8], at: usize) -> Found
     ensures { λ r. ⌜ r ≡ scalarAt (now (s .entry)) at ⌝ }
 {
-    let b = text::byte(s, at);
+    let b = crate::text::byte(s, at);
     if b == b'"' {
-        return strings::skip_string(s, at);
+        return crate::strings::skip_string(s, at);
     }
     if b == b't' {
-        return text::skip_word(s, at, 116, 114, 117, 101);
+        return crate::text::skip_word(s, at, 116, 114, 117, 101);
     }
     if b == b'n' {
-        return text::skip_word(s, at, 110, 117, 108, 108);
+        return crate::text::skip_word(s, at, 110, 117, 108, 108);
     }
     if b == b'f' {
-        return text::skip_word(s, at + 1, 97, 108, 115, 101);
+        return crate::text::skip_word(s, at + 1, 97, 108, 115, 101);
     }
-    text::skip_number(s, at)
+    crate::text::skip_number(s, at)
 }
 
 // A position as one number, which calls hand back in a register.
@@ -39,7 +45,7 @@ pub fn skip_value(s: &[u8], at: usize, depth: usize) -> usize
     if depth == 0 {
         return 0;
     }
-    let b = text::byte(s, at);
+    let b = crate::text::byte(s, at);
     if b == b'{' {
         return skip_object(s, at + 1, depth - 1);
     }
@@ -52,8 +58,8 @@ pub fn skip_value(s: &[u8], at: usize, depth: usize) -> usize
 fn skip_array(s: &[u8], at: usize, depth: usize) -> usize
     ensures { λ r. ⌜ r ≡ endOf (listAt (valueAt depth (now (s .entry))) 93 (now (s .entry)) at) ⌝ }
 {
-    let mut i = text::skip_ws(s, at);
-    if text::byte(s, i) == b']' {
+    let mut i = crate::text::skip_ws(s, at);
+    if crate::text::byte(s, i) == b']' {
         return i + 1;
     }
     loop {
@@ -61,8 +67,8 @@ fn skip_array(s: &[u8], at: usize, depth: usize) -> usize
         if e == 0 {
             return 0;
         }
-        let Found::At(j) = text::skip_mark(s, e, b',') else {
-            return end_of(text::skip_close(s, e, b']'));
+        let Found::At(j) = crate::text::skip_mark(s, e, b',') else {
+            return end_of(crate::text::skip_close(s, e, b']'));
         };
         i = j;
     }
@@ -71,8 +77,8 @@ fn skip_array(s: &[u8], at: usize, depth: usize) -> usize
 fn skip_object(s: &[u8], at: usize, depth: usize) -> usize
     ensures { λ r. ⌜ r ≡ endOf (listAt (memberAt (valueAt depth (now (s .entry))) (now (s .entry))) 125 (now (s .entry)) at) ⌝ }
 {
-    let mut i = text::skip_ws(s, at);
-    if text::byte(s, i) == b'}' {
+    let mut i = crate::text::skip_ws(s, at);
+    if crate::text::byte(s, i) == b'}' {
         return i + 1;
     }
     loop {
@@ -80,8 +86,8 @@ fn skip_object(s: &[u8], at: usize, depth: usize) -> usize
         if e == 0 {
             return 0;
         }
-        let Found::At(j) = text::skip_mark(s, e, b',') else {
-            return end_of(text::skip_close(s, e, b'}'));
+        let Found::At(j) = crate::text::skip_mark(s, e, b',') else {
+            return end_of(crate::text::skip_close(s, e, b'}'));
         };
         i = j;
     }
@@ -90,10 +96,10 @@ fn skip_object(s: &[u8], at: usize, depth: usize) -> usize
 fn skip_member(s: &[u8], at: usize, depth: usize) -> usize
     ensures { λ r. ⌜ r ≡ endOf (memberAt (valueAt depth (now (s .entry))) (now (s .entry)) at) ⌝ }
 {
-    let Found::At(e) = strings::skip_string(s, at) else {
+    let Found::At(e) = crate::strings::skip_string(s, at) else {
         return 0;
     };
-    let Found::At(j) = text::skip_mark(s, e, b':') else {
+    let Found::At(j) = crate::text::skip_mark(s, e, b':') else {
         return 0;
     };
     skip_value(s, j, depth)

@@ -1,21 +1,24 @@
 // Reads a deposit card and then cells from standard input, and prints where each cell's chunk is stored: its key, the
 // shard's file and the minishard.
+pub mod locatelines;
+pub mod locatetext;
+
 ghost use mathlib.Core.Path.{_≡_};
 ghost use lib.ListN.{length};
 ghost use Rattle.refusal.specs.Buffer.{over};
-ghost use Rattle.grid.specs.Grid.{gridOf};
+ghost use Rattle.morton.specs.grid.Grid.{gridOf};
 ghost use Rattle.card.specs.Answers.{fault};
-ghost use Rattle.locatelines.specs.Lines.{refusedLine};
-ghost use Rattle.locatetext.specs.Blocks.{blockBytes};
+ghost use Rattle.locate.specs.locatelines.Lines.{refusedLine};
+ghost use Rattle.locate.specs.locatetext.Blocks.{blockBytes};
 ghost use Rattle.locate.specs.Reading.{Located, Printed, Said, Started};
+use crate::locatelines::lines;
+use crate::locatetext::blocks;
+use crate::locatetext::frame;
 use card::Card;
 use card::CardAnswer;
-use grid::Extents;
 use libc::STDIN_FILENO;
 use libc::STDOUT_FILENO;
-use locatelines::lines;
-use locatetext::blocks;
-use locatetext::frame;
+use morton::grid::Extents;
 
 // How many bytes of cells were read, and how many of text they gave.
 struct Block {

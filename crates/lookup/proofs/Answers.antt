@@ -12,14 +12,14 @@ use Rattle.refusal.proofs.Tests.{told-no, told-yes}
 use Rattle.refusal.proofs.Positions.{at-both}
 use Rattle.sharding.specs.declared.Sharding.{Sharding}
 use Rattle.sharding.specs.Specification.{allowed, shardCount, noSuchShard}
-use Rattle.placement.specs.Place.{shardOf}
-use Rattle.index.specs.Index.{mostShardBytes}
+use Rattle.sharding.specs.placement.Place.{shardOf}
+use Rattle.shard.specs.index.Index.{mostShardBytes}
 use Rattle.shard.specs.File.{indexLength, indexPart, dataPart, badFileLength, fileChecks}
 use Rattle.shard.proofs.Numbers.{file-in, file-picks, file-answer}
 use Rattle.shard.proofs.Split.{restOf, rest-whole, length-short, length-long, length-good}
-use Rattle.idsearch.specs.declared.LookupAnswer.{LookupAnswer}
-use Rattle.idsearch.specs.declared.LookupAnswer.the-variants.{Refused, Faulty}
-use Rattle.chosen.specs.Chosen.{chosenChecks, chosenChunk, lookupIn}
+use Rattle.lookup.specs.declared.idsearch.LookupAnswer.{LookupAnswer}
+use Rattle.lookup.specs.declared.idsearch.LookupAnswer.the-variants.{Refused, Faulty}
+use Rattle.lookup.specs.chosen.Chosen.{chosenChecks, chosenChunk, lookupIn}
 use Rattle.lookup.specs.Find.{lookupChecks, lookupAnswer}
 
 -- a file by its two parts, as the code takes them

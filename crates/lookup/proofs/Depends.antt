@@ -8,28 +8,28 @@ use native.Mathlib.Omega.{arith}
 use lib.ListN.{length, take, drop, length-take, length-drop}
 use Rattle.refusal.specs.Choice.{pick}
 use lib.Dec.{eqb}
-use Rattle.twice.specs.Twice.{repeats}
+use Rattle.duplicate_ids.specs.twice.Twice.{repeats}
 use Rattle.endian.specs.Little.{leAt}
 use Rattle.endian.specs.Range.{sumTo, anyBelow, first}
 use Rattle.endian.proofs.Ranges.{first-lt}
 use Rattle.endian.proofs.Little.{leAt-drop, leAt-take}
 use Rattle.sharding.specs.declared.Sharding.{Sharding}
 use Rattle.sharding.specs.Specification.{isMesh, minishardCount}
-use Rattle.placement.specs.Place.{minishardOf}
-use Rattle.placement.proofs.Placed.{minishard-below}
-use Rattle.index.specs.Index.{entryStart, entryEnd, entryCount, idSteps, startSteps, sizes, idAt, startAt, chunkAt}
-use Rattle.manifests.specs.Mesh.{wrongLength, badReal, unorderedNodes, fragmentsOutside, manifestTests}
+use Rattle.sharding.specs.placement.Place.{minishardOf}
+use Rattle.sharding.proofs.placement.Placed.{minishard-below}
+use Rattle.shard.specs.index.Index.{entryStart, entryEnd, entryCount, idSteps, startSteps, sizes, idAt, startAt, chunkAt}
+use Rattle.shard.specs.manifests.Mesh.{wrongLength, badReal, unorderedNodes, fragmentsOutside, manifestTests}
 use Rattle.shard.specs.Faults.{badEntry, badId, foreignAt, outside, meshTests, entryTests, faultAt, faultOf}
 use Rattle.shard.specs.File.{indexLength, indexPart, dataPart, fileChecks}
-use Rattle.index.proofs.Tests.{Agree, same-any, same-first, same-tests}
-use Rattle.idsearch.specs.declared.LookupAnswer.{LookupAnswer}
-use Rattle.idsearch.specs.declared.LookupAnswer.the-variants.{Found, Refused, Faulty}
-use Rattle.idsearch.specs.Search.{isId, chunkOf, foundIn}
-use Rattle.chosen.specs.Chosen.{lookupIn}
+use Rattle.shard.proofs.index.Tests.{Agree, same-any, same-first, same-tests}
+use Rattle.lookup.specs.declared.idsearch.LookupAnswer.{LookupAnswer}
+use Rattle.lookup.specs.declared.idsearch.LookupAnswer.the-variants.{Found, Refused, Faulty}
+use Rattle.lookup.specs.idsearch.Search.{isId, chunkOf, foundIn}
+use Rattle.lookup.specs.chosen.Chosen.{lookupIn}
 use Rattle.lookup.specs.Find.{lookupAnswer, partBytes}
 use Rattle.lookup.specs.Lookups.{chunkBytes, indexBytes, AgreeFor, AgreeInChunk, SameAnswer}
-use Rattle.idsearch.proofs.Seek.{found-picks}
-use Rattle.chosen.proofs.InParts.{in-parts}
+use Rattle.lookup.proofs.idsearch.Seek.{found-picks}
+use Rattle.lookup.proofs.chosen.InParts.{in-parts}
 use Rattle.lookup.proofs.Answers.{answer-files}
 use Rattle.lookup.proofs.Handed.{found-file, chosenEntry, found-bytes}
 

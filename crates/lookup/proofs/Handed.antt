@@ -12,20 +12,20 @@ use mir.Syntax.{w64}
 use Rattle.refusal.specs.Checks.{unless}
 use Rattle.sharding.specs.declared.Sharding.{Sharding}
 use Rattle.sharding.specs.Specification.{noSuchShard}
-use Rattle.placement.specs.Place.{shardOf, minishardOf}
-use Rattle.index.specs.Index.{entryStart, entryEnd, entryCount, mostShardBytes}
+use Rattle.sharding.specs.placement.Place.{shardOf, minishardOf}
+use Rattle.shard.specs.index.Index.{entryStart, entryEnd, entryCount, mostShardBytes}
 use Rattle.shard.specs.Faults.{faultOf}
 use Rattle.shard.specs.File.{indexLength, indexPart, dataPart}
 use Rattle.shard.specs.Sound.{SoundMinishard}
 use Rattle.shard.proofs.Judged.{passes-minishard}
 use Rattle.shard.proofs.Numbers.{file-called}
-use Rattle.idsearch.specs.declared.LookupAnswer.{LookupAnswer}
-use Rattle.idsearch.specs.declared.LookupAnswer.the-variants.{Found, Refused, Faulty}
-use Rattle.chosen.specs.Chosen.{lookupIn}
+use Rattle.lookup.specs.declared.idsearch.LookupAnswer.{LookupAnswer}
+use Rattle.lookup.specs.declared.idsearch.LookupAnswer.the-variants.{Found, Refused, Faulty}
+use Rattle.lookup.specs.chosen.Chosen.{lookupIn}
 use Rattle.lookup.specs.Find.{lookupAnswer, partStart, partEnd, partBytes}
 use Rattle.lookup.specs.Lookups.{chunkCount, chunkBytes}
-use Rattle.idsearch.proofs.Seek.{entryOf, FoundAt, found-entry}
-use Rattle.chosen.proofs.InParts.{in-parts}
+use Rattle.lookup.proofs.idsearch.Seek.{entryOf, FoundAt, found-entry}
+use Rattle.lookup.proofs.chosen.InParts.{in-parts}
 use Rattle.lookup.proofs.Answers.{answer-files}
 
 -- what is found is no refusal r

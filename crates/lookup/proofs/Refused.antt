@@ -9,13 +9,13 @@ use Rattle.refusal.proofs.Picks.{AllIn, all-in-both}
 use Rattle.refusal.proofs.Positions.{refusing-at}
 use Rattle.sharding.specs.declared.Sharding.{Sharding}
 use Rattle.sharding.specs.Specification.{noSuchShard}
-use Rattle.placement.specs.Place.{shardOf, minishardOf}
+use Rattle.sharding.specs.placement.Place.{shardOf, minishardOf}
 use Rattle.shard.specs.Checks.{minishardChecks}
 use Rattle.shard.specs.File.{indexPart, dataPart, fileChecks}
 use Rattle.shard.proofs.Numbers.{minishard-in, file-in}
-use Rattle.idsearch.specs.declared.LookupAnswer.the-variants.{Refused, Faulty}
-use Rattle.idsearch.specs.Search.{chunkOf}
-use Rattle.chosen.specs.Chosen.{chosenChecks, chosenChunk}
+use Rattle.lookup.specs.declared.idsearch.LookupAnswer.the-variants.{Refused, Faulty}
+use Rattle.lookup.specs.idsearch.Search.{chunkOf}
+use Rattle.lookup.specs.chosen.Chosen.{chosenChecks, chosenChunk}
 use Rattle.lookup.specs.Find.{lookupChecks, lookupAnswer}
 
 chosen-in : (spec : Sharding) (shard : ℕ) (x d : List ℕ) (id : ℕ) → AllIn (chosenChecks spec shard x d id)

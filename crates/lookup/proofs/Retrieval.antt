@@ -14,23 +14,23 @@ use Rattle.endian.specs.Range.{first}
 use Rattle.endian.proofs.Ranges.{any-no, first-hit}
 use Rattle.sharding.specs.declared.Sharding.{Sharding}
 use Rattle.sharding.specs.Specification.{shardCount, noSuchShard}
-use Rattle.placement.specs.Place.{shardOf, minishardOf}
-use Rattle.placement.proofs.Placed.{shard-below}
-use Rattle.index.specs.declared.Fault.{Fault}
-use Rattle.index.specs.Index.{entryStart, entryEnd, entryCount, idSteps, startSteps, sizes, idAt, startAt}
+use Rattle.sharding.specs.placement.Place.{shardOf, minishardOf}
+use Rattle.sharding.proofs.placement.Placed.{shard-below}
+use Rattle.shard.specs.declared.index.Fault.{Fault}
+use Rattle.shard.specs.index.Index.{entryStart, entryEnd, entryCount, idSteps, startSteps, sizes, idAt, startAt}
 use Rattle.shard.specs.File.{indexLength, indexPart, dataPart}
 use Rattle.shard.specs.Sound.{SoundMinishard}
 use Rattle.shard.specs.Lists.{ListsAt, ListsIn}
 use Rattle.shard.proofs.Judged.{passes-minishard, minishard-passes}
 use Rattle.shard.proofs.Numbers.{unless-none, Called, called-file}
-use Rattle.idsearch.specs.declared.LookupAnswer.{LookupAnswer}
-use Rattle.idsearch.specs.declared.LookupAnswer.the-variants.{Found, Refused, Faulty}
-use Rattle.idsearch.specs.Search.{isId, foundIn}
-use Rattle.chosen.specs.Chosen.{lookupIn}
+use Rattle.lookup.specs.declared.idsearch.LookupAnswer.{LookupAnswer}
+use Rattle.lookup.specs.declared.idsearch.LookupAnswer.the-variants.{Found, Refused, Faulty}
+use Rattle.lookup.specs.idsearch.Search.{isId, foundIn}
+use Rattle.lookup.specs.chosen.Chosen.{lookupIn}
 use Rattle.lookup.specs.Find.{lookupAnswer, partBytes}
 use Rattle.lookup.specs.Lookups.{Asked, chunkStart, HandsOut}
-use Rattle.idsearch.proofs.Seek.{found-first, found-none, none-found}
-use Rattle.chosen.proofs.InParts.{in-parts}
+use Rattle.lookup.proofs.idsearch.Seek.{found-first, found-none, none-found}
+use Rattle.lookup.proofs.chosen.InParts.{in-parts}
 use Rattle.lookup.proofs.Answers.{answer-files}
 use Rattle.lookup.proofs.Handed.{found-inside}
 

@@ -8,11 +8,11 @@ use lib.ListN.{take, drop}
 use Rattle.refusal.specs.Checks.{Check, answeredAt}
 use Rattle.sharding.specs.declared.Sharding.{Sharding}
 use Rattle.sharding.specs.Specification.{noSuchShard}
-use Rattle.placement.specs.Place.{shardOf}
+use Rattle.sharding.specs.placement.Place.{shardOf}
 use Rattle.shard.specs.File.{indexPart, dataPart, fileChecks}
-use Rattle.idsearch.specs.declared.LookupAnswer.{LookupAnswer}
-use Rattle.idsearch.specs.declared.LookupAnswer.the-variants.{Found, Refused, Faulty}
-use Rattle.chosen.specs.Chosen.{chosenChecks, chosenChunk}
+use Rattle.lookup.specs.declared.idsearch.LookupAnswer.{LookupAnswer}
+use Rattle.lookup.specs.declared.idsearch.LookupAnswer.the-variants.{Found, Refused, Faulty}
+use Rattle.lookup.specs.chosen.Chosen.{chosenChecks, chosenChunk}
 
 -- ---- in a file
 

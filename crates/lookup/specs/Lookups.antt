@@ -6,10 +6,10 @@ use mathlib.Core.List.{List}
 use lib.ListN.{length, take, drop}
 use Rattle.sharding.specs.declared.Sharding.{Sharding}
 use Rattle.sharding.specs.Specification.{isMesh, allowed}
-use Rattle.placement.specs.Place.{shardOf, minishardOf}
-use Rattle.index.specs.Index.{entryStart, entryEnd, entryCount, startSteps, sizes, startAt, chunkAt, mostShardBytes}
+use Rattle.sharding.specs.placement.Place.{shardOf, minishardOf}
+use Rattle.shard.specs.index.Index.{entryStart, entryEnd, entryCount, startSteps, sizes, startAt, chunkAt, mostShardBytes}
 use Rattle.shard.specs.File.{indexLength, indexPart, dataPart}
-use Rattle.idsearch.specs.declared.LookupAnswer.the-variants.{Found}
+use Rattle.lookup.specs.declared.idsearch.LookupAnswer.the-variants.{Found}
 use Rattle.lookup.specs.Find.{lookupAnswer, partBytes}
 
 -- an allowed specification, an id of the shard that is given, a file of allowed length

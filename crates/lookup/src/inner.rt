@@ -4,12 +4,12 @@ ghost use mathlib.Core.Bool.{true};
 ghost use Prim.Native.Nat.{_+_, _≤_};
 ghost use lib.ListN.{length};
 ghost use Rattle.sharding.specs.Specification.{allowed};
-ghost use Rattle.index.specs.Index.{mostShardBytes};
+ghost use Rattle.shard.specs.index.Index.{mostShardBytes};
 ghost use Rattle.shard.specs.File.{indexLength, indexPart, dataPart};
-ghost use Rattle.chosen.specs.Chosen.{lookupIn};
+ghost use Rattle.lookup.specs.chosen.Chosen.{lookupIn};
 ghost use Rattle.lookup.specs.Find.{partStart, partEnd, partBytes};
-use chosen::inner::lookup_in;
-use idsearch::LookupAnswer;
+use crate::chosen::inner::lookup_in;
+use crate::idsearch::LookupAnswer;
 use shard::inner::index_length;
 use sharding::Sharding;
 

@@ -1,16 +1,23 @@
 // Lookup: the chunk of an id in a shard, its place and length, or the part of the file that it is.
+pub mod chosen;
+pub mod entries;
+pub mod fragment;
+pub mod idsearch;
 pub mod inner;
+pub mod listing;
+pub mod lookupranges;
+pub mod rowjudge;
 
 ghost use mathlib.Core.Path.{_≡_};
 ghost use Prim.Native.Nat.{_+_};
 ghost use Rattle.lookup.specs.Find.{lookupAnswer, partStart, partBytes};
-use idsearch::LookupAnswer;
-use placement::inner::shard_of;
+use crate::idsearch::LookupAnswer;
 use shard::inner::MOST_SHARD_BYTES;
 use shard::inner::index_length;
 use sharding::Sharding;
 use sharding::inner::is_allowed;
 use sharding::inner::shard_count;
+use sharding::placement::inner::shard_of;
 
 // The place and length of the chunk of an id, or the refusal.
 pub fn lookup(spec: Sharding, shard: u64, file: &[u8], id: u64) -> LookupAnswer

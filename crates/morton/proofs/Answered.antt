@@ -4,10 +4,10 @@ use mathlib.Core.Path.{_≡_, refl}
 use mathlib.Core.Bool.{not}
 use Rattle.refusal.specs.Choice.{pick}
 use Rattle.refusal.proofs.Picks.{by-picks}
-use Rattle.grid.specs.declared.Volume.{Volume}
-use Rattle.grid.specs.declared.Cell.{Cell}
-use Rattle.grid.specs.Grid.{gridOf, zeroExtent}
-use Rattle.grid.specs.Answers.{noCell}
+use Rattle.morton.specs.declared.grid.Volume.{Volume}
+use Rattle.morton.specs.declared.grid.Cell.{Cell}
+use Rattle.morton.specs.grid.Grid.{gridOf, zeroExtent}
+use Rattle.morton.specs.grid.Answers.{noCell}
 use Rattle.morton.specs.declared.KeyAnswer.the-variants.{Key, Refused as KeyRefused}
 use Rattle.morton.specs.declared.CellAnswer.the-variants.{At, Refused as CellRefused}
 use Rattle.morton.specs.Key.{tooManyBits, keyOf, cellOf, isKey}

@@ -4,19 +4,19 @@ use mathlib.Core.Path.{_≡_, refl}
 use mathlib.Core.List.{List, [], _∷_, map}
 use lib.IntN.{pos, negsuc}
 use Rattle.refusal.specs.Checks.{firstNumber, unless}
-use Rattle.grid.specs.declared.Extents.{Extents}
-use Rattle.grid.specs.declared.Cell.{Cell}
-use Rattle.grid.specs.declared.Volume.{Volume}
-use Rattle.grid.specs.declared.GridAnswer.{GridAnswer}
-use Rattle.grid.specs.declared.GridAnswer.the-variants.{Grid, Refused as GridRefused}
+use Rattle.morton.specs.declared.grid.Extents.{Extents}
+use Rattle.morton.specs.declared.grid.Cell.{Cell}
+use Rattle.morton.specs.declared.grid.Volume.{Volume}
+use Rattle.morton.specs.declared.grid.GridAnswer.{GridAnswer}
+use Rattle.morton.specs.declared.grid.GridAnswer.the-variants.{Grid, Refused as GridRefused}
 use Rattle.morton.specs.declared.KeyAnswer.{KeyAnswer}
 use Rattle.morton.specs.declared.KeyAnswer.the-variants.{Refused as KeyRefused}
 use Rattle.morton.specs.declared.CellAnswer.{CellAnswer}
 use Rattle.morton.specs.declared.CellAnswer.the-variants.{Refused as CellRefused}
-use Rattle.grid.specs.Grid.{gridSize, gridOf, hasZero, zeroExtent, inGrid}
-use Rattle.axisbits.specs.Axis.{used}
+use Rattle.morton.specs.grid.Grid.{gridSize, gridOf, hasZero, zeroExtent, inGrid}
+use Rattle.morton.specs.axisbits.Axis.{used}
 use Rattle.morton.specs.Key.{step, steps, keyBits, tooManyBits}
-use Rattle.grid.specs.Answers.{noCell, gridChecks, gridAnswer}
+use Rattle.morton.specs.grid.Answers.{noCell, gridChecks, gridAnswer}
 use Rattle.morton.specs.Answers.{keyChecks, keyAnswer, cellChecks, cellAnswer}
 
 abbrev pub extents : ℕ → ℕ → ℕ → Extents

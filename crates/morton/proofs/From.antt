@@ -6,11 +6,11 @@ use native.Mathlib.Omega.{arith}
 use native.Mathlib.Nat.{pow-suc, mod-lt, div-eq-of-lt, div-div-eq-div-mul, div-one, lt-of-lt-of-le, zero-add, add-zero}
 use lib.Pow.{pow-add}
 use borrow.Author.Tests.{ltb-false}
-use Rattle.grid.specs.declared.Extents.{Extents}
-use Rattle.grid.specs.declared.Cell.{Cell}
-use Rattle.axisbits.specs.Axis.{bitOf, used, count, put, low, rest}
+use Rattle.morton.specs.declared.grid.Extents.{Extents}
+use Rattle.morton.specs.declared.grid.Cell.{Cell}
+use Rattle.morton.specs.axisbits.Axis.{bitOf, used, count, put, low, rest}
 use Rattle.morton.specs.Key.{Output, step, steps, keyOf, keyBits, Input, into, stepBack, stepsBack, cellOf}
-use Rattle.axisbits.proofs.Used.{unused}
+use Rattle.morton.proofs.axisbits.Used.{unused}
 
 -- ---- n turns from turn i on
 unfoldable pub bitsFrom : ℕ → ℕ → Extents → ℕ

@@ -8,20 +8,20 @@ use lib.Dec.{ltb, eqb}
 use borrow.Author.Tests.{not-false, ltb-true, ltb-false, lt-ltb, le-ltb, ne-eqb}
 use Rattle.refusal.specs.Choice.{pick}
 use Rattle.refusal.proofs.Tests.{both, neither}
-use Rattle.grid.specs.declared.Extents.{Extents}
-use Rattle.grid.specs.declared.Cell.{Cell}
-use Rattle.grid.specs.declared.Volume.{Volume}
+use Rattle.morton.specs.declared.grid.Extents.{Extents}
+use Rattle.morton.specs.declared.grid.Cell.{Cell}
+use Rattle.morton.specs.declared.grid.Volume.{Volume}
 use Rattle.morton.specs.declared.KeyAnswer.the-variants.{Key, Refused as KeyRefused}
 use Rattle.morton.specs.declared.CellAnswer.the-variants.{At, Refused as CellRefused}
-use Rattle.grid.specs.Grid.{gridOf, zeroExtent, inGrid, InU32}
-use Rattle.axisbits.specs.Axis.{bitOf, used, count}
+use Rattle.morton.specs.grid.Grid.{gridOf, zeroExtent, inGrid, InU32}
+use Rattle.morton.specs.axisbits.Axis.{bitOf, used, count}
 use Rattle.morton.specs.Key.{step, steps, keyBits, tooManyBits, keyOf, into, stepBack, stepsBack, cellOf, isKey}
-use Rattle.grid.specs.Answers.{noCell}
+use Rattle.morton.specs.grid.Answers.{noCell}
 use Rattle.morton.specs.Answers.{keyAnswer, cellAnswer}
 use Rattle.morton.proofs.Answered.{key-by-picks, cell-by-picks}
-use Rattle.grid.proofs.Covers.{grid-size-small}
+use Rattle.morton.proofs.grid.Covers.{grid-size-small}
 use Rattle.morton.proofs.From.{cell-of-key, key-of-cell, key-below}
-use Rattle.grid.proofs.Ways.{chunk-some, inside-all}
+use Rattle.morton.proofs.grid.Ways.{chunk-some, inside-all}
 
 -- ---- grids
 -- a grid's sizes are u32, as its volume's are

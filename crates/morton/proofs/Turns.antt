@@ -8,9 +8,9 @@ use native.Mathlib.Numerals.{add-one}
 use lib.Pow.{pow-mono}
 use mir.Syntax.{w32}
 use mir.Val.{Fits}
-use Rattle.grid.specs.declared.Extents.{Extents}
-use Rattle.grid.specs.declared.Cell.{Cell}
-use Rattle.axisbits.specs.Axis.{bitOf, used, put, low, rest}
+use Rattle.morton.specs.declared.grid.Extents.{Extents}
+use Rattle.morton.specs.declared.grid.Cell.{Cell}
+use Rattle.morton.specs.axisbits.Axis.{bitOf, used, put, low, rest}
 use Rattle.morton.specs.Key.{keyBits, keyOf, cellOf}
 use Rattle.morton.specs.Turn.{Top}
 use Rattle.morton.proofs.From.{keyFrom, cellFrom, afterTurn, key-is, key-below, low-lt, cell-is, key-from-none, cell-from-none}

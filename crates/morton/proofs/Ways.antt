@@ -7,12 +7,12 @@ use lib.Dec.{leb}
 use borrow.Author.Tests.{not-true, not-false, ltb-false, leb-true, leb-false, lt-ltb, le-ltb, lt-leb}
 use mir.Syntax.{w64}
 use mir.Val.{Fits}
-use Rattle.grid.specs.declared.Extents.{Extents}
-use Rattle.grid.specs.declared.Cell.{Cell}
-use Rattle.grid.specs.declared.Volume.{Volume}
-use Rattle.grid.specs.Grid.{gridOf, zeroExtent, inGrid}
-use Rattle.grid.proofs.Ways.{tested, none-2, outside-2, a-cell}
-use Rattle.axisbits.proofs.Used.{one-shl}
+use Rattle.morton.specs.declared.grid.Extents.{Extents}
+use Rattle.morton.specs.declared.grid.Cell.{Cell}
+use Rattle.morton.specs.declared.grid.Volume.{Volume}
+use Rattle.morton.specs.grid.Grid.{gridOf, zeroExtent, inGrid}
+use Rattle.morton.proofs.grid.Ways.{tested, none-2, outside-2, a-cell}
+use Rattle.morton.proofs.axisbits.Used.{one-shl}
 use Rattle.morton.specs.declared.KeyAnswer.the-variants.{Key, Refused as KeyRefused}
 use Rattle.morton.specs.declared.CellAnswer.the-variants.{At, Refused as CellRefused}
 use Rattle.morton.specs.Key.{keyBits, tooManyBits, keyOf, cellOf, isKey}

@@ -3,10 +3,10 @@ use Prim.Native.Nat.{ℕ}
 use mathlib.Core.Bool.{not}
 use mathlib.Core.List.{List, [], _∷_}
 use Rattle.refusal.specs.Checks.{Check, check, answered}
-use Rattle.grid.specs.declared.Volume.{Volume}
-use Rattle.grid.specs.declared.Cell.{Cell}
-use Rattle.grid.specs.Grid.{gridOf, zeroExtent}
-use Rattle.grid.specs.Answers.{noCell}
+use Rattle.morton.specs.declared.grid.Volume.{Volume}
+use Rattle.morton.specs.declared.grid.Cell.{Cell}
+use Rattle.morton.specs.grid.Grid.{gridOf, zeroExtent}
+use Rattle.morton.specs.grid.Answers.{noCell}
 use Rattle.morton.specs.declared.KeyAnswer.{KeyAnswer}
 use Rattle.morton.specs.declared.KeyAnswer.the-variants.{Key, Refused as KeyRefused}
 use Rattle.morton.specs.declared.CellAnswer.{CellAnswer}

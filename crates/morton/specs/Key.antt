@@ -2,10 +2,10 @@
 use Prim.Native.Nat.{ℕ, zero, suc, _+_, _*_, _^_}
 use mathlib.Core.Bool.{Bool, true, false, _&&_}
 use lib.Dec.{ltb}
-use Rattle.grid.specs.declared.Extents.{Extents}
-use Rattle.grid.specs.declared.Cell.{Cell}
-use Rattle.grid.specs.Grid.{inGrid}
-use Rattle.axisbits.specs.Axis.{bitOf, used, count}
+use Rattle.morton.specs.declared.grid.Extents.{Extents}
+use Rattle.morton.specs.declared.grid.Cell.{Cell}
+use Rattle.morton.specs.grid.Grid.{inGrid}
+use Rattle.morton.specs.axisbits.Axis.{bitOf, used, count}
 
 -- ---- the key of a cell
 -- the state of the steps: j, the next output bit, and the key so far

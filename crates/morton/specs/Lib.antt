@@ -1,3 +1,10 @@
+pub mod grid
+pub mod bounds
+pub mod axisbits
+pub mod batch
+pub mod spread
+pub mod keyplan
+pub mod cellrows
 pub mod Key
 pub mod Turn
 pub mod Answers

@@ -1,6 +1,6 @@
 -- What the inner functions' contracts say of turns: from which one on there is nothing to do.
 use Prim.Native.Nat.{ℕ, _^_, _≤_}
-use Rattle.grid.specs.declared.Extents.{Extents}
+use Rattle.morton.specs.declared.grid.Extents.{Extents}
 
 -- from turn r on no axis of the grid is used
 pub record Top (grid : Extents) (r : ℕ) : Type 0 where

@@ -2,14 +2,14 @@
 ghost use mathlib.Core.Path.{_≡_};
 ghost use mathlib.Core.Bool.{false};
 ghost use Prim.Native.Nat.{_≤_};
-ghost use Rattle.grid.specs.Grid.{gridOf, zeroExtent};
+ghost use Rattle.morton.specs.grid.Grid.{gridOf, zeroExtent};
 ghost use Rattle.morton.specs.Key.{keyBits, tooManyBits, keyOf, cellOf};
 ghost use Rattle.morton.specs.Turn.{Top};
-use axisbits::axis;
-use grid::Cell;
-use grid::Extents;
-use grid::Volume;
-use grid::inner::grid;
+use crate::axisbits::axis;
+use crate::grid::Cell;
+use crate::grid::Extents;
+use crate::grid::Volume;
+use crate::grid::inner::grid;
 
 // How many bits the grid's keys have.
 pub fn key_bits(grid: Extents) -> u32

@@ -5,19 +5,19 @@ ghost use lib.Dec.{leb};
 ghost use Rattle.morton.specs.Answers.{keyAnswer, cellAnswer};
 use crate::CellAnswer;
 use crate::KeyAnswer;
+use crate::grid::Cell;
+use crate::grid::Volume;
 use crate::inner;
-use grid::Cell;
-use grid::Volume;
 
 // The key of a cell: 2 where there is no such cell, 3 where the grid needs more than 64 key bits.
 pub fn key_of(volume: Volume, cell: Cell) -> KeyAnswer
     ensures answer { λ r. ⌜ r ≡ keyAnswer volume cell ⌝ }
 {
-    if grid::inner::zero_extent(volume) {
+    if crate::grid::inner::zero_extent(volume) {
         return KeyAnswer::Refused(2);
     }
-    let grid = grid::inner::grid(volume);
-    if !grid::inner::inside(grid, cell) {
+    let grid = crate::grid::inner::grid(volume);
+    if !crate::grid::inner::inside(grid, cell) {
         return KeyAnswer::Refused(2);
     }
     if inner::too_many_bits(grid) {
@@ -41,10 +41,10 @@ fn reaches_past(key: u64, bits: u32) -> bool
 pub fn cell_of(volume: Volume, key: u64) -> CellAnswer
     ensures answer { λ r. ⌜ r ≡ cellAnswer volume key ⌝ }
 {
-    if grid::inner::zero_extent(volume) {
+    if crate::grid::inner::zero_extent(volume) {
         return CellAnswer::Refused(2);
     }
-    let grid = grid::inner::grid(volume);
+    let grid = crate::grid::inner::grid(volume);
     if inner::too_many_bits(grid) {
         return CellAnswer::Refused(3);
     }
@@ -52,7 +52,7 @@ pub fn cell_of(volume: Volume, key: u64) -> CellAnswer
         return CellAnswer::Refused(4);
     }
     let cell = inner::cell(grid, key);
-    if !grid::inner::inside(grid, cell) {
+    if !crate::grid::inner::inside(grid, cell) {
         return CellAnswer::Refused(4);
     }
     CellAnswer::At(cell)

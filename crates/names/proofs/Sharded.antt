@@ -12,11 +12,11 @@ use lib.Seq.{take-at}
 use Rattle.sharding.specs.Specification.{shardBits, allowed, noSuchShard, shardCount}
 use Rattle.sharding.specs.declared.Sharding.{Sharding}
 use Rattle.sharding.proofs.Allowed.{allowed-within}
-use Rattle.digits.specs.Digits.{digits, digitCount}
+use Rattle.names.specs.digits.Digits.{digits, digitCount}
 use Rattle.names.specs.Shards.{shardDigits, suffixOf, fileName, shardName}
 use Rattle.names.specs.declared.FileKind.{FileKind}
 use Rattle.names.specs.declared.FileKind.the-variants.{Shard}
-use Rattle.digits.proofs.Numerals.{length-digits, same-digits, padded, count-holds, count-least}
+use Rattle.names.proofs.digits.Numerals.{length-digits, same-digits, padded, count-holds, count-least}
 
 -- ---- how long
 

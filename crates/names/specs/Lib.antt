@@ -1,1 +1,3 @@
+pub mod digits
+pub mod chunknames
 pub mod Shards

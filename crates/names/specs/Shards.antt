@@ -9,7 +9,7 @@ use Rattle.refusal.specs.declared.Written.{Written}
 use Rattle.refusal.specs.declared.Written.the-variants.{Length, Refused}
 use Rattle.sharding.specs.Specification.{shardBits, allowed, noSuchShard}
 use Rattle.sharding.specs.declared.Sharding.{Sharding}
-use Rattle.digits.specs.Digits.{digits}
+use Rattle.names.specs.digits.Digits.{digits}
 use Rattle.names.specs.declared.FileKind.{FileKind}
 use Rattle.names.specs.declared.FileKind.the-variants.{Shard, Index, Data}
 

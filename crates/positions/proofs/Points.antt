@@ -22,13 +22,13 @@ use Rattle.endian.proofs.Little.{leAt-drop, leAt-take}
 use Rattle.endian.proofs.Ranges.{first-lt, first-holds, first-before}
 use Rattle.sharding.specs.declared.Sharding.{Sharding}
 use Rattle.sharding.specs.Specification.{isMesh, minishardCount, noSuchShard}
-use Rattle.placement.specs.Place.{shardOf, minishardOf}
-use Rattle.placement.proofs.Placed.{minishard-below}
+use Rattle.sharding.specs.placement.Place.{shardOf, minishardOf}
+use Rattle.sharding.proofs.placement.Placed.{minishard-below}
 use Rattle.shard.specs.declared.CheckAnswer.{CheckAnswer}
 use Rattle.shard.specs.declared.CheckAnswer.the-variants.{Sound, Faulty, Refused as CheckRefused}
-use Rattle.index.specs.Index.{entryStart, entryEnd, entryCount, idSteps, startSteps, sizes, mostShardBytes}
-use Rattle.index.specs.Tests.{EntryTest, entryTest, testPlace}
-use Rattle.manifests.specs.Mesh.{wrongLength, badReal, unorderedNodes, fragmentsOutside, manifestTests}
+use Rattle.shard.specs.index.Index.{entryStart, entryEnd, entryCount, idSteps, startSteps, sizes, mostShardBytes}
+use Rattle.shard.specs.index.Tests.{EntryTest, entryTest, testPlace}
+use Rattle.shard.specs.manifests.Mesh.{wrongLength, badReal, unorderedNodes, fragmentsOutside, manifestTests}
 use Rattle.shard.specs.Faults.{badEntry, badLength, badId, foreignAt, outside, meshTests, entryTests}
 use Rattle.shard.specs.Checks.{entryChecks, minishardChecks}
 use Rattle.shard.specs.File.{indexLength, indexPart, dataPart, fileChecks, checkAnswer}
@@ -36,23 +36,23 @@ use Rattle.shard.proofs.Judged.{entry-within}
 use Rattle.shard.proofs.Numbers.{file-called}
 use Rattle.shard.proofs.Whole.{check-names}
 use Rattle.shard.proofs.AfterCheck.{afterCheck}
-use Rattle.idsearch.specs.declared.LookupAnswer.the-variants as L
-use Rattle.idsearch.specs.Search.{unlisted}
-use Rattle.chosen.specs.Chosen.{chosenChecks}
+use Rattle.lookup.specs.declared.idsearch.LookupAnswer.the-variants as L
+use Rattle.lookup.specs.idsearch.Search.{unlisted}
+use Rattle.lookup.specs.chosen.Chosen.{chosenChecks}
 use Rattle.lookup.specs.Find.{lookupChecks, lookupAnswer}
 use Rattle.lookup.proofs.Refused.{lookup-refuses}
-use Rattle.fragment.specs.Fragment.{fragmentAnswer}
-use Rattle.fragment.proofs.Handed.{fragment-faulty}
-use Rattle.listing.specs.declared.CountAnswer.the-variants as N
-use Rattle.listing.specs.Listing.{listingOf, countChecks, countAnswer, listingChecks, listingAnswer}
-use Rattle.listing.proofs.Refused.{count-refuses, listing-refuses}
-use Rattle.ranges.specs.Covered.{fileUnlisted}
+use Rattle.lookup.specs.fragment.Fragment.{fragmentAnswer}
+use Rattle.lookup.proofs.fragment.Handed.{fragment-faulty}
+use Rattle.lookup.specs.declared.listing.CountAnswer.the-variants as N
+use Rattle.lookup.specs.listing.Listing.{listingOf, countChecks, countAnswer, listingChecks, listingAnswer}
+use Rattle.lookup.proofs.listing.Refused.{count-refuses, listing-refuses}
+use Rattle.unlisted.specs.ranges.Covered.{fileUnlisted}
 use Rattle.unlisted.specs.declared.UnlistedAnswer.the-variants as U
 use Rattle.unlisted.specs.Answers.{unlistedAnswer}
 use Rattle.unlisted.proofs.Counted.{unlisted-by-check}
-use Rattle.settleanswers.specs.declared.SettleAnswer.the-variants as S
-use Rattle.settleanswers.specs.Answers.{answerOf, lengthIn, settleIn, lengthAnswer, settleAnswer}
-use Rattle.settleanswers.proofs.Answered.{length-by-check, settle-by-check}
+use Rattle.settle.specs.declared.settleanswers.SettleAnswer.the-variants as S
+use Rattle.settle.specs.settleanswers.Answers.{answerOf, lengthIn, settleIn, lengthAnswer, settleAnswer}
+use Rattle.settle.proofs.settleanswers.Answered.{length-by-check, settle-by-check}
 use Rattle.positions.specs.Points.{AtEntry, AtFirst, AtIdStep, AtStartStep, Offending, seven, eight, nine, ten, eleven, fifteen, sixteen, seventeen, twentyone, PointsAt, Named}
 
 -- ---- which check a position is of

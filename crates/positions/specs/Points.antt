@@ -9,8 +9,8 @@ use Rattle.endian.specs.Little.{leAt}
 use Rattle.sharding.specs.declared.Sharding.{Sharding}
 use Rattle.sharding.specs.Specification.{isMesh}
 use Rattle.shard.specs.declared.CheckAnswer.the-variants.{Faulty}
-use Rattle.index.specs.Index.{entryStart, entryEnd, entryCount, idSteps, startSteps, sizes, mostShardBytes}
-use Rattle.manifests.specs.Mesh.{wrongLength, badReal, unorderedNodes, fragmentsOutside}
+use Rattle.shard.specs.index.Index.{entryStart, entryEnd, entryCount, idSteps, startSteps, sizes, mostShardBytes}
+use Rattle.shard.specs.manifests.Mesh.{wrongLength, badReal, unorderedNodes, fragmentsOutside}
 use Rattle.shard.specs.Faults.{badEntry, badLength, badId, foreignAt, outside}
 use Rattle.shard.specs.File.{indexLength, indexPart, dataPart, checkAnswer}
 

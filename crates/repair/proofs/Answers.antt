@@ -12,15 +12,15 @@ use Rattle.refusal.specs.Buffer.{over}
 use Rattle.refusal.proofs.Picks.{by-picks}
 use Rattle.sharding.specs.declared.Sharding.{Sharding}
 use Rattle.sharding.specs.Specification.{allowed, minishardCount}
-use Rattle.index.specs.Index.{mostShardBytes}
-use Rattle.minishard.specs.Writing.{capped}
+use Rattle.shard.specs.index.Index.{mostShardBytes}
+use Rattle.settle.specs.minishard.Writing.{capped}
 use Rattle.shard.specs.declared.ShardFault.{ShardFault}
 use Rattle.shard.specs.Faults.{firstFault}
 use Rattle.shard.proofs.Numbers.{unless-some, unless-none}
-use Rattle.settleanswers.specs.Answers.{tooLong}
-use Rattle.settleanswers.proofs.Answered.{long-out, long-file, not-long}
-use Rattle.repairform.specs.Chosen.{repairedForm, repairedLength}
-use Rattle.repairform.specs.Choosing.{Pair, SoundInOne, SoundInOneEach}
+use Rattle.settle.specs.settleanswers.Answers.{tooLong}
+use Rattle.settle.proofs.settleanswers.Answered.{long-out, long-file, not-long}
+use Rattle.repair.specs.repairform.Chosen.{repairedForm, repairedLength}
+use Rattle.repair.specs.repairform.Choosing.{Pair, SoundInOne, SoundInOneEach}
 use Rattle.repair.specs.declared.RepairAnswer.{RepairAnswer}
 use Rattle.repair.specs.declared.RepairAnswer.the-variants.{Length, Refused, Faulty}
 use Rattle.repair.specs.Trouble.{troubleOf, firstTrouble}

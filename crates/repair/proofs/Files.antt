@@ -14,10 +14,10 @@ use Rattle.refusal.proofs.Picks.{by-picks}
 use Rattle.refusal.proofs.Tests.{told-no, told-yes, neither}
 use Rattle.sharding.specs.declared.Sharding.{Sharding}
 use Rattle.sharding.specs.Specification.{allowed, shardCount, noSuchShard}
-use Rattle.index.specs.Index.{mostShardBytes}
+use Rattle.shard.specs.index.Index.{mostShardBytes}
 use Rattle.shard.specs.File.{indexLength, indexPart, dataPart, badFileLength}
 use Rattle.shard.proofs.Split.{restOf, rest-whole, length-short, front-count, front-index, rest-short}
-use Rattle.repairform.specs.Choosing.{Pair}
+use Rattle.repair.specs.repairform.Choosing.{Pair}
 use Rattle.repair.specs.declared.RepairAnswer.{RepairAnswer}
 use Rattle.repair.specs.declared.RepairAnswer.the-variants.{Length, Refused, Faulty}
 use Rattle.repair.specs.Repair.{repairIn, leftIn, repairChecks, orOther, firstIndex, firstData, repairAnswer, repairLeft}

@@ -10,20 +10,20 @@ use Rattle.refusal.specs.Checks.{unless}
 use Rattle.refusal.specs.Buffer.{over}
 use Rattle.sharding.specs.declared.Sharding.{Sharding}
 use Rattle.sharding.specs.Specification.{minishardCount, noSuchShard, allowed}
-use Rattle.index.specs.declared.Fault.{Fault}
-use Rattle.index.specs.Tests.{fault}
+use Rattle.shard.specs.declared.index.Fault.{Fault}
+use Rattle.shard.specs.index.Tests.{fault}
 use Rattle.shard.specs.declared.ShardFault.{ShardFault}
 use Rattle.shard.specs.File.{badFileLength}
 use Rattle.shard.specs.Items.{Item}
 use Rattle.shard.specs.Faults.{faultOf, firstFault}
 use Rattle.shard.proofs.Whole.{FirstFaulty, first-faulty}
-use Rattle.form.specs.Form.{settled, settledLength}
-use Rattle.settleanswers.specs.Answers.{tooLong}
-use Rattle.settleanswers.proofs.Answered.{not-long}
-use Rattle.alike.specs.Alike.{alike}
-use Rattle.alike.proofs.Minishards.{alike-same, same-alike}
-use Rattle.repairform.specs.Chosen.{soundIn, listed, chosen, contentBy, chosenContent, repairedForm, repairedLength}
-use Rattle.repairform.proofs.OneMinishard.{chosen-first, chosen-second}
+use Rattle.settled_form.specs.form.Form.{settled, settledLength}
+use Rattle.settle.specs.settleanswers.Answers.{tooLong}
+use Rattle.settle.proofs.settleanswers.Answered.{not-long}
+use Rattle.repair.specs.alike.Alike.{alike}
+use Rattle.repair.proofs.alike.Minishards.{alike-same, same-alike}
+use Rattle.repair.specs.repairform.Chosen.{soundIn, listed, chosen, contentBy, chosenContent, repairedForm, repairedLength}
+use Rattle.repair.proofs.repairform.OneMinishard.{chosen-first, chosen-second}
 use Rattle.repair.specs.declared.RepairAnswer.{RepairAnswer}
 use Rattle.repair.specs.declared.RepairAnswer.the-variants.{Length, Refused, Faulty}
 use Rattle.repair.specs.Trouble.{troubleOf, firstTrouble}

@@ -12,28 +12,28 @@ use Rattle.refusal.specs.Choice.{pick}
 use Rattle.refusal.specs.Buffer.{over}
 use Rattle.sharding.specs.declared.Sharding.{Sharding}
 use Rattle.sharding.specs.Specification.{allowed, minishardBits, minishardCount, shardCount, noSuchShard}
-use Rattle.index.specs.declared.Fault.{Fault}
-use Rattle.index.specs.Index.{entryStart, entryEnd, entryCount, mostShardBytes}
-use Rattle.index.specs.Tests.{fault}
+use Rattle.shard.specs.declared.index.Fault.{Fault}
+use Rattle.shard.specs.index.Index.{entryStart, entryEnd, entryCount, mostShardBytes}
+use Rattle.shard.specs.index.Tests.{fault}
 use Rattle.shard.specs.declared.ShardFault.{ShardFault}
 use Rattle.shard.specs.Items.{Item}
 use Rattle.shard.specs.File.{indexLength, indexPart, dataPart, badFileLength}
 use Rattle.shard.specs.Lists.{ListsItem}
 use Rattle.shard.specs.Sound.{SoundMinishard, SoundShard}
 use Rattle.shard.proofs.Split.{length-good}
-use Rattle.form.specs.Form.{settled, settledLength}
-use Rattle.form.specs.Sorted.{Member}
-use Rattle.form.specs.Content.{idOf, itemsOf, byId, contentFrom, contentOf, formOf, formLength, fileContent, fileForm, fileFormLength}
-use Rattle.form.proofs.Sorting.{sort-same}
-use Rattle.form.proofs.Stored.{item-member, member-item}
-use Rattle.form.proofs.SoundContent.{sound-listed}
-use Rattle.form.proofs.Demand3.{file-form-length}
-use Rattle.settleanswers.specs.Answers.{tooLong}
-use Rattle.settleanswers.proofs.Answered.{long-out, long-file, not-long}
-use Rattle.alike.specs.Alike.{alike}
-use Rattle.alike.proofs.Minishards.{same-alike}
-use Rattle.repairform.specs.Chosen.{soundIn, listed, chosen, contentBy, chosenContent, repairedForm, repairedLength}
-use Rattle.repairform.proofs.OneMinishard.{sound-if, sound-only, chosen-first, chosen-second}
+use Rattle.settled_form.specs.form.Form.{settled, settledLength}
+use Rattle.settled_form.specs.form.Sorted.{Member}
+use Rattle.settled_form.specs.form.Content.{idOf, itemsOf, byId, contentFrom, contentOf, formOf, formLength, fileContent, fileForm, fileFormLength}
+use Rattle.settled_form.proofs.form.Sorting.{sort-same}
+use Rattle.settled_form.proofs.form.Stored.{item-member, member-item}
+use Rattle.settled_form.proofs.form.SoundContent.{sound-listed}
+use Rattle.settled_form.proofs.form.Demand3.{file-form-length}
+use Rattle.settle.specs.settleanswers.Answers.{tooLong}
+use Rattle.settle.proofs.settleanswers.Answered.{long-out, long-file, not-long}
+use Rattle.repair.specs.alike.Alike.{alike}
+use Rattle.repair.proofs.alike.Minishards.{same-alike}
+use Rattle.repair.specs.repairform.Chosen.{soundIn, listed, chosen, contentBy, chosenContent, repairedForm, repairedLength}
+use Rattle.repair.proofs.repairform.OneMinishard.{sound-if, sound-only, chosen-first, chosen-second}
 use Rattle.repair.specs.declared.RepairAnswer.the-variants.{Length, Refused, Faulty}
 use Rattle.repair.specs.Trouble.{troubleOf, firstTrouble}
 use Rattle.repair.specs.Repair.{repairIn, leftIn, orOther, firstIndex, firstData, repairAnswer, repairLeft}

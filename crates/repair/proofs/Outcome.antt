@@ -13,10 +13,10 @@ use Rattle.refusal.specs.Buffer.{over}
 use Rattle.refusal.proofs.Tests.{neither}
 use Rattle.sharding.specs.declared.Sharding.{Sharding}
 use Rattle.sharding.specs.Specification.{allowed, noSuchShard}
-use Rattle.index.specs.Index.{mostShardBytes}
+use Rattle.shard.specs.index.Index.{mostShardBytes}
 use Rattle.shard.specs.File.{indexPart, dataPart, badFileLength}
-use Rattle.settleanswers.specs.Answers.{tooLong}
-use Rattle.repairform.specs.Chosen.{repairedForm, repairedLength}
+use Rattle.settle.specs.settleanswers.Answers.{tooLong}
+use Rattle.repair.specs.repairform.Chosen.{repairedForm, repairedLength}
 use Rattle.repair.specs.declared.RepairAnswer.{RepairAnswer}
 use Rattle.repair.specs.declared.RepairAnswer.the-variants.{Length, Refused, Faulty}
 use Rattle.repair.specs.Trouble.{firstTrouble}

@@ -12,23 +12,23 @@ use Rattle.refusal.specs.Choice.{pick}
 use Rattle.refusal.specs.Buffer.{over}
 use Rattle.sharding.specs.declared.Sharding.{Sharding}
 use Rattle.sharding.specs.Specification.{allowed, minishardCount, shardCount, noSuchShard}
-use Rattle.index.specs.Index.{mostShardBytes}
+use Rattle.shard.specs.index.Index.{mostShardBytes}
 use Rattle.shard.specs.Items.{Item}
 use Rattle.shard.specs.File.{indexPart, dataPart}
 use Rattle.shard.specs.Sound.{SoundMinishard, SoundShard}
-use Rattle.form.specs.Form.{settled, settledLength}
-use Rattle.form.specs.Sorted.{Member}
-use Rattle.form.specs.Content.{idOf, itemsOf, byId, fileContent}
-use Rattle.form.proofs.Sorting.{sort-mem, rising-sort, distinct-sort}
-use Rattle.form.proofs.Measures.{length-settled}
-use Rattle.form.proofs.Rows.{InForm}
-use Rattle.form.proofs.ReadBack.{Readable, content-back}
-use Rattle.form.proofs.SoundContent.{Listed, sound-listed, items-at}
-use Rattle.form.proofs.FormSound.{settled-sound}
-use Rattle.repairform.specs.Chosen.{soundIn, listed, chosen, contentBy, chosenContent, repairedForm, repairedLength}
-use Rattle.repairform.specs.Choosing.{SoundInOne, SoundInOneEach}
-use Rattle.repairform.proofs.OneMinishard.{sound-if, chosen-first, chosen-second}
-use Rattle.repairform.proofs.AllMinishards.{length-content-by}
+use Rattle.settled_form.specs.form.Form.{settled, settledLength}
+use Rattle.settled_form.specs.form.Sorted.{Member}
+use Rattle.settled_form.specs.form.Content.{idOf, itemsOf, byId, fileContent}
+use Rattle.settled_form.proofs.form.Sorting.{sort-mem, rising-sort, distinct-sort}
+use Rattle.settled_form.proofs.form.Measures.{length-settled}
+use Rattle.settled_form.proofs.form.Rows.{InForm}
+use Rattle.settled_form.proofs.form.ReadBack.{Readable, content-back}
+use Rattle.settled_form.proofs.form.SoundContent.{Listed, sound-listed, items-at}
+use Rattle.settled_form.proofs.form.FormSound.{settled-sound}
+use Rattle.repair.specs.repairform.Chosen.{soundIn, listed, chosen, contentBy, chosenContent, repairedForm, repairedLength}
+use Rattle.repair.specs.repairform.Choosing.{SoundInOne, SoundInOneEach}
+use Rattle.repair.proofs.repairform.OneMinishard.{sound-if, chosen-first, chosen-second}
+use Rattle.repair.proofs.repairform.AllMinishards.{length-content-by}
 
 -- ---- sorted
 

@@ -14,17 +14,17 @@ use lib.Dec.{eqb}
 use lib.ListN.{length}
 use Rattle.sharding.specs.declared.Sharding.{Sharding}
 use Rattle.sharding.specs.Specification.{allowed, minishardCount}
-use Rattle.index.specs.declared.Fault.{Fault}
-use Rattle.index.specs.Index.{mostShardBytes}
-use Rattle.index.specs.Tests.{fault, entryPlace}
+use Rattle.shard.specs.declared.index.Fault.{Fault}
+use Rattle.shard.specs.index.Index.{mostShardBytes}
+use Rattle.shard.specs.index.Tests.{fault, entryPlace}
 use Rattle.shard.specs.declared.ShardFault.{ShardFault}
 use Rattle.shard.specs.Faults.{faultOf, noFault, orLater, firstFault}
 use Rattle.shard.specs.File.{indexLength}
-use Rattle.formlength.specs.Settleable.{SettleableIn}
-use Rattle.alike.specs.Alike.{alike}
-use Rattle.repairform.specs.Chosen.{soundIn}
-use Rattle.repairform.specs.Choosing.{Pair, SoundInOne, SoundInOneEach}
-use Rattle.repairform.proofs.OneMinishard.{sound-if, settleable}
+use Rattle.settle.specs.formlength.Settleable.{SettleableIn}
+use Rattle.repair.specs.alike.Alike.{alike}
+use Rattle.repair.specs.repairform.Chosen.{soundIn}
+use Rattle.repair.specs.repairform.Choosing.{Pair, SoundInOne, SoundInOneEach}
+use Rattle.repair.proofs.repairform.OneMinishard.{sound-if, settleable}
 use Rattle.repair.specs.Trouble.{troubleOf, firstTrouble}
 
 -- ---- one minishard

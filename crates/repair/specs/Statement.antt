@@ -8,15 +8,15 @@ use lib.ListN.{length, take, drop}
 use Rattle.refusal.specs.Buffer.{over}
 use Rattle.sharding.specs.declared.Sharding.{Sharding}
 use Rattle.sharding.specs.Specification.{minishardCount}
-use Rattle.index.specs.Index.{mostShardBytes}
+use Rattle.shard.specs.index.Index.{mostShardBytes}
 use Rattle.shard.specs.declared.CheckAnswer.the-variants.{Sound}
 use Rattle.shard.specs.File.{indexPart, dataPart, badFileLength, checkAnswer}
 use Rattle.shard.specs.Faults.{faultOf}
 use Rattle.shard.specs.Sound.{SoundMinishard, SoundShard}
 use Rattle.shard.specs.Lists.{ListsItem}
 use Rattle.shard.specs.Items.{Item}
-use Rattle.form.specs.Content.{fileForm}
-use Rattle.repairform.specs.Chosen.{soundIn, listed, chosen}
+use Rattle.settled_form.specs.form.Content.{fileForm}
+use Rattle.repair.specs.repairform.Chosen.{soundIn, listed, chosen}
 use Rattle.repair.specs.declared.RepairAnswer.the-variants.{Length, Refused, Faulty}
 use Rattle.repair.specs.Repair.{firstIndex, firstData, repairAnswer, repairLeft}
 

@@ -5,12 +5,12 @@ use mathlib.Core.List.{List}
 use Rattle.refusal.specs.Choice.{pick}
 use Rattle.sharding.specs.declared.Sharding.{Sharding}
 use Rattle.sharding.specs.Specification.{minishardCount}
-use Rattle.index.specs.declared.Fault.{Fault}
-use Rattle.index.specs.Tests.{fault, entryPlace}
+use Rattle.shard.specs.declared.index.Fault.{Fault}
+use Rattle.shard.specs.index.Tests.{fault, entryPlace}
 use Rattle.shard.specs.declared.ShardFault.{ShardFault}
 use Rattle.shard.specs.Faults.{faultOf, firstFault}
-use Rattle.alike.specs.Alike.{alike}
-use Rattle.repairform.specs.Chosen.{soundIn}
+use Rattle.repair.specs.alike.Alike.{alike}
+use Rattle.repair.specs.repairform.Chosen.{soundIn}
 
 -- minishard m: the fault of copy a where it is sound in neither; 32 where it is sound in both and they list different ids or bytes, at its entry in
 -- the shard index; else none

@@ -1,4 +1,7 @@
 // Repair of a shard from two damaged copies.
+pub mod alike;
+pub mod repairform;
+
 ghost use mathlib.Core.Path.{_≡_};
 ghost use Rattle.repair.specs.Repair.{repairAnswer, repairLeft};
 use inner::is_bad;

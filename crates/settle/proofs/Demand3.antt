@@ -9,14 +9,14 @@ use lib.ListN.{length}
 use Rattle.refusal.specs.Buffer.{over}
 use Rattle.refusal.specs.Checks.{refusal}
 use Rattle.sharding.specs.declared.Sharding.{Sharding}
-use Rattle.index.specs.Index.{mostShardBytes}
+use Rattle.shard.specs.index.Index.{mostShardBytes}
 use Rattle.shard.specs.Sound.{SoundShard}
-use Rattle.form.specs.Content.{fileForm}
-use Rattle.form.proofs.Demand3.{Short, demand-3-form-sound, demand-3-form-same}
-use Rattle.shortest.proofs.Listed.{form-listed}
-use Rattle.settleanswers.specs.declared.SettleAnswer.the-variants.{Length, Refused, Faulty}
-use Rattle.settleanswers.specs.Answers.{lengthAnswer, settleAnswer, settleLeft}
-use Rattle.settleanswers.proofs.Answered.{Ready, length-long, length-fits, answer-long, left-long, answer-fits, left-fits, refused-long}
+use Rattle.settled_form.specs.form.Content.{fileForm}
+use Rattle.settled_form.proofs.form.Demand3.{Short, demand-3-form-sound, demand-3-form-same}
+use Rattle.settled_form.proofs.shortest.Listed.{form-listed}
+use Rattle.settle.specs.declared.settleanswers.SettleAnswer.the-variants.{Length, Refused, Faulty}
+use Rattle.settle.specs.settleanswers.Answers.{lengthAnswer, settleAnswer, settleLeft}
+use Rattle.settle.proofs.settleanswers.Answered.{Ready, length-long, length-fits, answer-long, left-long, answer-fits, left-fits, refused-long}
 
 -- the settled form is longer than the output or than 1 GiB
 abbrev pub Longer : Sharding → List ℕ → List ℕ → Type 0

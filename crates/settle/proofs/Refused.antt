@@ -11,8 +11,8 @@ use Rattle.refusal.proofs.Positions.{refusing-at, keeping-at}
 use Rattle.sharding.specs.declared.Sharding.{Sharding}
 use Rattle.shard.specs.File.{shardChecks}
 use Rattle.shard.proofs.Numbers.{shard-in}
-use Rattle.settleanswers.specs.declared.SettleAnswer.the-variants.{Refused, Faulty}
-use Rattle.settleanswers.specs.Answers.{unlistedCheck, lengthCheck, settleCheck, lengthChecks, lengthAnswer, settleChecks, settleAnswer, settleLeft}
+use Rattle.settle.specs.declared.settleanswers.SettleAnswer.the-variants.{Refused, Faulty}
+use Rattle.settle.specs.settleanswers.Answers.{unlistedCheck, lengthCheck, settleCheck, lengthChecks, lengthAnswer, settleChecks, settleAnswer, settleLeft}
 
 module _ (spec : Sharding) (shard : ℕ) (file : List ℕ) (dropping : Bool) where
   lengths-in : AllIn (lengthChecks spec shard file dropping)

@@ -1,12 +1,23 @@
 // Settling a shard: writing it in its settled form.
+pub mod chunkruns;
+pub mod formlength;
+pub mod formwriting;
+pub mod itemruns;
+pub mod minishard;
+pub mod settleanswers;
+pub mod settleparts;
+pub mod sorted;
+pub mod standing;
+pub mod stored;
+
 ghost use mathlib.Core.Path.{_≡_};
-ghost use Rattle.settleanswers.specs.Answers.{lengthAnswer, settleAnswer, settleLeft};
-use inspect::check;
-use settleanswers::SettleAnswer;
-use settleanswers::answer_of;
-use settleparts::inner;
+ghost use Rattle.settle.specs.settleanswers.Answers.{lengthAnswer, settleAnswer, settleLeft};
+use crate::settleanswers::SettleAnswer;
+use crate::settleanswers::answer_of;
+use crate::settleparts::inner;
 use shard::CheckAnswer;
 use shard::inner::index_length;
+use shard::inspect::check;
 use sharding::Sharding;
 
 // The length of the settled form of a sound shard, or the refusal. Unlisted bytes are refused unless the caller asks for `dropping` them.

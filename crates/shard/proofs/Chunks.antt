@@ -4,7 +4,7 @@ use mathlib.Core.List.{List, []}
 use mathlib.Core.Logic.{_↔_}
 use mathlib.Core.Path.{_≡_, sym, ap, _∙_}
 use Rattle.sharding.specs.declared.Sharding.{Sharding}
-use Rattle.index.specs.Index.{entryStart, entryEnd, entryCount, idSteps, idAt, chunkAt}
+use Rattle.shard.specs.index.Index.{entryStart, entryEnd, entryCount, idSteps, idAt, chunkAt}
 use Rattle.shard.specs.Items.{Item, itemOf, itemAt, NoLeads}
 use Rattle.shard.specs.Lists.{ListsAt, ListsIn, ListsItem, Lists, SameListing, ListsChunk, SameChunks}
 

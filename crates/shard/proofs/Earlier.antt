@@ -16,12 +16,12 @@ use Rattle.refusal.proofs.Refusing.{first-both}
 use Rattle.sharding.specs.declared.Sharding.{Sharding}
 use Rattle.sharding.specs.Specification.{volume, mesh, isMesh, minishardCount, noSuchShard}
 use Rattle.shard.specs.declared.CheckAnswer.the-variants.{Sound}
-use Rattle.index.specs.Index.{entryStart, entryEnd, entryCount, idSteps, startSteps, sizes, idAt, startAt, mostShardBytes}
+use Rattle.shard.specs.index.Index.{entryStart, entryEnd, entryCount, idSteps, startSteps, sizes, idAt, startAt, mostShardBytes}
 use Rattle.shard.specs.Faults.{badEntry, badLength, foreign}
 use Rattle.shard.specs.File.{indexLength, indexPart, dataPart, fileChecks, checkAnswer}
 use Rattle.shard.specs.Sound.{SoundMinishard, SoundShard}
 use Rattle.shard.specs.Before.{exactId, exactStart, badIdBefore, foreignBefore, outsideBefore, entryTestsBefore, minishardChecksBefore, minishardsChecksBefore, shardChecksBefore, PassedBefore}
-use Rattle.index.proofs.Tests.{AllPass, Numbered, none-fails}
+use Rattle.shard.proofs.index.Tests.{AllPass, Numbered, none-fails}
 use Rattle.shard.proofs.Judged.{entry-order, entry-within, foreign-not}
 use Rattle.shard.proofs.Numbers.{pick-zero, or-none, entries-in, entries-number, file-in, file-called}
 use Rattle.shard.proofs.Whole.{sound-passes-check}

@@ -9,11 +9,11 @@ use lib.ListN.{length}
 use lib.Dec.{ltb}
 use borrow.Author.Tests.{lt-ltb, le-ltb, eq-eqb, ne-eqb}
 use Rattle.sharding.specs.declared.Sharding.{Sharding}
-use Rattle.index.specs.declared.Fault.{Fault}
-use Rattle.index.specs.Index.{entryStart, entryEnd, entryCount}
-use Rattle.index.specs.Tests.{fault, entryPlace, firstOf}
+use Rattle.shard.specs.declared.index.Fault.{Fault}
+use Rattle.shard.specs.index.Index.{entryStart, entryEnd, entryCount}
+use Rattle.shard.specs.index.Tests.{fault, entryPlace, firstOf}
 use Rattle.shard.specs.Faults.{badEntry, badLength, entryTests, faultAt, faultOf}
-use Rattle.index.proofs.Tests.{no-entries}
+use Rattle.shard.proofs.index.Tests.{no-entries}
 
 module _ (spec : Sharding) (shard m base : ℕ) (d : List ℕ) (s e : ℕ) where
   pub fault-before : e < s → fault 7 (entryPlace m) ≡ faultAt spec shard m base d s e

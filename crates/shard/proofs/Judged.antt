@@ -11,20 +11,20 @@ use lib.ListN.{length}
 use borrow.Author.Tests.{ltb-false, lt-ltb, le-ltb, eqb-true, eq-eqb, not-false}
 use Rattle.refusal.specs.Checks.{firstNumber}
 use Rattle.refusal.proofs.Tests.{neither}
-use Rattle.twice.proofs.Ids.{repeats-no, repeats-miss}
+use Rattle.duplicate_ids.proofs.twice.Ids.{repeats-no, repeats-miss}
 use Rattle.sharding.specs.declared.Sharding.{Sharding}
 use Rattle.sharding.specs.Specification.{isMesh}
-use Rattle.placement.specs.Place.{shardOf, minishardOf}
-use Rattle.manifest.specs.Verdict.{rightLength, realsFit, nodesRise, manifestChecks, verdict}
-use Rattle.manifest.specs.Soundness.{Sound}
-use Rattle.manifest.proofs.Sounds.{sound-if, sound-only}
-use Rattle.nodes.specs.Nodes.{fragmentsLength}
-use Rattle.index.specs.Index.{entryStart, entryEnd, entryCount, idSteps, startSteps, sizes, idAt, startAt, chunkAt}
-use Rattle.index.specs.Tests.{fault, entryPlace, firstOf}
-use Rattle.manifests.specs.Mesh.{manifestTests, wrongLength, badReal, unorderedNodes, fragmentsOutside}
+use Rattle.sharding.specs.placement.Place.{shardOf, minishardOf}
+use Rattle.mesh_manifest.specs.manifest.Verdict.{rightLength, realsFit, nodesRise, manifestChecks, verdict}
+use Rattle.mesh_manifest.specs.manifest.Soundness.{Sound}
+use Rattle.mesh_manifest.proofs.manifest.Sounds.{sound-if, sound-only}
+use Rattle.mesh_manifest.specs.nodes.Nodes.{fragmentsLength}
+use Rattle.shard.specs.index.Index.{entryStart, entryEnd, entryCount, idSteps, startSteps, sizes, idAt, startAt, chunkAt}
+use Rattle.shard.specs.index.Tests.{fault, entryPlace, firstOf}
+use Rattle.shard.specs.manifests.Mesh.{manifestTests, wrongLength, badReal, unorderedNodes, fragmentsOutside}
 use Rattle.shard.specs.Faults.{badEntry, badLength, badId, foreign, foreignAt, outside, idTest, placeTest, endTest, meshTests, entryTests, faultAt, faultOf}
 use Rattle.shard.specs.Sound.{SoundFrom, SoundMinishard}
-use Rattle.index.proofs.Tests.{Passes, AllPass, pick-none, none-fails, all-pass}
+use Rattle.shard.proofs.index.Tests.{Passes, AllPass, pick-none, none-fails, all-pass}
 use Rattle.shard.proofs.Meshes.{mesh-passed, mesh-pass, tests-numbered}
 use Rattle.shard.proofs.Numbers.{pick-zero}
 

@@ -8,11 +8,11 @@ use lib.ListN.{take, drop}
 use Rattle.refusal.proofs.Tests.{told-no, told-yes}
 use Rattle.sharding.specs.declared.Sharding.{Sharding}
 use Rattle.sharding.specs.Specification.{isMesh}
-use Rattle.manifest.specs.Verdict.{verdict}
-use Rattle.manifest.specs.Soundness.{Sound}
-use Rattle.manifest.proofs.Sounds.{sound-only}
-use Rattle.nodes.specs.Nodes.{fragmentsLength}
-use Rattle.index.specs.Index.{entryCount, startSteps, sizes, startAt}
+use Rattle.mesh_manifest.specs.manifest.Verdict.{verdict}
+use Rattle.mesh_manifest.specs.manifest.Soundness.{Sound}
+use Rattle.mesh_manifest.proofs.manifest.Sounds.{sound-only}
+use Rattle.mesh_manifest.specs.nodes.Nodes.{fragmentsLength}
+use Rattle.shard.specs.index.Index.{entryCount, startSteps, sizes, startAt}
 use Rattle.shard.specs.Items.{leadLength, Led, NoLeads, MayLead}
 use Rattle.shard.specs.Sound.{SoundFrom}
 

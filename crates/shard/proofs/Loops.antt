@@ -9,14 +9,14 @@ use lib.ListN.{length}
 use borrow.Author.Tests.{ne-eqb}
 use Rattle.endian.specs.Little.{leAt}
 use Rattle.endian.specs.Range.{first}
-use Rattle.twice.specs.Twice.{firstTwice}
+use Rattle.duplicate_ids.specs.twice.Twice.{firstTwice}
 use Rattle.sharding.specs.declared.Sharding.{Sharding}
-use Rattle.index.specs.declared.Fault.{Fault}
+use Rattle.shard.specs.declared.index.Fault.{Fault}
 use Rattle.shard.specs.declared.ShardFault.{ShardFault}
-use Rattle.index.specs.Index.{entryStart, entryEnd, entryCount, idSteps, startSteps, sizes}
-use Rattle.index.specs.Tests.{EntryTest, entryTest, entryPlace, rowPlace, firstOf, fault}
+use Rattle.shard.specs.index.Index.{entryStart, entryEnd, entryCount, idSteps, startSteps, sizes}
+use Rattle.shard.specs.index.Tests.{EntryTest, entryTest, entryPlace, rowPlace, firstOf, fault}
 use Rattle.shard.specs.Faults.{foreign, foreignAt, outside, idTest, placeTest, endTest, meshTests, entryTests, faultOf, faultAt, noFault, orLater, firstFault}
-use Rattle.index.proofs.Tests.{test-passed, test-failed}
+use Rattle.shard.proofs.index.Tests.{test-passed, test-failed}
 use Rattle.shard.proofs.Walks.{twice-first, twice-none, Walk, ours-hit, Span, span-end, span-start-past, span-past}
 use Rattle.shard.proofs.Faulted.{fault-before, fault-empty, fault-past, fault-ragged, fault-entries, fault-entry}
 

@@ -7,11 +7,11 @@ use native.Mathlib.Omega.{arith}
 use Rattle.refusal.specs.Choice.{pick}
 use Rattle.sharding.specs.declared.Sharding.{Sharding}
 use Rattle.sharding.specs.Specification.{isMesh}
-use Rattle.index.specs.declared.Fault.{Fault}
-use Rattle.index.specs.Tests.{fault, firstOf}
-use Rattle.manifests.specs.Mesh.{manifestTests}
+use Rattle.shard.specs.declared.index.Fault.{Fault}
+use Rattle.shard.specs.index.Tests.{fault, firstOf}
+use Rattle.shard.specs.manifests.Mesh.{manifestTests}
 use Rattle.shard.specs.Faults.{meshTests, entryTests}
-use Rattle.index.proofs.Tests.{AllPass, Numbered}
+use Rattle.shard.proofs.index.Tests.{AllPass, Numbered}
 
 module _ (spec : Sharding) (d : List ℕ) (s n : ℕ) where
   pub mesh-numbered : Numbered 21 (meshTests spec d s n)

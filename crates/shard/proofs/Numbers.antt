@@ -18,14 +18,14 @@ use Rattle.refusal.proofs.Positions.{at-both, at-plain, at-placed}
 use Rattle.endian.specs.Range.{anyBelow}
 use Rattle.sharding.specs.declared.Sharding.{Sharding}
 use Rattle.sharding.specs.Specification.{allowed, minishardCount, noSuchShard}
-use Rattle.index.specs.declared.Fault.{Fault}
+use Rattle.shard.specs.declared.index.Fault.{Fault}
 use Rattle.shard.specs.declared.ShardFault.{ShardFault}
-use Rattle.index.specs.Index.{entryStart, entryEnd, entryCount, mostShardBytes}
-use Rattle.index.specs.Tests.{EntryTest, fault, entryPlace, testPlace, firstOf}
+use Rattle.shard.specs.index.Index.{entryStart, entryEnd, entryCount, mostShardBytes}
+use Rattle.shard.specs.index.Tests.{EntryTest, fault, entryPlace, testPlace, firstOf}
 use Rattle.shard.specs.Faults.{badEntry, badLength, entryTests, faultAt, faultOf, orLater, firstFault, shardFault}
 use Rattle.shard.specs.Checks.{entryChecks, minishardChecks, minishardsChecks}
 use Rattle.shard.specs.File.{indexLength, indexPart, dataPart, badFileLength, fileChecks, shardChecks}
-use Rattle.index.proofs.Tests.{Numbered}
+use Rattle.shard.proofs.index.Tests.{Numbered}
 use Rattle.shard.proofs.Meshes.{tests-numbered}
 
 -- ---- 'number or 0' made into an answer

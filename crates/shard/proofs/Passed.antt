@@ -6,11 +6,11 @@ use mathlib.Core.Path.{_≡_, sym, _∙_, ap}
 use native.Mathlib.Omega.{arith}
 use lib.ListN.{length}
 use Rattle.sharding.specs.declared.Sharding.{Sharding}
-use Rattle.index.specs.declared.Fault.{Fault}
-use Rattle.index.specs.Index.{entryStart, entryEnd, entryCount, mostShardBytes}
+use Rattle.shard.specs.declared.index.Fault.{Fault}
+use Rattle.shard.specs.index.Index.{entryStart, entryEnd, entryCount, mostShardBytes}
 use Rattle.shard.specs.Faults.{faultOf}
 use Rattle.shard.specs.Sound.{SoundFrom, SoundMinishard}
-use Rattle.index.specs.Reading.{Readable, ReadableIn}
+use Rattle.shard.specs.index.Reading.{Readable, ReadableIn}
 use Rattle.shard.proofs.Judged.{passes-minishard}
 
 -- entries of a sound minishard

@@ -11,8 +11,8 @@ use borrow.Author.Tests.{lt-ltb, le-ltb}
 use Rattle.sharding.specs.declared.Sharding.{Sharding}
 use Rattle.sharding.specs.Specification.{allowed}
 use Rattle.sharding.proofs.Allowed.{minishards-most}
-use Rattle.index.specs.declared.Fault.{Fault}
-use Rattle.index.specs.Index.{mostShardBytes}
+use Rattle.shard.specs.declared.index.Fault.{Fault}
+use Rattle.shard.specs.index.Index.{mostShardBytes}
 use Rattle.shard.specs.File.{indexLength, indexPart, dataPart, badFileLength}
 use Rattle.shard.specs.Faults.{faultOf}
 

@@ -10,11 +10,11 @@ use lib.ListN.{length}
 use Rattle.endian.specs.Range.{sumTo, anyBelow, first}
 use Rattle.endian.proofs.Ranges.{sum-none, sum-step, any-none, any-more, any-miss, first-none, first-hit, told-none}
 use Rattle.sharding.specs.declared.Sharding.{Sharding}
-use Rattle.placement.specs.declared.Place.{Place}
-use Rattle.placement.specs.Place.{placeOf}
-use Rattle.twice.specs.Twice.{firstTwice}
-use Rattle.index.specs.Index.{startSteps, sizes, idAt, startAt, endAt, mostShardBytes}
-use Rattle.index.specs.Reading.{Readable}
+use Rattle.sharding.specs.declared.placement.Place.{Place}
+use Rattle.sharding.specs.placement.Place.{placeOf}
+use Rattle.duplicate_ids.specs.twice.Twice.{firstTwice}
+use Rattle.shard.specs.index.Index.{startSteps, sizes, idAt, startAt, endAt, mostShardBytes}
+use Rattle.shard.specs.index.Reading.{Readable}
 use Rattle.shard.specs.Faults.{badId, foreign, foreignAt, outside}
 
 -- ---- test 9: the first entry that has the id of an earlier one

@@ -11,7 +11,7 @@ use Rattle.refusal.specs.Checks.{firstNumber, unless, Refuses}
 use Rattle.refusal.proofs.Refusing.{orElse, first-both, refuses}
 use Rattle.sharding.specs.declared.Sharding.{Sharding}
 use Rattle.sharding.specs.Specification.{minishardCount, shardCount, noSuchShard}
-use Rattle.index.specs.declared.Fault.{Fault}
+use Rattle.shard.specs.declared.index.Fault.{Fault}
 use Rattle.shard.specs.declared.ShardFault.{ShardFault}
 use Rattle.shard.specs.declared.CheckAnswer.the-variants.{Sound, Refused, Faulty}
 use Rattle.shard.specs.Faults.{faultOf, noFault, orLater, firstFault, shardFault}

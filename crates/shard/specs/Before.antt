@@ -10,8 +10,8 @@ use Rattle.refusal.specs.Checks.{Check, check, firstNumber}
 use Rattle.endian.specs.Range.{sumTo}
 use Rattle.sharding.specs.declared.Sharding.{Sharding}
 use Rattle.sharding.specs.Specification.{volume, minishardCount, noSuchShard}
-use Rattle.index.specs.Index.{entryStart, entryEnd, entryCount, idSteps, startSteps, sizes}
-use Rattle.index.specs.Tests.{EntryTest, entryTest}
+use Rattle.shard.specs.index.Index.{entryStart, entryEnd, entryCount, idSteps, startSteps, sizes}
+use Rattle.shard.specs.index.Tests.{EntryTest, entryTest}
 use Rattle.shard.specs.Faults.{badEntry, badLength, foreign}
 use Rattle.shard.specs.Checks.{entryChecks}
 use Rattle.shard.specs.File.{indexPart, dataPart, fileChecks}

@@ -6,8 +6,8 @@ use lib.ListN.{length}
 use Rattle.refusal.specs.Checks.{Check, checkAt}
 use Rattle.endian.specs.Range.{anyBelow}
 use Rattle.sharding.specs.declared.Sharding.{Sharding}
-use Rattle.index.specs.Index.{entryStart, entryEnd, entryCount}
-use Rattle.index.specs.Tests.{EntryTest, entryPlace, testPlace}
+use Rattle.shard.specs.index.Index.{entryStart, entryEnd, entryCount}
+use Rattle.shard.specs.index.Tests.{EntryTest, entryPlace, testPlace}
 use Rattle.shard.specs.Faults.{badEntry, badLength, entryTests}
 
 -- each test over all n entries of the minishard index at p

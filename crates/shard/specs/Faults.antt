@@ -5,15 +5,15 @@ use mathlib.Core.List.{List, [], _∷_}
 use lib.Dec.{ltb, eqb}
 use lib.ListN.{length}
 use Rattle.refusal.specs.Choice.{pick}
-use Rattle.twice.specs.Twice.{repeats}
+use Rattle.duplicate_ids.specs.twice.Twice.{repeats}
 use Rattle.sharding.specs.declared.Sharding.{Sharding}
 use Rattle.sharding.specs.Specification.{isMesh, minishardCount}
-use Rattle.placement.specs.Place.{shardOf, minishardOf}
-use Rattle.index.specs.declared.Fault.{Fault}
+use Rattle.sharding.specs.placement.Place.{shardOf, minishardOf}
+use Rattle.shard.specs.declared.index.Fault.{Fault}
 use Rattle.shard.specs.declared.ShardFault.{ShardFault}
-use Rattle.index.specs.Tests.{fault, entryPlace, EntryTest, entryTest, firstOf}
-use Rattle.index.specs.Index.{entryStart, entryEnd, entryCount, idSteps, startSteps, sizes, idAt, endAt}
-use Rattle.manifests.specs.Mesh.{manifestTests}
+use Rattle.shard.specs.index.Tests.{fault, entryPlace, EntryTest, entryTest, firstOf}
+use Rattle.shard.specs.index.Index.{entryStart, entryEnd, entryCount, idSteps, startSteps, sizes, idAt, endAt}
+use Rattle.shard.specs.manifests.Mesh.{manifestTests}
 
 -- ---- the tests
 

@@ -7,9 +7,9 @@ use lib.ListN.{take, drop}
 use Rattle.refusal.specs.Choice.{pick}
 use Rattle.sharding.specs.declared.Sharding.{Sharding}
 use Rattle.sharding.specs.Specification.{isMesh}
-use Rattle.manifest.specs.Soundness.{Sound}
-use Rattle.nodes.specs.Nodes.{fragmentsLength}
-use Rattle.index.specs.Index.{idSteps, startSteps, sizes, idAt, startAt, chunkAt}
+use Rattle.mesh_manifest.specs.manifest.Soundness.{Sound}
+use Rattle.mesh_manifest.specs.nodes.Nodes.{fragmentsLength}
+use Rattle.shard.specs.index.Index.{idSteps, startSteps, sizes, idAt, startAt, chunkAt}
 
 -- its id, the bytes that are kept unlisted right before its chunk, and its chunk's bytes
 pub record Item : Type 0 where

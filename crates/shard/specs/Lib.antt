@@ -1,4 +1,6 @@
 -- Reading shards (RULES F1 to F15).
+pub mod index
+pub mod manifests
 pub mod Faults
 pub mod Checks
 pub mod File

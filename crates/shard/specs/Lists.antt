@@ -5,7 +5,7 @@ use mathlib.Core.Logic.{_↔_}
 use mathlib.Core.List.{List}
 use Rattle.sharding.specs.declared.Sharding.{Sharding}
 use Rattle.sharding.specs.Specification.{minishardCount}
-use Rattle.index.specs.Index.{entryStart, entryEnd, entryCount, idSteps, idAt, chunkAt}
+use Rattle.shard.specs.index.Index.{entryStart, entryEnd, entryCount, idSteps, idAt, chunkAt}
 use Rattle.shard.specs.Items.{Item, itemAt}
 use Rattle.shard.specs.File.{indexPart, dataPart}
 

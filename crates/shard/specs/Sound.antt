@@ -9,10 +9,10 @@ use lib.ListN.{length}
 use Rattle.refusal.specs.Checks.{firstNumber, firstPosition}
 use Rattle.sharding.specs.declared.Sharding.{Sharding}
 use Rattle.sharding.specs.Specification.{isMesh, allowed, minishardCount, shardCount, noSuchShard}
-use Rattle.placement.specs.Place.{shardOf, minishardOf}
-use Rattle.index.specs.Index.{entryStart, entryEnd, entryCount, idSteps, startSteps, sizes, idAt, startAt, endAt, chunkAt, mostShardBytes}
-use Rattle.manifest.specs.Soundness.{Sound}
-use Rattle.nodes.specs.Nodes.{fragmentsLength}
+use Rattle.sharding.specs.placement.Place.{shardOf, minishardOf}
+use Rattle.shard.specs.index.Index.{entryStart, entryEnd, entryCount, idSteps, startSteps, sizes, idAt, startAt, endAt, chunkAt, mostShardBytes}
+use Rattle.mesh_manifest.specs.manifest.Soundness.{Sound}
+use Rattle.mesh_manifest.specs.nodes.Nodes.{fragmentsLength}
 use Rattle.shard.specs.Checks.{minishardChecks}
 use Rattle.shard.specs.File.{indexLength, indexPart, dataPart, fileChecks}
 

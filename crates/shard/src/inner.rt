@@ -6,7 +6,7 @@ ghost use lib.ListN.{length, take, drop};
 ghost use Rattle.sharding.specs.Specification.{allowed};
 ghost use Rattle.shard.specs.File.{indexLength};
 ghost use Rattle.shard.specs.Items.{leadLength, Led, MayLead};
-use nodes::inner::fragments_length;
+use mesh_manifest::nodes::inner::fragments_length;
 use sharding::Sharding;
 use sharding::inner::is_mesh;
 use sharding::inner::minishard_count;

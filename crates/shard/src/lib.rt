@@ -1,5 +1,10 @@
 // A shard: its layout, the leads of its chunks, its faults, what the whole-shard check answers.
+pub mod faults;
+pub mod index;
 pub mod inner;
+pub mod inspect;
+pub mod judge;
+pub mod manifests;
 
 // The fault of several minishards: of the first that has one.
 pub struct ShardFault {

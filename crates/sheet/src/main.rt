@@ -1,13 +1,16 @@
 // Reads shards from standard input and prints the holdings sheet over them: docs/SHEET.md fixes the input and the lines.
+pub mod inputend;
+pub mod turns;
+
 ghost use mathlib.Core.Path.{_≡_};
 ghost use Prim.Native.Nat.{_≤_};
 ghost use lib.ListN.{length};
-ghost use Rattle.shardsheet.specs.Sheet.{empty};
-ghost use Rattle.turns.specs.Turns.{headerBytes, mostBytes, TurnedBy, Turned, Told, Next, Finished};
+ghost use Rattle.holdings.specs.shardsheet.Sheet.{empty};
+ghost use Rattle.sheet.specs.turns.Turns.{headerBytes, mostBytes, TurnedBy, Turned, Told, Next, Finished};
+use crate::turns::Turn;
+use holdings::shardsheet::Sheet;
 use libc::STDIN_FILENO;
 use libc::STDOUT_FILENO;
-use shardsheet::Sheet;
-use turns::Turn;
 
 // ---- reading
 
@@ -17,7 +20,7 @@ fn read_body(sheet: Sheet, head: &[u8], body: &mut [u8]) -> Turn
     ensures { λ r. ⌜ TurnedBy sheet (now (head .entry)) (now (body .exit)) r ⌝ }
 {
     let got = io::read_full(STDIN_FILENO, body);
-    turns::turned(sheet, head, &body[..got])
+    crate::turns::turned(sheet, head, &body[..got])
 }
 
 // The next shard: its header, and as many bytes as that says.
@@ -26,7 +29,7 @@ fn read_next(sheet: Sheet, head: &mut [u8], body: &mut [u8]) -> Turn
     ensures { λ r. ⌜ Turned sheet (now (head .exit)) (now (body .entry)) (now (body .exit)) r ⌝ }
 {
     let got = io::read_full(STDIN_FILENO, head);
-    let n = turns::body_length(&head[..got]);
+    let n = crate::turns::body_length(&head[..got]);
     read_body(sheet, &head[..got], &mut body[..n])
 }
 
@@ -34,11 +37,11 @@ fn read_next(sheet: Sheet, head: &mut [u8], body: &mut [u8]) -> Turn
 fn tell(turn: Turn) -> Turn
     ensures { λ r. ⌜ Told turn r ⌝ }
 {
-    if !turns::stops_short(turn) {
+    if !crate::turns::stops_short(turn) {
         return turn;
     }
     let mut one = [0u8; 1];
-    turns::told(turn, libc::read(STDIN_FILENO, &mut one))
+    crate::turns::told(turn, libc::read(STDIN_FILENO, &mut one))
 }
 
 fn next(sheet: Sheet, head: &mut [u8; 17], body: &mut [u8; 65536]) -> Turn
@@ -80,10 +83,10 @@ fn add_all() -> Turn
     let mut body = [0u8; 65536];
     let mut at = Turn {
         sheet: empty(),
-        ending: turns::MORE,
+        ending: crate::turns::MORE,
     };
     let mut left = u64::MAX;
-    while left > 0 && at.ending == turns::MORE {
+    while left > 0 && at.ending == crate::turns::MORE {
         at = next(at.sheet, &mut head, &mut body);
         left -= 1;
     }
@@ -120,16 +123,16 @@ fn print_sheet(sheet: Sheet) {
 
 // Why the reading stopped, where that was not the input's end.
 fn print_ending(ending: u8) {
-    if ending == turns::CUT {
+    if ending == crate::turns::CUT {
         io::write_all(STDOUT_FILENO, b"cut\n");
     }
-    if ending == turns::LONG {
+    if ending == crate::turns::LONG {
         io::write_all(STDOUT_FILENO, b"too long\n");
     }
-    if ending == turns::FULL {
+    if ending == crate::turns::FULL {
         io::write_all(STDOUT_FILENO, b"refused 27\n");
     }
-    if ending == turns::UNREADABLE {
+    if ending == crate::turns::UNREADABLE {
         io::write_all(STDOUT_FILENO, b"unreadable\n");
     }
 }

@@ -7,40 +7,40 @@ use Rattle.refusal.specs.Choice.{pick}
 use Rattle.refusal.specs.Checks.{Refuses}
 use Rattle.refusal.specs.declared.Written.the-variants.{Refused}
 use Rattle.refusal.proofs.Refusing.{refuses, keeping}
-use Rattle.grid.specs.declared.Volume.{Volume}
-use Rattle.grid.specs.declared.Cell.{Cell}
-use Rattle.bounds.specs.declared.Point.{Point}
-use Rattle.grid.specs.declared.GridAnswer.the-variants as G
+use Rattle.morton.specs.declared.grid.Volume.{Volume}
+use Rattle.morton.specs.declared.grid.Cell.{Cell}
+use Rattle.morton.specs.declared.bounds.Point.{Point}
+use Rattle.morton.specs.declared.grid.GridAnswer.the-variants as G
 use Rattle.morton.specs.declared.KeyAnswer.the-variants as K
 use Rattle.morton.specs.declared.CellAnswer.the-variants as C
-use Rattle.bounds.specs.declared.BoundsAnswer.the-variants as B
-use Rattle.grid.specs.Answers.{gridChecks, gridAnswer}
+use Rattle.morton.specs.declared.bounds.BoundsAnswer.the-variants as B
+use Rattle.morton.specs.grid.Answers.{gridChecks, gridAnswer}
 use Rattle.morton.specs.Answers.{keyChecks, keyAnswer, cellChecks, cellAnswer}
-use Rattle.bounds.specs.Answers.{boundsChecks, boundsAnswer}
-use Rattle.batch.specs.Batch.{keysChecks, keysAnswer, keysLeft}
-use Rattle.overlap.specs.Cover.{coverChecks, coverAnswer, coverLeft}
+use Rattle.morton.specs.bounds.Answers.{boundsChecks, boundsAnswer}
+use Rattle.morton.specs.batch.Batch.{keysChecks, keysAnswer, keysLeft}
+use Rattle.cover.specs.overlap.Cover.{coverChecks, coverAnswer, coverLeft}
 use Rattle.sharding.specs.declared.Sharding.{Sharding}
-use Rattle.placement.specs.declared.PlaceAnswer.the-variants as P
-use Rattle.placement.specs.Place.{placeChecks, placeAnswer}
-use Rattle.manyplaces.specs.Batch.{placesChecks, placesAnswer, shardsLeft, minishardsLeft}
-use Rattle.chunknames.specs.Chunks.{chunkNameChecks, chunkNameAnswer, chunkNameLeft}
+use Rattle.sharding.specs.declared.placement.PlaceAnswer.the-variants as P
+use Rattle.sharding.specs.placement.Place.{placeChecks, placeAnswer}
+use Rattle.sharding.specs.manyplaces.Batch.{placesChecks, placesAnswer, shardsLeft, minishardsLeft}
+use Rattle.names.specs.chunknames.Chunks.{chunkNameChecks, chunkNameAnswer, chunkNameLeft}
 use Rattle.names.specs.Shards.{fileNameChecks, fileNameAnswer, fileNameLeft}
 use Rattle.names.specs.declared.FileKind.{FileKind}
 use Rattle.card.specs.declared.Card.{Card}
 use Rattle.card.specs.declared.CardAnswer.the-variants as D
 use Rattle.card.specs.Answers.{recordChecks, readChecks, readAnswer, writeChecks, writeAnswer, writeLeft}
-use Rattle.manifest.specs.declared.ManifestAnswer.the-variants as M
-use Rattle.manifestread.specs.declared.HeaderAnswer.the-variants as H
-use Rattle.manifestread.specs.declared.Field.the-variants as F
-use Rattle.layout.specs.Layout.{levelsOf, isReal, itemAt}
-use Rattle.layout.specs.Bits.{realAt}
-use Rattle.manifest.specs.Verdict.{manifestChecks, manifestAnswer}
-use Rattle.manifestread.specs.Fields.{headerAnswer, fieldAt, fieldChecks, fieldAnswer}
-use Rattle.nodes.specs.declared.NodeAnswer.the-variants as O
-use Rattle.nodes.specs.Nodes.{nodeChecks, nodeAnswer}
-use Rattle.levelnodes.specs.Level.{nodesChecks, nodesAnswer, nodesLeft}
-use Rattle.corners.specs.declared.CornersAnswer.the-variants as Cs
-use Rattle.corners.specs.Boxes.{boxChecks, cornersChecks, cornersAnswer}
+use Rattle.mesh_manifest.specs.declared.manifest.ManifestAnswer.the-variants as M
+use Rattle.mesh_manifest.specs.declared.manifestread.HeaderAnswer.the-variants as H
+use Rattle.mesh_manifest.specs.declared.manifestread.Field.the-variants as F
+use Rattle.mesh_manifest.specs.layout.Layout.{levelsOf, isReal, itemAt}
+use Rattle.mesh_manifest.specs.layout.Bits.{realAt}
+use Rattle.mesh_manifest.specs.manifest.Verdict.{manifestChecks, manifestAnswer}
+use Rattle.mesh_manifest.specs.manifestread.Fields.{headerAnswer, fieldAt, fieldChecks, fieldAnswer}
+use Rattle.mesh_manifest.specs.declared.nodes.NodeAnswer.the-variants as O
+use Rattle.mesh_manifest.specs.nodes.Nodes.{nodeChecks, nodeAnswer}
+use Rattle.mesh_manifest.specs.levelnodes.Level.{nodesChecks, nodesAnswer, nodesLeft}
+use Rattle.mesh_manifest.specs.declared.corners.CornersAnswer.the-variants as Cs
+use Rattle.mesh_manifest.specs.corners.Boxes.{boxChecks, cornersChecks, cornersAnswer}
 
 -- ---- grids, places and names
 

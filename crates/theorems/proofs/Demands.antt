@@ -11,29 +11,29 @@ use Rattle.shard.specs.File.{indexPart, dataPart}
 use Rattle.shard.proofs.Leads.{volume-leads}
 use Rattle.shard.proofs.Chunks.{same-listing-is-same-chunks}
 use Rattle.shard.proofs.Whole.{check-number, check-refuses, check-passes-sound, sound-passes-check, check-passes, check-names}
-use Rattle.ranges.specs.Covered.{fileUnlisted}
-use Rattle.ranges.proofs.Meaning.{none-unlisted}
+use Rattle.unlisted.specs.ranges.Covered.{fileUnlisted}
+use Rattle.unlisted.proofs.ranges.Meaning.{none-unlisted}
 use Rattle.unlisted.proofs.Counted.{unlisted-refuses}
 use Rattle.lookup.proofs.Refused.{lookup-refuses}
 use Rattle.lookup.proofs.Retrieval.{listed-chunk-is-handed-out, twelve-means-not-listed}
 use Rattle.lookup.proofs.Depends.{lookup-depends-only-on-these}
-use Rattle.fragment.proofs.Refused.{fragment-refuses}
-use Rattle.fragment.proofs.Retrieval.{listed-fragment-is-handed-out, lead-length, fragments-are-the-lead}
-use Rattle.fragment.proofs.Lacking.{eighteen-means-no-fragment, others-are-the-lookups}
-use Rattle.fragment.proofs.Depends.{fragment-depends-only-on-these}
-use Rattle.listing.proofs.Refused.{count-refuses, listing-refuses, listing-kept}
-use Rattle.listing.proofs.Listed.{listing-says-what-is-listed}
-use Rattle.form.proofs.Demand3.{file-form-length, demand-3-one-form, demand-3-same, demand-3-form-passes, demand-3-form-lists}
-use Rattle.settleanswers.specs.declared.SettleAnswer.the-variants.{Length}
+use Rattle.lookup.proofs.fragment.Refused.{fragment-refuses}
+use Rattle.lookup.proofs.fragment.Retrieval.{listed-fragment-is-handed-out, lead-length, fragments-are-the-lead}
+use Rattle.lookup.proofs.fragment.Lacking.{eighteen-means-no-fragment, others-are-the-lookups}
+use Rattle.lookup.proofs.fragment.Depends.{fragment-depends-only-on-these}
+use Rattle.lookup.proofs.listing.Refused.{count-refuses, listing-refuses, listing-kept}
+use Rattle.lookup.proofs.listing.Listed.{listing-says-what-is-listed}
+use Rattle.settled_form.proofs.form.Demand3.{file-form-length, demand-3-one-form, demand-3-same, demand-3-form-passes, demand-3-form-lists}
+use Rattle.settle.specs.declared.settleanswers.SettleAnswer.the-variants.{Length}
 use Rattle.settle.proofs.Refused.{length-refuses, settle-refuses, settle-kept}
 use Rattle.settle.proofs.Demand3.{demand-3-form-settles, demand-3-length, demand-3-length-refused, demand-3-refused, demand-3-written}
-use Rattle.seam.proofs.Ranges.{range-refuses}
-use Rattle.pair.proofs.Laws.{check-refuses-pair, lookup-refuses-pair, fragment-refuses-pair}
-use Rattle.pairform.proofs.Laws.{count-refuses-pair, listing-refuses-pair, listing-kept-pair, unlisted-refuses-pair, length-refuses-pair, settle-refuses-pair, settle-kept-pair}
+use Rattle.split_shard.proofs.seam.Ranges.{range-refuses}
+use Rattle.split_shard.proofs.pair.Laws.{check-refuses-pair, lookup-refuses-pair, fragment-refuses-pair}
+use Rattle.split_shard.proofs.pairform.Laws.{count-refuses-pair, listing-refuses-pair, listing-kept-pair, unlisted-refuses-pair, length-refuses-pair, settle-refuses-pair, settle-kept-pair}
 use Rattle.intake.proofs.Refused.{open-refuses, open-keeps, announce-refuses, announce-keeps, part-refuses, part-keeps, close-refuses, close-keeps}
 use Rattle.card.proofs.Meaning.{one-meaning-one-card}
-use Rattle.document.proofs.Meaning.{meaning}
-use Rattle.levelnodes.proofs.Each.{node-numbers}
+use Rattle.info.proofs.document.Meaning.{meaning}
+use Rattle.mesh_manifest.proofs.levelnodes.Each.{node-numbers}
 use Rattle.theorems.specs.Demands.{Demand1, Demand2, Ready, Demand3}
 use Rattle.theorems.proofs.Measures.{measure-refuses, measure-names, measure-refuses-pair, add-refuses, add-pair-refuses, join-refuses}
 use Rattle.theorems.proofs.Calls.{grid-refuses, key-refuses, keys-refuses, keys-kept, cover-refuses, cover-kept, cell-refuses, bounds-refuses, chunk-name-refuses, chunk-name-kept, place-refuses, places-refuses, places-kept, file-name-refuses, file-name-kept, card-read-refuses, card-write-refuses, card-kept, manifest-refuses, header-refuses, field-refuses, node-refuses, nodes-refuses, nodes-kept, corners-refuses}

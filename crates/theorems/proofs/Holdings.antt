@@ -10,17 +10,17 @@ use borrow.Author.Tests.{ltb-false, le-ltb, ne-eqb}
 use lib.ListN.{length, getD}
 use Rattle.refusal.specs.Choice.{pick}
 use Rattle.refusal.proofs.Tests.{neither}
-use Rattle.ids.proofs.Cases.{eq-or-not}
+use Rattle.duplicate_ids.proofs.ids.Cases.{eq-or-not}
 use Rattle.shard.specs.declared.CheckAnswer.{CheckAnswer}
 use Rattle.shard.specs.declared.CheckAnswer.the-variants.{Sound, Refused, Faulty}
-use Rattle.measure.specs.declared.Counts.{Counts}
-use Rattle.chunksums.specs.Totals.{mostTotal, passes}
-use Rattle.shardsheet.specs.declared.Sheet.{Sheet}
+use Rattle.holdings.specs.declared.measure.Counts.{Counts}
+use Rattle.holdings.specs.chunksums.Totals.{mostTotal, passes}
+use Rattle.holdings.specs.declared.shardsheet.Sheet.{Sheet}
 use Rattle.holdings.specs.declared.SheetAnswer.the-variants.{Total, Refused as SheetRefused}
-use Rattle.shardsheet.specs.Sheet.{rows, empty, tally, soundSheet, refusedSheet, shardSheet, numbers, isAmong, hasRow}
-use Rattle.sheettotals.specs.Totals.{anyPasses, both}
+use Rattle.holdings.specs.shardsheet.Sheet.{rows, empty, tally, soundSheet, refusedSheet, shardSheet, numbers, isAmong, hasRow}
+use Rattle.holdings.specs.sheettotals.Totals.{anyPasses, both}
 use Rattle.holdings.specs.Answers.{joinAnswer, sheetOf, addAnswer, pairSheet, pairAddAnswer}
-use Rattle.shardsheet.proofs.Numbers.{Told, check-told, pair-told}
+use Rattle.holdings.proofs.shardsheet.Numbers.{Told, check-told, pair-told}
 use Rattle.holdings.proofs.Answered.{join-pick}
 use Rattle.theorems.specs.Holdings.{Holding, oneFile, twoFiles, verdictOn, countsOf, addOne, keptBy, addAll, NoneRefused, isSound, isRefusedWith, howMany, sumOver, sheetOver, Within, Reordered, none, first, swapped, then, shardsOn, Order13}
 

@@ -14,16 +14,16 @@ use Rattle.refusal.specs.declared.Written.the-variants.{Length, Refused}
 use Rattle.refusal.proofs.Refusing.{refuses, keeping, by-none}
 use Rattle.endian.specs.Little.{le, leAt}
 use Rattle.endian.specs.Range.{anyBelow}
-use Rattle.grid.specs.Grid.{gridSize, hasZero}
-use Rattle.segmentation.specs.declared.Shape.{Shape}
-use Rattle.segmentation.specs.declared.LabelAnswer.the-variants.{Refused as Unlabelled}
-use Rattle.segmentation.specs.Words.{word, whole}
-use Rattle.segmentation.specs.Layout.{noVoxels, outside, blockNumber, placeNumber, isWidth}
-use Rattle.segmentation.specs.Labels.{valueIn, labelAt, otherWidth, cutOff, labelChecks, labelAnswer}
-use Rattle.packed.specs.Voxels.{someRefused}
-use Rattle.rawform.specs.Raw.{joined, rawVoxel, rawRow, rawLayer, rawChannel, rawForm, unpackChecks, unpackAnswer, unpackLeft, unpackedBytes, lengthChecks, lengthAnswer}
-use Rattle.unpack.proofs.Laws.{equals-asking, refuses-by-voxels, length-none, refused-number}
-use Rattle.rawform.proofs.Lengths.{form-bytes}
+use Rattle.morton.specs.grid.Grid.{gridSize, hasZero}
+use Rattle.compressed_segmentation.specs.declared.segmentation.Shape.{Shape}
+use Rattle.compressed_segmentation.specs.declared.segmentation.LabelAnswer.the-variants.{Refused as Unlabelled}
+use Rattle.compressed_segmentation.specs.segmentation.Words.{word, whole}
+use Rattle.compressed_segmentation.specs.segmentation.Layout.{noVoxels, outside, blockNumber, placeNumber, isWidth}
+use Rattle.compressed_segmentation.specs.segmentation.Labels.{valueIn, labelAt, otherWidth, cutOff, labelChecks, labelAnswer}
+use Rattle.compressed_segmentation.specs.packed.Voxels.{someRefused}
+use Rattle.compressed_segmentation.specs.rawform.Raw.{joined, rawVoxel, rawRow, rawLayer, rawChannel, rawForm, unpackChecks, unpackAnswer, unpackLeft, unpackedBytes, lengthChecks, lengthAnswer}
+use Rattle.compressed_segmentation.proofs.unpack.Laws.{equals-asking, refuses-by-voxels, length-none, refused-number}
+use Rattle.compressed_segmentation.proofs.rawform.Lengths.{form-bytes}
 use Rattle.theorems.specs.Labels.{workedShape, workedChunk, zeros, workedRaw, Order14}
 
 label-refuses : (s : List ℕ) (sh : Shape) (x y z c : ℕ) → Refuses (labelAnswer s sh x y z c) Unlabelled (labelChecks s sh x y z c)

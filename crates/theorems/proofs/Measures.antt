@@ -15,17 +15,17 @@ use Rattle.shard.specs.File.{indexPart, dataPart, fileChecks, shardChecks, chec
 use Rattle.shard.specs.Sound.{FirstFaultIs}
 use Rattle.shard.proofs.Numbers.{shard-in, shard-answer}
 use Rattle.shard.proofs.Whole.{check-names}
-use Rattle.seam.specs.Pair.{pairChecks, pairAnswer}
-use Rattle.seam.proofs.Pairs.{checks-seamed, seamed-front, seamed-back}
-use Rattle.seam.proofs.Refusals.{pair-refuses-at}
-use Rattle.pair.specs.Answers.{pairCheck}
-use Rattle.measure.specs.declared.MeasureAnswer.{MeasureAnswer}
-use Rattle.measure.specs.declared.MeasureAnswer.the-variants.{Sound, Refused, Faulty}
-use Rattle.measure.specs.Measures.{chunkBytes, fileMeasure}
-use Rattle.chunksums.specs.Totals.{passes}
-use Rattle.measure.specs.Answers.{measuredIn, afterVerdict, measureAnswer, pairMeasure}
-use Rattle.measure.proofs.Answered.{measure-faulty, named-fault}
-use Rattle.shardsheet.specs.declared.Sheet.{Sheet}
+use Rattle.split_shard.specs.seam.Pair.{pairChecks, pairAnswer}
+use Rattle.split_shard.proofs.seam.Pairs.{checks-seamed, seamed-front, seamed-back}
+use Rattle.split_shard.proofs.seam.Refusals.{pair-refuses-at}
+use Rattle.split_shard.specs.pair.Answers.{pairCheck}
+use Rattle.holdings.specs.declared.measure.MeasureAnswer.{MeasureAnswer}
+use Rattle.holdings.specs.declared.measure.MeasureAnswer.the-variants.{Sound, Refused, Faulty}
+use Rattle.holdings.specs.measure.Measures.{chunkBytes, fileMeasure}
+use Rattle.holdings.specs.chunksums.Totals.{passes}
+use Rattle.holdings.specs.measure.Answers.{measuredIn, afterVerdict, measureAnswer, pairMeasure}
+use Rattle.holdings.proofs.measure.Answered.{measure-faulty, named-fault}
+use Rattle.holdings.specs.declared.shardsheet.Sheet.{Sheet}
 use Rattle.holdings.specs.declared.SheetAnswer.the-variants as Sh
 use Rattle.holdings.specs.Answers.{joinAnswer, sheetOf, addAnswer, pairSheet, pairAddAnswer}
 use Rattle.theorems.specs.Demands.{measureChecks, faultyAt, joinChecks}

@@ -11,8 +11,8 @@ use Rattle.refusal.specs.Buffer.{room}
 use Rattle.endian.specs.Little.{le}
 use Rattle.sharding.specs.declared.Sharding.{Sharding}
 use Rattle.sharding.specs.Specification.{mesh, minishardBits, allowed, noSuchShard}
-use Rattle.placement.specs.Place.{placeChecks}
-use Rattle.manyplaces.specs.Batch.{shardsOf, minishardsOf, placesChecks}
+use Rattle.sharding.specs.placement.Place.{placeChecks}
+use Rattle.sharding.specs.manyplaces.Batch.{shardsOf, minishardsOf, placesChecks}
 use Rattle.sharding.specs.Before.{allowedBefore}
 use Rattle.sharding.proofs.Allowed.{allowed-within}
 use Rattle.sharding.proofs.Before.{same-before}
@@ -22,25 +22,25 @@ use Rattle.card.specs.declared.Card.{Card}
 use Rattle.card.specs.declared.CardAnswer.the-variants.{Says, Refused}
 use Rattle.card.specs.Layout.{head, field, oneByte, shardingBytes, volumeBytes, kindBytes, cardBytes}
 use Rattle.card.specs.Answers.{writeLeft}
-use Rattle.oldcards.specs.Before.{cardBytesBeforeMesh}
-use Rattle.oldcards.proofs.Before.{same-bytes, same-record, mesh-card-is-14, other-before-mesh, new-card-is-1, other-bytes-same, written-mesh-is-14, written-is-new}
-use Rattle.document.proofs.Meaning.{meaning}
-use Rattle.manifests.specs.Mesh.{manifestTests}
+use Rattle.card.specs.oldcards.Before.{cardBytesBeforeMesh}
+use Rattle.card.proofs.oldcards.Before.{same-bytes, same-record, mesh-card-is-14, other-before-mesh, new-card-is-1, other-bytes-same, written-mesh-is-14, written-is-new}
+use Rattle.info.proofs.document.Meaning.{meaning}
+use Rattle.shard.specs.manifests.Mesh.{manifestTests}
 use Rattle.shard.specs.Faults.{entryTests}
 use Rattle.shard.proofs.Leads.{volume-leads, mesh-leads}
 use Rattle.shard.proofs.Earlier.{earlier-sound, earlier-passes}
-use Rattle.form.proofs.Earlier.{earlier-form, volume-form}
-use Rattle.ranges.specs.Ranges.{Unlisted}
-use Rattle.ranges.specs.Covered.{unlistedBytes, fileUnlisted}
-use Rattle.ranges.proofs.Meaning.{missed-unlisted, none-unlisted}
+use Rattle.settled_form.proofs.form.Earlier.{earlier-form, volume-form}
+use Rattle.unlisted.specs.ranges.Ranges.{Unlisted}
+use Rattle.unlisted.specs.ranges.Covered.{unlistedBytes, fileUnlisted}
+use Rattle.unlisted.proofs.ranges.Meaning.{missed-unlisted, none-unlisted}
 use Rattle.unlisted.proofs.Counted.{unlisted-sound}
-use Rattle.shortest.proofs.Listed.{form-listed}
-use Rattle.settleanswers.specs.Answers.{losesBytes, unlistedCheck, lengthCheck, lengthChecks, lengthAnswer, settleCheck, settleChecks, settleAnswer, settleLeft}
-use Rattle.settleanswers.proofs.Answered.{length-lost, answer-lost, left-lost}
+use Rattle.settled_form.proofs.shortest.Listed.{form-listed}
+use Rattle.settle.specs.settleanswers.Answers.{losesBytes, unlistedCheck, lengthCheck, lengthChecks, lengthAnswer, settleCheck, settleChecks, settleAnswer, settleLeft}
+use Rattle.settle.proofs.settleanswers.Answered.{length-lost, answer-lost, left-lost}
 use Rattle.settle.proofs.Demand3.{demand-3-written}
-use Rattle.batch.proofs.Each.{keys-of-each}
-use Rattle.scan.proofs.Laws as S
-use Rattle.overlap.proofs.Laws.{listed-is, cell-listed, keys-rise, reversed-lists-none, outside-lists-none, keys-written}
+use Rattle.morton.proofs.batch.Each.{keys-of-each}
+use Rattle.morton.proofs.scan.Laws as S
+use Rattle.cover.proofs.overlap.Laws.{listed-is, cell-listed, keys-rise, reversed-lists-none, outside-lists-none, keys-written}
 use Rattle.positions.proofs.Points.{check-points, lookup-points, fragment-points, count-points, listing-points, unlisted-named, length-named, settle-named}
 use Rattle.theorems.specs.Orders.{Order2, Order4, Order5, Order6, Order7, settleChecksBefore, lengthChecksBefore, Order8, Order9}
 

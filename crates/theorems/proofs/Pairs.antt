@@ -1,7 +1,7 @@
 -- Order 10's promises, from the crates' laws.
-use Rattle.seam.proofs.Ranges.{range-in-index, range-in-data, range-joined}
-use Rattle.pair.proofs.Laws.{sound-seamed, check-as-joined, lookup-as-joined, fragment-as-joined}
-use Rattle.pairform.proofs.Laws.{count-as-joined, listing-as-joined, unlisted-as-joined, length-as-joined, settle-as-joined}
+use Rattle.split_shard.proofs.seam.Ranges.{range-in-index, range-in-data, range-joined}
+use Rattle.split_shard.proofs.pair.Laws.{sound-seamed, check-as-joined, lookup-as-joined, fragment-as-joined}
+use Rattle.split_shard.proofs.pairform.Laws.{count-as-joined, listing-as-joined, unlisted-as-joined, length-as-joined, settle-as-joined}
 use Rattle.theorems.specs.Pairs.{Order10}
 
 pub order-10 : Order10

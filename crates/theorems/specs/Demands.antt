@@ -10,88 +10,88 @@ use Rattle.refusal.specs.Checks.{Check, check, firstNumber, refusal, Refuses, R
 use Rattle.refusal.specs.Buffer.{over}
 use Rattle.refusal.specs.declared.Written.the-variants.{Refused}
 use Rattle.endian.specs.Place.{Holds}
-use Rattle.grid.specs.declared.Volume.{Volume}
-use Rattle.grid.specs.declared.Cell.{Cell}
-use Rattle.bounds.specs.declared.Point.{Point}
-use Rattle.grid.specs.declared.GridAnswer.the-variants as G
+use Rattle.morton.specs.declared.grid.Volume.{Volume}
+use Rattle.morton.specs.declared.grid.Cell.{Cell}
+use Rattle.morton.specs.declared.bounds.Point.{Point}
+use Rattle.morton.specs.declared.grid.GridAnswer.the-variants as G
 use Rattle.morton.specs.declared.KeyAnswer.the-variants as K
 use Rattle.morton.specs.declared.CellAnswer.the-variants as C
-use Rattle.bounds.specs.declared.BoundsAnswer.the-variants as B
-use Rattle.grid.specs.Grid.{gridOf, InU32}
+use Rattle.morton.specs.declared.bounds.BoundsAnswer.the-variants as B
+use Rattle.morton.specs.grid.Grid.{gridOf, InU32}
 use Rattle.morton.specs.Key.{keyBits, keyOf}
-use Rattle.grid.specs.Answers.{noCell, gridChecks, gridAnswer}
+use Rattle.morton.specs.grid.Answers.{noCell, gridChecks, gridAnswer}
 use Rattle.morton.specs.Answers.{keyChecks, keyAnswer, cellChecks, cellAnswer}
-use Rattle.bounds.specs.Answers.{boundsChecks, boundsAnswer}
-use Rattle.batch.specs.Batch.{keysChecks, keysAnswer, keysLeft}
-use Rattle.overlap.specs.Cover.{coverChecks, coverAnswer, coverLeft}
+use Rattle.morton.specs.bounds.Answers.{boundsChecks, boundsAnswer}
+use Rattle.morton.specs.batch.Batch.{keysChecks, keysAnswer, keysLeft}
+use Rattle.cover.specs.overlap.Cover.{coverChecks, coverAnswer, coverLeft}
 use Rattle.sharding.specs.declared.Sharding.{Sharding}
-use Rattle.placement.specs.declared.PlaceAnswer.the-variants as P
+use Rattle.sharding.specs.declared.placement.PlaceAnswer.the-variants as P
 use Rattle.sharding.specs.Specification.{isMesh, noSuchShard}
-use Rattle.placement.specs.Place.{minishardOf, placeChecks, placeAnswer}
-use Rattle.manyplaces.specs.Batch.{placesChecks, placesAnswer, shardsLeft, minishardsLeft}
-use Rattle.chunknames.specs.Chunks.{chunkNameChecks, chunkNameAnswer, chunkNameLeft}
+use Rattle.sharding.specs.placement.Place.{minishardOf, placeChecks, placeAnswer}
+use Rattle.sharding.specs.manyplaces.Batch.{placesChecks, placesAnswer, shardsLeft, minishardsLeft}
+use Rattle.names.specs.chunknames.Chunks.{chunkNameChecks, chunkNameAnswer, chunkNameLeft}
 use Rattle.names.specs.Shards.{fileNameChecks, fileNameAnswer, fileNameLeft}
 use Rattle.names.specs.declared.FileKind.{FileKind}
 use Rattle.shard.specs.declared.CheckAnswer.the-variants.{Sound, Faulty, Refused as CheckRefused}
-use Rattle.index.specs.Index.{mostShardBytes}
+use Rattle.shard.specs.index.Index.{mostShardBytes}
 use Rattle.shard.specs.Faults.{shardFault}
 use Rattle.shard.specs.File.{indexLength, indexPart, dataPart, fileChecks, shardChecks, checkAnswer, checkNumber}
 use Rattle.shard.specs.Sound.{SoundMinishard, SoundShard, FirstFaultIs}
 use Rattle.shard.specs.Items.{Item}
 use Rattle.shard.specs.Lists.{ListsAt, ListsIn, ListsItem, SameListing, SameChunks}
-use Rattle.ranges.specs.Ranges.{Unlisted}
+use Rattle.unlisted.specs.ranges.Ranges.{Unlisted}
 use Rattle.unlisted.specs.declared.UnlistedAnswer.the-variants as U
 use Rattle.unlisted.specs.Answers.{unlistedAnswer}
-use Rattle.idsearch.specs.declared.LookupAnswer.the-variants as L
+use Rattle.lookup.specs.declared.idsearch.LookupAnswer.the-variants as L
 use Rattle.lookup.specs.Find.{lookupChecks, lookupAnswer}
 use Rattle.lookup.specs.Lookups.{Asked, HandsOut, AgreeFor, SameAnswer}
-use Rattle.fragment.specs.Fragment.{fragmentChecks, fragmentAnswer}
-use Rattle.fragment.specs.Fragments.{HandsOutFragment, LacksFragment, SameFragment}
-use Rattle.listing.specs.declared.CountAnswer.the-variants as N
-use Rattle.listing.specs.Listing.{listingOf, countChecks, countAnswer, listingChecks, listingAnswer, listingLeft}
-use Rattle.listing.specs.Triples.{Says}
-use Rattle.form.specs.Content.{fileForm, fileFormLength}
-use Rattle.settleanswers.specs.declared.SettleAnswer.the-variants as S
-use Rattle.settleanswers.specs.Answers.{lengthChecks, lengthAnswer, settleChecks, settleAnswer, settleLeft}
-use Rattle.seam.specs.Pair.{pairChecks}
-use Rattle.heldrange.specs.declared.RangeAnswer.the-variants as R
-use Rattle.seam.specs.Range.{rangeChecks, rangeAnswer}
-use Rattle.pair.specs.Answers.{otherShard, pairCheck, pairLookup, pairFragment}
-use Rattle.pairform.specs.Answers.{noMinishard, pairCount, pairListing, pairListingLeft, pairUnlisted, pairLength, pairSettle, pairSettleLeft}
-use Rattle.intakestate.specs.declared.Intake.{Intake}
-use Rattle.admission.specs.Refusals.{openChecks, announceChecks, partChecks, closeChecks}
+use Rattle.lookup.specs.fragment.Fragment.{fragmentChecks, fragmentAnswer}
+use Rattle.lookup.specs.fragment.Fragments.{HandsOutFragment, LacksFragment, SameFragment}
+use Rattle.lookup.specs.declared.listing.CountAnswer.the-variants as N
+use Rattle.lookup.specs.listing.Listing.{listingOf, countChecks, countAnswer, listingChecks, listingAnswer, listingLeft}
+use Rattle.lookup.specs.listing.Triples.{Says}
+use Rattle.settled_form.specs.form.Content.{fileForm, fileFormLength}
+use Rattle.settle.specs.declared.settleanswers.SettleAnswer.the-variants as S
+use Rattle.settle.specs.settleanswers.Answers.{lengthChecks, lengthAnswer, settleChecks, settleAnswer, settleLeft}
+use Rattle.split_shard.specs.seam.Pair.{pairChecks}
+use Rattle.split_shard.specs.declared.heldrange.RangeAnswer.the-variants as R
+use Rattle.split_shard.specs.seam.Range.{rangeChecks, rangeAnswer}
+use Rattle.split_shard.specs.pair.Answers.{otherShard, pairCheck, pairLookup, pairFragment}
+use Rattle.split_shard.specs.pairform.Answers.{noMinishard, pairCount, pairListing, pairListingLeft, pairUnlisted, pairLength, pairSettle, pairSettleLeft}
+use Rattle.intake.specs.declared.intakestate.Intake.{Intake}
+use Rattle.intake.specs.admission.Refusals.{openChecks, announceChecks, partChecks, closeChecks}
 use Rattle.intake.specs.declared.IntakeAnswer.the-variants as I
 use Rattle.intake.specs.declared.CloseAnswer.the-variants as X
 use Rattle.intake.specs.Calls.{openAnswer, openLeft, announceAnswer, announceLeft, announceWaiting, partAnswer, partLeft, closeAnswer, closeLeft}
-use Rattle.measure.specs.declared.MeasureAnswer.{MeasureAnswer}
-use Rattle.measure.specs.declared.MeasureAnswer.the-variants as Ms
-use Rattle.measure.specs.Measures.{chunkBytes}
-use Rattle.chunksums.specs.Totals.{passes}
-use Rattle.measure.specs.Answers.{measureAnswer, pairMeasure}
-use Rattle.shardsheet.specs.declared.Sheet.{Sheet}
+use Rattle.holdings.specs.declared.measure.MeasureAnswer.{MeasureAnswer}
+use Rattle.holdings.specs.declared.measure.MeasureAnswer.the-variants as Ms
+use Rattle.holdings.specs.measure.Measures.{chunkBytes}
+use Rattle.holdings.specs.chunksums.Totals.{passes}
+use Rattle.holdings.specs.measure.Answers.{measureAnswer, pairMeasure}
+use Rattle.holdings.specs.declared.shardsheet.Sheet.{Sheet}
 use Rattle.holdings.specs.declared.SheetAnswer.the-variants as Sh
-use Rattle.shardsheet.specs.Sheet.{rows}
-use Rattle.sheettotals.specs.Totals.{anyPasses, both}
+use Rattle.holdings.specs.shardsheet.Sheet.{rows}
+use Rattle.holdings.specs.sheettotals.Totals.{anyPasses, both}
 use Rattle.holdings.specs.Answers.{joinAnswer, sheetOf, addAnswer, pairSheet, pairAddAnswer}
 use Rattle.card.specs.declared.Card.{Card}
 use Rattle.card.specs.declared.CardAnswer.the-variants as D
 use Rattle.card.specs.Answers.{readChecks, readAnswer, writeChecks, writeAnswer, writeLeft}
 use Rattle.card.specs.Meaning.{OneCard}
 use Rattle.info.specs.Answers.{infoChecks, infoAnswer}
-use Rattle.document.specs.Meaning.{InfoMeaning}
-use Rattle.manifest.specs.declared.ManifestAnswer.the-variants as M
-use Rattle.manifestread.specs.declared.HeaderAnswer.the-variants as H
-use Rattle.manifestread.specs.declared.Field.the-variants as F
-use Rattle.layout.specs.Layout.{countOf}
-use Rattle.manifest.specs.Verdict.{manifestChecks, manifestAnswer}
-use Rattle.manifestread.specs.Fields.{headerAnswer, fieldChecks, fieldAnswer}
-use Rattle.nodes.specs.declared.NodeAnswer.the-variants as O
-use Rattle.nodes.specs.Run.{fragmentOf, joined}
-use Rattle.nodes.specs.Nodes.{hasNode, fragmentsLength, nodeAt, nodeChecks, nodeAnswer}
-use Rattle.nodenumbers.specs.Numbers.{numbersOf, nodesOf}
-use Rattle.levelnodes.specs.Level.{nodesChecks, nodesAnswer, nodesLeft}
-use Rattle.corners.specs.declared.CornersAnswer.the-variants as Cs
-use Rattle.corners.specs.Boxes.{cornersChecks, cornersAnswer}
+use Rattle.info.specs.document.Meaning.{InfoMeaning}
+use Rattle.mesh_manifest.specs.declared.manifest.ManifestAnswer.the-variants as M
+use Rattle.mesh_manifest.specs.declared.manifestread.HeaderAnswer.the-variants as H
+use Rattle.mesh_manifest.specs.declared.manifestread.Field.the-variants as F
+use Rattle.mesh_manifest.specs.layout.Layout.{countOf}
+use Rattle.mesh_manifest.specs.manifest.Verdict.{manifestChecks, manifestAnswer}
+use Rattle.mesh_manifest.specs.manifestread.Fields.{headerAnswer, fieldChecks, fieldAnswer}
+use Rattle.mesh_manifest.specs.declared.nodes.NodeAnswer.the-variants as O
+use Rattle.mesh_manifest.specs.nodes.Run.{fragmentOf, joined}
+use Rattle.mesh_manifest.specs.nodes.Nodes.{hasNode, fragmentsLength, nodeAt, nodeChecks, nodeAnswer}
+use Rattle.mesh_manifest.specs.nodenumbers.Numbers.{numbersOf, nodesOf}
+use Rattle.mesh_manifest.specs.levelnodes.Level.{nodesChecks, nodesAnswer, nodesLeft}
+use Rattle.mesh_manifest.specs.declared.corners.CornersAnswer.the-variants as Cs
+use Rattle.mesh_manifest.specs.corners.Boxes.{cornersChecks, cornersAnswer}
 
 -- ---- Demand 1
 

@@ -11,14 +11,14 @@ use Rattle.sharding.specs.declared.Sharding.{Sharding}
 use Rattle.shard.specs.declared.CheckAnswer.{CheckAnswer}
 use Rattle.shard.specs.declared.CheckAnswer.the-variants.{Sound, Refused, Faulty}
 use Rattle.shard.specs.File.{checkAnswer}
-use Rattle.pair.specs.Answers.{pairCheck}
-use Rattle.measure.specs.declared.Counts.{Counts}
-use Rattle.measure.specs.Measures.{measureOf, fileMeasure}
-use Rattle.shardsheet.specs.declared.Sheet.{Sheet}
+use Rattle.split_shard.specs.pair.Answers.{pairCheck}
+use Rattle.holdings.specs.declared.measure.Counts.{Counts}
+use Rattle.holdings.specs.measure.Measures.{measureOf, fileMeasure}
+use Rattle.holdings.specs.declared.shardsheet.Sheet.{Sheet}
 use Rattle.holdings.specs.declared.SheetAnswer.{SheetAnswer}
 use Rattle.holdings.specs.declared.SheetAnswer.the-variants.{Total, Refused as SheetRefused}
-use Rattle.shardsheet.specs.Sheet.{rows, empty}
-use Rattle.sheettotals.specs.Totals.{anyPasses, both}
+use Rattle.holdings.specs.shardsheet.Sheet.{rows, empty}
+use Rattle.holdings.specs.sheettotals.Totals.{anyPasses, both}
 use Rattle.holdings.specs.Answers.{joinAnswer, addAnswer, pairAddAnswer}
 
 -- ---- shards, "with specification and number each"

@@ -6,12 +6,12 @@ use mathlib.Core.List.{List, [], _∷_}
 use lib.ListN.{length, drop}
 use Rattle.refusal.specs.Checks.{Refuses}
 use Rattle.refusal.specs.declared.Written.the-variants.{Length, Refused}
-use Rattle.grid.specs.declared.Extents.{Extents}
-use Rattle.segmentation.specs.declared.Shape.{Shape}
-use Rattle.segmentation.specs.declared.LabelAnswer.the-variants.{Refused as Unlabelled}
-use Rattle.segmentation.specs.Labels.{labelChecks, labelAnswer}
-use Rattle.rawform.specs.Raw.{unpackChecks, unpackAnswer, unpackLeft, lengthChecks, lengthAnswer}
-use Rattle.unpack.specs.Meaning.{EqualsAsking, RefusesByVoxels}
+use Rattle.morton.specs.declared.grid.Extents.{Extents}
+use Rattle.compressed_segmentation.specs.declared.segmentation.Shape.{Shape}
+use Rattle.compressed_segmentation.specs.declared.segmentation.LabelAnswer.the-variants.{Refused as Unlabelled}
+use Rattle.compressed_segmentation.specs.segmentation.Labels.{labelChecks, labelAnswer}
+use Rattle.compressed_segmentation.specs.rawform.Raw.{unpackChecks, unpackAnswer, unpackLeft, lengthChecks, lengthAnswer}
+use Rattle.compressed_segmentation.specs.unpack.Meaning.{EqualsAsking, RefusesByVoxels}
 
 -- ---- the chunk that the format's description works by hand
 

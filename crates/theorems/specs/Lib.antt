@@ -1,3 +1,5 @@
+pub mod cases
+pub mod meshcases
 pub mod Demands
 pub mod Orders
 pub mod Pairs

@@ -8,56 +8,56 @@ use lib.ListN.{length, take, getD}
 use Rattle.refusal.specs.Checks.{Check, check, left, answeredAt}
 use Rattle.refusal.specs.Buffer.{over, room}
 use Rattle.refusal.specs.declared.Written.the-variants.{Length}
-use Rattle.grid.specs.declared.Cell.{Cell}
-use Rattle.grid.specs.declared.Extents.{Extents}
-use Rattle.bounds.specs.declared.Point.{Point}
-use Rattle.grid.specs.declared.Volume.{Volume}
+use Rattle.morton.specs.declared.grid.Cell.{Cell}
+use Rattle.morton.specs.declared.grid.Extents.{Extents}
+use Rattle.morton.specs.declared.bounds.Point.{Point}
+use Rattle.morton.specs.declared.grid.Volume.{Volume}
 use Rattle.morton.specs.declared.KeyAnswer.the-variants.{Key}
-use Rattle.grid.specs.Grid.{gridOf, zeroExtent, InU32}
+use Rattle.morton.specs.grid.Grid.{gridOf, zeroExtent, InU32}
 use Rattle.morton.specs.Key.{tooManyBits, keyOf, cellOf, isKey}
 use Rattle.morton.specs.Answers.{keyAnswer}
-use Rattle.batch.specs.Batch.{eachInGrid, keysOf, keysAnswer, keysLeft}
-use Rattle.spread.specs.Spread.{Spreads, Placed}
-use Rattle.keyplan.specs.Parts.{lowKey, restKey, Shared}
-use Rattle.cellrows.specs.Row.{rowOf}
-use Rattle.overlap.specs.Cover.{coverKeys, coverAnswer, coverLeft}
-use Rattle.overlap.specs.Meaning.{SharesVoxel, RisingFrom, reversed, outside}
+use Rattle.morton.specs.batch.Batch.{eachInGrid, keysOf, keysAnswer, keysLeft}
+use Rattle.morton.specs.spread.Spread.{Spreads, Placed}
+use Rattle.morton.specs.keyplan.Parts.{lowKey, restKey, Shared}
+use Rattle.morton.specs.cellrows.Row.{rowOf}
+use Rattle.cover.specs.overlap.Cover.{coverKeys, coverAnswer, coverLeft}
+use Rattle.cover.specs.overlap.Meaning.{SharesVoxel, RisingFrom, reversed, outside}
 use Rattle.sharding.specs.declared.Sharding.{Sharding}
 use Rattle.sharding.specs.Specification.{volume, mesh, isMesh, minishardBits, allowed, noSuchShard}
-use Rattle.placement.specs.Place.{minishardOf, placeChecks}
-use Rattle.manyplaces.specs.Batch.{shardsOf, minishardsOf, placesChecks}
+use Rattle.sharding.specs.placement.Place.{minishardOf, placeChecks}
+use Rattle.sharding.specs.manyplaces.Batch.{shardsOf, minishardsOf, placesChecks}
 use Rattle.sharding.specs.Before.{mostMinishardBitsBefore, allowedBefore}
 use Rattle.names.specs.Shards.{shardName, shardNameChecks}
 use Rattle.shard.specs.declared.CheckAnswer.the-variants.{Sound, Faulty}
-use Rattle.index.specs.Index.{mostShardBytes}
-use Rattle.nodes.specs.Nodes.{fragmentsLength}
-use Rattle.index.specs.Tests.{entryTest}
-use Rattle.manifests.specs.Mesh.{wrongLength, badReal, unorderedNodes, fragmentsOutside}
+use Rattle.shard.specs.index.Index.{mostShardBytes}
+use Rattle.mesh_manifest.specs.nodes.Nodes.{fragmentsLength}
+use Rattle.shard.specs.index.Tests.{entryTest}
+use Rattle.shard.specs.manifests.Mesh.{wrongLength, badReal, unorderedNodes, fragmentsOutside}
 use Rattle.shard.specs.Faults.{idTest, placeTest, endTest, entryTests}
 use Rattle.shard.specs.Items.{leadLength}
 use Rattle.shard.specs.File.{indexPart, dataPart, badFileLength, fileChecks, shardChecks, checkAnswer}
 use Rattle.shard.specs.Before.{PassedBefore}
 use Rattle.shard.specs.Sound.{SoundShard}
-use Rattle.ranges.specs.Ranges.{Unlisted}
+use Rattle.unlisted.specs.ranges.Ranges.{Unlisted}
 use Rattle.bitmap.specs.Positions.{misses}
-use Rattle.ranges.specs.Covered.{coveredAt, fileUnlisted}
+use Rattle.unlisted.specs.ranges.Covered.{coveredAt, fileUnlisted}
 use Rattle.unlisted.specs.declared.UnlistedAnswer.the-variants as U
 use Rattle.unlisted.specs.Answers.{unlistedAnswer}
-use Rattle.idsearch.specs.declared.LookupAnswer.the-variants as L
+use Rattle.lookup.specs.declared.idsearch.LookupAnswer.the-variants as L
 use Rattle.lookup.specs.Find.{lookupAnswer}
-use Rattle.fragment.specs.Fragment.{fragmentAnswer}
-use Rattle.listing.specs.declared.CountAnswer.the-variants as N
-use Rattle.listing.specs.Listing.{countAnswer, listingAnswer}
-use Rattle.form.specs.Content.{fileForm, fileFormLength}
-use Rattle.form.specs.Before.{fileFormBefore, fileFormBeforeMesh}
-use Rattle.settleanswers.specs.declared.SettleAnswer.the-variants as S
-use Rattle.settleanswers.specs.Answers.{lengthCheck, settleCheck, lengthAnswer, settleAnswer, settleLeft}
+use Rattle.lookup.specs.fragment.Fragment.{fragmentAnswer}
+use Rattle.lookup.specs.declared.listing.CountAnswer.the-variants as N
+use Rattle.lookup.specs.listing.Listing.{countAnswer, listingAnswer}
+use Rattle.settled_form.specs.form.Content.{fileForm, fileFormLength}
+use Rattle.settled_form.specs.form.Before.{fileFormBefore, fileFormBeforeMesh}
+use Rattle.settle.specs.declared.settleanswers.SettleAnswer.the-variants as S
+use Rattle.settle.specs.settleanswers.Answers.{lengthCheck, settleCheck, lengthAnswer, settleAnswer, settleLeft}
 use Rattle.positions.specs.Points.{PointsAt, Named}
 use Rattle.card.specs.declared.Card.{Card}
 use Rattle.card.specs.declared.CardAnswer.the-variants.{Says, Refused}
 use Rattle.card.specs.Layout.{cardBytes, Ranged}
 use Rattle.card.specs.Answers.{recordChecks, readAnswer, writeAnswer, writeLeft}
-use Rattle.oldcards.specs.Before.{cardBytesBeforeMesh, readAnswerBeforeMesh, MeshCard, recordChecksBefore, readAnswerBefore, NewCard}
+use Rattle.card.specs.oldcards.Before.{cardBytesBeforeMesh, readAnswerBeforeMesh, MeshCard, recordChecksBefore, readAnswerBefore, NewCard}
 use Rattle.info.specs.Answers.{infoAnswer}
 
 -- Order 2: "a shard that passed before settles to the bytes it did before". (RULES F16, U8)

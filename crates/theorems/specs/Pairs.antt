@@ -9,15 +9,15 @@ use Rattle.sharding.specs.declared.Sharding.{Sharding}
 use Rattle.shard.specs.declared.CheckAnswer.the-variants.{Sound}
 use Rattle.shard.specs.File.{indexLength, checkAnswer}
 use Rattle.lookup.specs.Find.{lookupAnswer}
-use Rattle.fragment.specs.Fragment.{fragmentAnswer}
-use Rattle.listing.specs.Listing.{countAnswer, listingAnswer, listingLeft}
+use Rattle.lookup.specs.fragment.Fragment.{fragmentAnswer}
+use Rattle.lookup.specs.listing.Listing.{countAnswer, listingAnswer, listingLeft}
 use Rattle.unlisted.specs.Answers.{unlistedAnswer}
-use Rattle.settleanswers.specs.Answers.{lengthAnswer, settleAnswer, settleLeft}
-use Rattle.heldrange.specs.declared.RangeAnswer.the-variants.{InIndex, InData}
-use Rattle.heldrange.specs.Held.{rangeBytes}
-use Rattle.seam.specs.Range.{rangeChecks, rangeAnswer}
-use Rattle.pair.specs.Answers.{pairCheck, pairLookup, pairFragment}
-use Rattle.pairform.specs.Answers.{pairCount, pairListing, pairListingLeft, pairUnlisted, pairLength, pairSettle, pairSettleLeft}
+use Rattle.settle.specs.settleanswers.Answers.{lengthAnswer, settleAnswer, settleLeft}
+use Rattle.split_shard.specs.declared.heldrange.RangeAnswer.the-variants.{InIndex, InData}
+use Rattle.split_shard.specs.heldrange.Held.{rangeBytes}
+use Rattle.split_shard.specs.seam.Range.{rangeChecks, rangeAnswer}
+use Rattle.split_shard.specs.pair.Answers.{pairCheck, pairLookup, pairFragment}
+use Rattle.split_shard.specs.pairform.Answers.{pairCount, pairListing, pairListingLeft, pairUnlisted, pairLength, pairSettle, pairSettleLeft}
 
 -- Order 10: "Treat the pair as their concatenation, without joining them." (RULES P2)
 pub record Order10 : Type 0 where

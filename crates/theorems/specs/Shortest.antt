@@ -6,13 +6,13 @@ use mathlib.Core.List.{List}
 use lib.ListN.{length}
 use Rattle.sharding.specs.declared.Sharding.{Sharding}
 use Rattle.sharding.specs.Specification.{volume, mesh}
-use Rattle.index.specs.Index.{mostShardBytes}
+use Rattle.shard.specs.index.Index.{mostShardBytes}
 use Rattle.shard.specs.Sound.{SoundShard}
 use Rattle.shard.specs.Lists.{SameListing}
-use Rattle.ranges.specs.Covered.{fileUnlisted}
-use Rattle.form.specs.Content.{fileForm}
-use Rattle.shortest.specs.Shares.{SharesNone}
-use Rattle.shortest.specs.Worked.{oneBit, twins, nested}
+use Rattle.unlisted.specs.ranges.Covered.{fileUnlisted}
+use Rattle.settled_form.specs.form.Content.{fileForm}
+use Rattle.settled_form.specs.shortest.Shares.{SharesNone}
+use Rattle.settled_form.specs.shortest.Worked.{oneBit, twins, nested}
 
 -- Order 12: "Show that among all sound shards with the same specification, number and content, whose listed chunks, fragments and nonempty minishard
 -- indexes share no byte, none is shorter than the settled form." (RULES U9)

@@ -14,7 +14,7 @@ use Rattle.bitmap.specs.Positions.{after, misses}
 use Rattle.bitmap.proofs.Counts.{misses-all, misses-same, misses-after, after-at}
 use Rattle.sharding.specs.declared.Sharding.{Sharding}
 use Rattle.sharding.specs.Specification.{allowed, minishardCount, shardCount}
-use Rattle.index.specs.Index.{entryStart, entryEnd, mostShardBytes}
+use Rattle.shard.specs.index.Index.{entryStart, entryEnd, mostShardBytes}
 use Rattle.shard.specs.declared.CheckAnswer.{CheckAnswer}
 use Rattle.shard.specs.declared.CheckAnswer.the-variants.{Sound, Refused as CheckRefused, Faulty as CheckFaulty}
 use Rattle.shard.specs.File.{indexLength, indexPart, dataPart, shardChecks, checkAnswer}
@@ -26,18 +26,18 @@ use Rattle.shard.proofs.Split.{restOf, rest-whole}
 use Rattle.shard.proofs.Whole.{sound-passes-check}
 use Rattle.shard.proofs.WholeAnswers.{check-disallowed, check-shard, check-short, check-long, check-sound, check-fault}
 use Rattle.unlisted.specs.declared.UnlistedAnswer.the-variants.{Count, Refused, Faulty}
-use Rattle.rising.specs.declared.inner.Run.{Run}
-use Rattle.ranges.specs.Ranges.{Range, chunkRange, leadRange, indexRange, countIn, begin, finish, Has, LiesIn}
-use Rattle.ranges.specs.Covered.{coveredAt, unlistedBytes, fileUnlisted}
+use Rattle.unlisted.specs.declared.rising.inner.Run.{Run}
+use Rattle.unlisted.specs.ranges.Ranges.{Range, chunkRange, leadRange, indexRange, countIn, begin, finish, Has, LiesIn}
+use Rattle.unlisted.specs.ranges.Covered.{coveredAt, unlistedBytes, fileUnlisted}
 use Rattle.unlisted.specs.declared.judged.Judged.{Judged}
 use Rattle.unlisted.specs.declared.inner.Counted.{Counted}
 use Rattle.unlisted.specs.Judging.{JudgedAs, Counts}
-use Rattle.stretch.specs.Reading.{RangedShard}
-use Rattle.rising.specs.Order.{broken, Tells}
+use Rattle.unlisted.specs.stretch.Reading.{RangedShard}
+use Rattle.unlisted.specs.rising.Order.{broken, Tells}
 use Rattle.unlisted.specs.Answers.{unlistedAnswer}
 use Rattle.shard.proofs.AfterCheck.{afterCheck, by-check}
-use Rattle.stretch.proofs.Covering.{ranged-in}
-use Rattle.ranges.proofs.Meaning.{covered-listed}
+use Rattle.unlisted.proofs.stretch.Covering.{ranged-in}
+use Rattle.unlisted.proofs.ranges.Meaning.{covered-listed}
 
 -- ---- all ranges lie within the data
 

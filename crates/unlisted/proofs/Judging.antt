@@ -12,23 +12,23 @@ use lib.ListN.{length}
 use Rattle.endian.specs.Range.{anyBelow}
 use Rattle.sharding.specs.declared.Sharding.{Sharding}
 use Rattle.sharding.specs.Specification.{minishardCount}
-use Rattle.index.specs.declared.Fault.{Fault}
-use Rattle.index.specs.Index.{entryStart, entryEnd, mostShardBytes}
-use Rattle.index.specs.Tests.{fault}
+use Rattle.shard.specs.declared.index.Fault.{Fault}
+use Rattle.shard.specs.index.Index.{entryStart, entryEnd, mostShardBytes}
+use Rattle.shard.specs.index.Tests.{fault}
 use Rattle.shard.specs.declared.ShardFault.{ShardFault}
 use Rattle.shard.specs.Faults.{faultOf, orLater, firstFault, shardFault}
 use Rattle.shard.specs.File.{indexLength}
 use Rattle.shard.specs.Sound.{SoundMinishard}
 use Rattle.shard.proofs.Faulted.{fault-empty, fault-entry}
 use Rattle.shard.proofs.Judged.{passes-minishard}
-use Rattle.rising.specs.declared.inner.Run.{Run}
+use Rattle.unlisted.specs.declared.rising.inner.Run.{Run}
 use Rattle.unlisted.specs.declared.judged.Judged.{Judged}
-use Rattle.stretch.specs.Reading.{Ranged}
-use Rattle.rising.specs.Order.{Extends, inPart, partAt}
+use Rattle.unlisted.specs.stretch.Reading.{Ranged}
+use Rattle.unlisted.specs.rising.Order.{Extends, inPart, partAt}
 use Rattle.unlisted.specs.Judging.{Steps, Skips, JudgedAs}
-use Rattle.stretch.proofs.Covering.{ranged-in, read-ranged}
-use Rattle.rising.proofs.Runs.{extends-none}
-use Rattle.rising.proofs.Parts.{over-none, all-next, tells-each}
+use Rattle.unlisted.proofs.stretch.Covering.{ranged-in, read-ranged}
+use Rattle.unlisted.proofs.rising.Runs.{extends-none}
+use Rattle.unlisted.proofs.rising.Parts.{over-none, all-next, tells-each}
 
 -- ---- one minishard
 

@@ -6,7 +6,7 @@ use Rattle.sharding.specs.declared.Sharding.{Sharding}
 use Rattle.shard.specs.File.{shardChecks}
 use Rattle.unlisted.specs.declared.UnlistedAnswer.{UnlistedAnswer}
 use Rattle.unlisted.specs.declared.UnlistedAnswer.the-variants.{Count, Refused, Faulty}
-use Rattle.ranges.specs.Covered.{fileUnlisted}
+use Rattle.unlisted.specs.ranges.Covered.{fileUnlisted}
 
 unfoldable pub unlistedAnswer : Sharding → ℕ → List ℕ → UnlistedAnswer
 unlistedAnswer spec shard file = answeredAt Refused Faulty (shardChecks spec shard file) (Count (fileUnlisted spec file))

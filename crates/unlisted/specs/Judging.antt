@@ -5,14 +5,14 @@ use mathlib.Core.Bool.{true}
 use mathlib.Core.List.{List}
 use Rattle.sharding.specs.declared.Sharding.{Sharding}
 use Rattle.sharding.specs.Specification.{minishardCount}
-use Rattle.index.specs.Index.{entryStart, entryEnd}
-use Rattle.index.specs.Tests.{fault}
+use Rattle.shard.specs.index.Index.{entryStart, entryEnd}
+use Rattle.shard.specs.index.Tests.{fault}
 use Rattle.shard.specs.Faults.{faultOf, shardFault}
-use Rattle.rising.specs.declared.inner.Run.{Run}
+use Rattle.unlisted.specs.declared.rising.inner.Run.{Run}
 use Rattle.unlisted.specs.declared.judged.Judged.{Judged}
 use Rattle.unlisted.specs.declared.inner.Counted.{Counted}
-use Rattle.ranges.specs.Covered.{coveredAt, unlistedBytes}
-use Rattle.rising.specs.Order.{Tells, Extends, inPart}
+use Rattle.unlisted.specs.ranges.Covered.{coveredAt, unlistedBytes}
+use Rattle.unlisted.specs.rising.Order.{Tells, Extends, inPart}
 
 -- of minishard m: its fault, and where it has none the walk goes on over it
 pub record Steps (spec : Sharding) (shard : ℕ) (index d : List ℕ) (m : ℕ) (run : Run) (r : Judged) : Type 0 where

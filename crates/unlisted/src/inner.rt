@@ -4,19 +4,19 @@ ghost use mathlib.Core.Bool.{true};
 ghost use Prim.Native.Nat.{_≤_};
 ghost use lib.ListN.{length};
 ghost use Rattle.sharding.specs.Specification.{allowed};
-ghost use Rattle.index.specs.Index.{mostShardBytes};
+ghost use Rattle.shard.specs.index.Index.{mostShardBytes};
 ghost use Rattle.shard.specs.File.{indexLength};
-ghost use Rattle.ranges.specs.Covered.{coveredAt, unlistedBytes};
-ghost use Rattle.stretch.specs.Reading.{RangedShard};
-ghost use Rattle.rising.specs.Order.{Tells};
+ghost use Rattle.unlisted.specs.ranges.Covered.{coveredAt, unlistedBytes};
+ghost use Rattle.unlisted.specs.stretch.Reading.{RangedShard};
+ghost use Rattle.unlisted.specs.rising.Order.{Tells};
 ghost use Rattle.unlisted.specs.Judging.{Counts};
 use crate::judged::judge_all;
-use rising::inner::BROKEN;
-use rising::inner::Run;
-use rising::inner::in_order;
-use rising::inner::in_turn;
+use crate::rising::inner::BROKEN;
+use crate::rising::inner::Run;
+use crate::rising::inner::in_order;
+use crate::rising::inner::in_turn;
+use crate::windows::inner::count_from;
 use sharding::Sharding;
-use windows::inner::count_from;
 
 // How many are unlisted, behind a walk in turn: by that or another walk where the ranges come in rising order, else by windows.
 fn count_after(run: Run, spec: Sharding, index: &[u8], data: &[u8]) -> u64

@@ -1,13 +1,17 @@
 // How many bytes of a shard lie in none of its ranges.
 pub mod inner;
 mod judged;
+pub mod ranges;
+pub mod rising;
+pub mod stretch;
+pub mod windows;
 
 ghost use mathlib.Core.Path.{_≡_};
 ghost use mathlib.Core.Bool.{true};
 ghost use Prim.Native.Nat.{_≤_};
 ghost use lib.ListN.{length};
 ghost use Rattle.sharding.specs.Specification.{allowed};
-ghost use Rattle.index.specs.Index.{mostShardBytes};
+ghost use Rattle.shard.specs.index.Index.{mostShardBytes};
 ghost use Rattle.shard.specs.File.{indexLength, indexPart, dataPart};
 ghost use Rattle.unlisted.specs.Judging.{Counts};
 ghost use Rattle.unlisted.specs.Answers.{unlistedAnswer};

@@ -3,11 +3,11 @@
 ghost use mathlib.Core.Path.{_≡_};
 ghost use Prim.Native.Nat.{_≤_};
 ghost use Rattle.sharding.specs.Specification.{mostPreshift};
-ghost use Rattle.placement.specs.Place.{hashedId};
+ghost use Rattle.sharding.specs.placement.Place.{hashedId};
 ghost use Rattle.vectors.specs.Vectors.{murmurAfter, xorshift};
 use libc::STDOUT_FILENO;
-use placement::inner;
 use sharding::Sharding;
+use sharding::placement::inner;
 
 // The hashed id under murmur and a preshift.
 fn hashed(preshift: u8, id: u64) -> u64

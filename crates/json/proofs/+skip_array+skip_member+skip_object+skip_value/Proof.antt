@@ -20,11 +20,11 @@ use Rattle.json.proofs.skip_value.Kinds as skip-value-kinds
 use Rattle.json.proofs.+skip_array+skip_member+skip_object+skip_value.Lts-skip_value as skip-value-lts
 use Rattle.json.proofs.end_of.Reads as end-of-reads
 use Rattle.json.proofs.skip_scalar.Reads as skip-scalar-reads
-use Rattle.strings.proofs.skip_string.Reads as skip-string-reads
-use Rattle.text.proofs.byte.Reads as byte-reads
-use Rattle.text.proofs.skip_close.Reads as skip-close-reads
-use Rattle.text.proofs.skip_mark.Reads as skip-mark-reads
-use Rattle.text.proofs.skip_ws.Reads as skip-ws-reads
+use Rattle.json.proofs.strings.skip_string.Reads as skip-string-reads
+use Rattle.json.proofs.text.byte.Reads as byte-reads
+use Rattle.json.proofs.text.skip_close.Reads as skip-close-reads
+use Rattle.json.proofs.text.skip_mark.Reads as skip-mark-reads
+use Rattle.json.proofs.text.skip_ws.Reads as skip-ws-reads
 use Rattle.json.proofs.+skip_array+skip_member+skip_object+skip_value.{statement}
 use Rattle.json.proofs.+skip_array+skip_member+skip_object+skip_value.Tie.{close}
 

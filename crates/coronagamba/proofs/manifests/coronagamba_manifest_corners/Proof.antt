@@ -1,6 +1,6 @@
 use mathlib.Core.Path.{_∙_}
 use borrow.Author.Needs.{needs}
-use Rattle.corners.proofs.Boxed.{near-finite, far-finite}
+use Rattle.mesh_manifest.proofs.corners.Boxed.{near-finite, far-finite}
 use Rattle.coronagamba.specs.Manifests.{cornersWord, nearAfter, farAfter}
 use Rattle.coronagamba.proofs.Told.{told, after}
 use Rattle.coronagamba.proofs.manifests.coronagamba_manifest_corners.Statement.{statement}

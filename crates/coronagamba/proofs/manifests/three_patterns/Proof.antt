@@ -1,6 +1,6 @@
 -- A finite corner has no NaN.
 use borrow.Author.Needs.{needs}
-use Rattle.corners.proofs.Boxed.{number-x, number-y, number-z}
+use Rattle.mesh_manifest.proofs.corners.Boxed.{number-x, number-y, number-z}
 use Rattle.coronagamba.proofs.manifests.three_patterns.Statement.{statement}
 use Rattle.coronagamba.proofs.manifests.three_patterns.Tie as tie
 

@@ -1,6 +1,6 @@
 -- `morton::keys::cell_of` meets its contract.
 use borrow.Author.Needs.{needs}
-use Rattle.grid.proofs.Ways.{tested}
+use Rattle.morton.proofs.grid.Ways.{tested}
 use Rattle.morton.proofs.Ways.{few-counted, cell-2, cell-3, cell-4-key, cell-4-cell, cell-yes}
 use Rattle.morton.proofs.keys.cell_of.Statement.{statement}
 use Rattle.morton.proofs.keys.cell_of.Tie as tie

@@ -1,6 +1,6 @@
 -- `morton::keys::key_of` meets its contract.
 use borrow.Author.Needs.{needs}
-use Rattle.grid.proofs.Ways.{tested}
+use Rattle.morton.proofs.grid.Ways.{tested}
 use Rattle.morton.proofs.Ways.{few, key-2, key-2-cell, key-3, key-yes}
 use Rattle.morton.proofs.keys.key_of.Statement.{statement}
 use Rattle.morton.proofs.keys.key_of.Tie as tie

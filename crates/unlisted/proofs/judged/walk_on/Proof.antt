@@ -1,5 +1,5 @@
 use borrow.Author.Needs.{needs}
-use Rattle.rising.proofs.Runs.{extends-broken}
+use Rattle.unlisted.proofs.rising.Runs.{extends-broken}
 use Rattle.unlisted.proofs.judged.walk_on.Statement.{statement}
 use Rattle.unlisted.proofs.judged.walk_on.Tie as tie
 

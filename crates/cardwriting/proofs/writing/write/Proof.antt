@@ -1,7 +1,0 @@
--- `cardwriting::writing::write` meets its contract.
-use Rattle.card.proofs.Composing.{composing}
-use Rattle.cardwriting.proofs.writing.write.Statement.{statement}
-use Rattle.cardwriting.proofs.writing.write.Tie as tie
-
-pub write-spec : {M : Type 1} → statement M
-write-spec = tie.close (tie.spec (λ c κs. search composing) (λ c. search composing) (λ c κs. search composing) (λ c. search composing) (λ c. search composing))

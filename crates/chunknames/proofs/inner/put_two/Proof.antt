@@ -1,8 +1,0 @@
-use Rattle.chunknames.specs.Spans.{twoText}
-use Rattle.names.proofs.Texts.{joining}
-use Rattle.chunknames.proofs.inner.put_two.Statement.{statement}
-use Rattle.chunknames.proofs.inner.put_two.Tie as tie
-
-pub put-two-spec : {M : Type 1} → statement M
-unfolding twoText
-put-two-spec = tie.close (tie.spec (λ c κs. search joining) (λ c κs. search joining) (λ c. search joining) (λ c κs. search joining) (λ c. search joining) (λ c. search joining))

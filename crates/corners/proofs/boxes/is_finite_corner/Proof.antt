@@ -1,9 +1,0 @@
--- Axis by axis.
-use Rattle.corners.proofs.Boxed.{boxes}
-use Rattle.corners.proofs.boxes.is_finite_corner.Statement.{statement}
-use Rattle.corners.proofs.boxes.is_finite_corner.Tie as tie
-
-pub is-finite-corner-spec : {M : Type 1} → statement M
-is-finite-corner-spec =
-    tie.close
-    (tie.spec (λ c κs. search boxes) (λ c. search boxes) (λ c κs. search boxes) (λ c. search boxes) (λ c κs. search boxes) (λ c. search boxes))

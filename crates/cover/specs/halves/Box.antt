@@ -1,0 +1,71 @@
+-- A box of cells, as its first and its last key, and its halves.
+use Prim.Native.Nat.{ℕ, zero, suc, _+_, _-_, _/_, _%_, _^_, _≤_, _<_}
+use mathlib.Core.Path.{_≡_}
+use mathlib.Core.Bool.{Bool, _&&_}
+use mathlib.Core.List.{List, [], _∷_}
+use lib.Bits.{bitAnd, bitOr, bitXor}
+use lib.Count.{leadingZeros}
+use lib.Dec.{leb}
+use Rattle.cover.specs.overlap.Cover.{passing}
+
+-- n numbers from k on
+unfoldable pub counting : ℕ → ℕ → List ℕ
+counting k zero = []
+counting k (suc n) = k ∷ counting (suc k) n
+
+-- ---- a box of cells, as the keys of its first and its last cell; the key bits of each axis are a number
+-- along an axis, from one key's cell to another's
+unfoldable pub between : ℕ → ℕ → ℕ → ℕ → Bool
+between axis low high k = leb (bitAnd low axis) (bitAnd k axis) && leb (bitAnd k axis) (bitAnd high axis)
+
+unfoldable pub inBox : ℕ → ℕ → ℕ → ℕ → ℕ → ℕ → Bool
+inBox x y z low high k = between x low high k && (between y low high k && between z low high k)
+
+-- the keys of the box: no other lies outside the first and the last (RULES B5)
+unfoldable pub boxKeys : ℕ → ℕ → ℕ → ℕ → ℕ → List ℕ
+boxKeys x y z low high = passing (inBox x y z low high) low (suc high - low)
+
+-- low's cell does not lie past high's along any axis, and each key bit is one of an axis
+pub record Corners (ax ay az low high : ℕ) : Type 0 where
+  pub x : bitAnd low ax ≤ bitAnd high ax
+  pub y : bitAnd low ay ≤ bitAnd high ay
+  pub z : bitAnd low az ≤ bitAnd high az
+  pub bits : ℕ
+  pub fits : high < 2 ^ bits
+  pub whole : (k : ℕ) → k < 2 ^ bits → bitAnd k ax + bitAnd k ay + bitAnd k az ≡ k
+
+-- n is the highest bit in which low, the smaller, and high differ
+pub record SplitAt (low high n : ℕ) : Type 0 where
+  pub even : low / 2 ^ n % 2 ≡ 0
+  pub next : high / 2 ^ n ≡ suc (low / 2 ^ n)
+
+-- how many bits are left: those up to that one (RULES B5)
+unfoldable pub bitsLeft : ℕ → ℕ → ℕ
+bitsLeft low high = 64 - leadingZeros 64 (bitXor low high)
+
+-- one axis has bit n, and below it no two share a bit
+pub record Axes (ax ay az n : ℕ) : Type 0 where
+  pub one : ax / 2 ^ n % 2 + ay / 2 ^ n % 2 + az / 2 ^ n % 2 ≡ 1
+  pub xy : bitAnd (ax % 2 ^ n) (ay % 2 ^ n) ≡ 0
+  pub xz : bitAnd (ax % 2 ^ n) (az % 2 ^ n) ≡ 0
+  pub yx : bitAnd (ay % 2 ^ n) (ax % 2 ^ n) ≡ 0
+  pub yz : bitAnd (ay % 2 ^ n) (az % 2 ^ n) ≡ 0
+  pub zx : bitAnd (az % 2 ^ n) (ax % 2 ^ n) ≡ 0
+  pub zy : bitAnd (az % 2 ^ n) (ay % 2 ^ n) ≡ 0
+
+-- an axis is the one that has bit n, or another, which shares no bit below it
+pub data Side (own n axis : ℕ) : Type 0 where
+  mine : axis ≡ own → axis / 2 ^ n % 2 ≡ 1 → Side own n axis
+  other : axis / 2 ^ n % 2 ≡ 0 → bitAnd (own % 2 ^ n) (axis % 2 ^ n) ≡ 0 → Side own n axis
+
+pub record Owns (ax ay az n own : ℕ) : Type 0 where
+  pub x : Side own n ax
+  pub y : Side own n ay
+  pub z : Side own n az
+
+-- the last key of the box below bit n, where that bit's axis goes on to its end, and the first one above, where it begins anew
+unfoldable pub lastBelow : ℕ → ℕ → ℕ → ℕ
+lastBelow own high n = bitOr (high - 2 ^ n) (own % 2 ^ n)
+
+unfoldable pub firstAbove : ℕ → ℕ → ℕ → ℕ
+firstAbove own low n = low - bitAnd low (own % 2 ^ n) + 2 ^ n

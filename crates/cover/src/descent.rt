@@ -1,0 +1,91 @@
+// The search by halves: the keys of a box of cells, and of the marked cells of a grid.
+ghost use mathlib.Core.Path.{_≡_};
+ghost use Prim.Native.Nat.{_+_, _^_, _≤_};
+ghost use lib.ListN.{length};
+ghost use Rattle.endian.specs.Place.{paste};
+ghost use Rattle.morton.specs.Key.{keyBits};
+ghost use Rattle.cover.specs.overlap.Marked.{Sized, Framed, partKeys};
+ghost use Rattle.cover.specs.halves.Box.{counting, boxKeys, Corners};
+use crate::halves::first_above;
+use crate::halves::full;
+use crate::halves::last_below;
+use crate::halves::owner;
+use crate::halves::split_bit;
+use crate::overlap::Part;
+use morton::grid::Cell;
+use morton::grid::Extents;
+use morton::inner::key;
+
+mod parts;
+
+// n keys one after the other, and where they end.
+fn put_keys(out: &mut [u64], at: usize, first: u64, n: usize) -> usize
+    requires { ⌜ (at + n ≤ length (now out)) × (first + n ≤ 2 ^ 64) ⌝ }
+    ensures next { λ r. ⌜ r ≡ at + n ⌝ }
+    ensures out { λ _. ⌜ now (out .exit) ≡ paste at (counting first n) (now (out .entry)) ⌝ }
+{
+    let mut i = 0;
+    while i < n {
+        out[at + i] = first + i as u64;
+        i += 1;
+    }
+    at + n
+}
+
+// The keys of the box from low to high into `out` from `at` on, rising, and where they end. The highest bit in which the two differ
+// halves the box. Each higher bit halves the grid and leaves one half without a cell of the box: that half is skipped.
+fn descend(x: u64, y: u64, z: u64, low: u64, high: u64, out: &mut [u64], at: usize) -> usize
+    requires { ⌜ Corners x y z low high × (low ≤ high) × (at + length (boxKeys x y z low high) ≤ length (now out)) ⌝ }
+    ensures next { λ r. ⌜ r ≡ at + length (boxKeys x y z low high) ⌝ }
+    ensures out { λ _. ⌜ now (out .exit) ≡ paste at (boxKeys x y z low high) (now (out .entry)) ⌝ }
+{
+    if low == high {
+        return put_keys(out, at, low, 1);
+    }
+    let n = split_bit(low, high);
+    if full(low, high, n) {
+        return put_keys(out, at, low, (high - low) as usize + 1);
+    }
+    let own = owner(x, y, z, n);
+    let next = descend(x, y, z, low, last_below(own, high, n), out, at);
+    descend(x, y, z, first_above(own, low, n), high, out, next)
+}
+
+// The keys of the marked cells of the whole grid, rising, and how many there are.
+pub fn search(grid: Extents, whole: Part, out: &mut [u64]) -> usize
+    requires { ⌜ Framed grid whole × Sized whole × (keyBits grid ≤ 64) × (length (partKeys whole 0) ≤ length (now out)) ⌝ }
+    ensures count { λ r. ⌜ r ≡ length (partKeys whole 0) ⌝ }
+    ensures out { λ _. ⌜ now (out .exit) ≡ paste 0 (partKeys whole 0) (now (out .entry)) ⌝ }
+{
+    if parts::misses(whole) {
+        return 0;
+    }
+    // A cell with all bits of one coordinate, and none of the others, has the bits of that axis.
+    let x = key(
+        grid,
+        Cell {
+            x: u32::MAX,
+            y: 0,
+            z: 0,
+        },
+    );
+    let y = key(
+        grid,
+        Cell {
+            x: 0,
+            y: u32::MAX,
+            z: 0,
+        },
+    );
+    let z = key(
+        grid,
+        Cell {
+            x: 0,
+            y: 0,
+            z: u32::MAX,
+        },
+    );
+    let low = key(grid, parts::first(whole));
+    let high = key(grid, parts::last(whole));
+    descend(x, y, z, low, high, out, 0)
+}

@@ -1,6 +1,0 @@
-use Rattle.digits.proofs.Signing.{signing}
-use Rattle.digits.proofs.inner.put_signed.Statement.{statement}
-use Rattle.digits.proofs.inner.put_signed.Tie as tie
-
-pub put-signed-spec : {M : Type 1} → statement M
-put-signed-spec = tie.close (tie.spec (λ c κs. search signing) (λ c. search signing) (λ c κs. search signing) (λ c. search signing) (λ c. search signing) (λ c κs. search signing) (λ c. search signing) (λ c. search signing))

@@ -1,6 +1,0 @@
-use Rattle.digits.proofs.Signing.{signing}
-use Rattle.digits.proofs.inner.signed_len.Statement.{statement}
-use Rattle.digits.proofs.inner.signed_len.Tie as tie
-
-pub signed-len-spec : {M : Type 1} → statement M
-signed-len-spec = tie.close (tie.spec (λ c κs. search signing) (λ c. search signing) (λ c. search signing) (λ c. search signing))

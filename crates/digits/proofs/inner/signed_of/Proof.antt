@@ -1,7 +1,0 @@
-use borrow.Author.Needs.{needs}
-use Rattle.digits.proofs.Signing.{signed-is}
-use Rattle.digits.proofs.inner.signed_of.Statement.{statement}
-use Rattle.digits.proofs.inner.signed_of.Tie as tie
-
-pub signed-of-spec : {M : Type 1} → statement M
-signed-of-spec = tie.close (tie.spec (λ c κs. search (signed-is, needs)) (λ c κs. search (signed-is, needs)) (λ c. search (signed-is, needs)))

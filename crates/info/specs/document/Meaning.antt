@@ -1,0 +1,48 @@
+-- What the answer means (order 1).
+use Prim.Native.Nat.{ℕ, _+_, _≤_}
+use mathlib.Core.Path.{_≡_}
+use mathlib.Core.Logic.{_↔_}
+use mathlib.Core.List.{List}
+use lib.ListN.{length, take}
+use Rattle.refusal.specs.Checks.{firstNumber, Refuses}
+use Rattle.refusal.specs.declared.Written.the-variants.{Length}
+use Rattle.json.specs.text.Bytes.{byteAt}
+use Rattle.json.specs.characters.Chars.{Utf8}
+use Rattle.json.specs.Grammar.{deepest}
+use Rattle.json.specs.Rfc.{Value, Listed, Member, JsonText, places, valuePlace}
+use Rattle.json.specs.places.Places.{elements, members, valueOf}
+use Rattle.sharding.specs.Specification.{volume}
+use Rattle.card.specs.Layout.{cardBytes}
+use Rattle.card.specs.Answers.{recordChecks, readAnswer, writeAnswer, writeLeft}
+use Rattle.card.specs.declared.Card.{Card}
+use Rattle.card.specs.declared.CardAnswer.the-variants.{Says, Refused}
+use Rattle.info.specs.declared.scale.Settings.the-variants.{Are, Wrong}
+use Rattle.info.specs.document.Document.{document}
+use Rattle.info.specs.document.Said.{settingsIn, saidAnswer}
+use Rattle.info.specs.Answers.{infoChecks, infoAnswer}
+
+-- RULES I1, I9
+pub record InfoMeaning : Type 0 where
+  -- 19 exactly for a text that is no JSON value of depth at most 32 in UTF-8, by the rules of RFC 8259
+  pub notJson : (s : List ℕ) (k : ℕ) → (infoAnswer s k ≡ Refused 19) ↔ (JsonText deepest s → ⊥)
+  -- so a text that is not UTF-8 is 19
+  pub notUtf8 : (s : List ℕ) (k : ℕ) → (Utf8 s 0 (length s) → ⊥) → infoAnswer s k ≡ Refused 19
+  -- each refusal is that of the first check that holds
+  pub refused : (s : List ℕ) (k : ℕ) → Refuses (infoAnswer s k) Refused (infoChecks s k)
+  -- a JSON text is answered by what its document says, and by nothing else
+  pub answer : (s : List ℕ) (k : ℕ) → JsonText deepest s → infoAnswer s k ≡ saidAnswer k (document s)
+  -- so 20 is given exactly where the document does not say the settings of scale k
+  pub unsaid : (s : List ℕ) (k : ℕ) → JsonText deepest s → (infoAnswer s k ≡ Refused 20) ↔ (settingsIn k (document s) ≡ Wrong)
+  -- and a record exactly where it says that record, and 1, 2 and 3 do not hold of it: its fields are the numbers that stand in the members named
+  pub given : (s : List ℕ) (k : ℕ) (c : Card) → (infoAnswer s k ≡ Says c) ↔ (JsonText deepest s × (settingsIn k (document s) ≡ Are c) × (firstNumber (recordChecks c) ≡ 0))
+  -- of a volume (RULES I9)
+  pub kind : (s : List ℕ) (k : ℕ) (c : Card) → infoAnswer s k ≡ Says c → c .sharding .kind ≡ volume
+  -- two JSON texts that say the same document, however it is written, are answered alike
+  pub alike : (a b : List ℕ) (k : ℕ) → JsonText deepest a → JsonText deepest b → document a ≡ document b → infoAnswer a k ≡ infoAnswer b k
+  -- the elements and members that a document is made of stand where the grammar's own items begin, and a member's value where its value does
+  pub elements : (d : ℕ) (s : List ℕ) (p e : ℕ) → d ≤ deepest → byteAt s p ≡ 0x5B → (r : Listed s (Value s d) 0x5D (p + 1) e) → elements s p ≡ places r
+  pub members : (d : ℕ) (s : List ℕ) (p e : ℕ) → d ≤ deepest → byteAt s p ≡ 0x7B → (r : Listed s (Member s (Value s d)) 0x7D (p + 1) e) → members s p ≡ places r
+  pub values : (d : ℕ) (s : List ℕ) (i e : ℕ) (r : Member s (Value s d) i e) → valueOf s i ≡ valuePlace r
+  -- "a card written from its answer reads back to the same record"
+  pub card : (s : List ℕ) (k : ℕ) (c : Card) (out : List ℕ) → infoAnswer s k ≡ Says c → length (cardBytes c) ≤ length out
+      → (writeAnswer c out ≡ Length (length (cardBytes c))) × (readAnswer (take (length (cardBytes c)) (writeLeft c out)) ≡ Says c)

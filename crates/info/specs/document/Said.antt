@@ -1,0 +1,117 @@
+-- The settings that a document says: what a reader believes of an info file (order 1; sources 000 and 002).
+use Prim.Native.Nat.{ℕ}
+use mathlib.Core.Bool.{Bool, true, false, _&&_}
+use mathlib.Core.List.{List, _∷_}
+use lib.Dec.{eqb}
+use Rattle.refusal.specs.Choice.{pick}
+use Rattle.refusal.specs.Checks.{Check, check, answered}
+use Rattle.json.specs.strings.Names.{eqList}
+use Rattle.json.specs.Grammar.{deepest}
+use Rattle.card.specs.Reading.{zeros}
+use Rattle.card.specs.Answers.{recordChecks}
+use Rattle.card.specs.declared.CardAnswer.{CardAnswer}
+use Rattle.card.specs.declared.CardAnswer.the-variants.{Says, Refused}
+use Rattle.info.specs.wholes.Numbers.{whenIs, aboveOf, belowOf}
+use Rattle.info.specs.declared.wholes.Number.{Number}
+use Rattle.info.specs.declared.wholes.Number.the-variants.{Is, Wrong}
+use Rattle.info.specs.declared.scale.ExtentsIn.{ExtentsIn}
+use Rattle.info.specs.declared.scale.ExtentsIn.the-variants.{Wrong as NoExtents}
+use Rattle.info.specs.declared.scale.OffsetIn.{OffsetIn}
+use Rattle.info.specs.declared.scale.OffsetIn.the-variants.{Is as OffsetIs, Wrong as NoOffset}
+use Rattle.info.specs.declared.scale.VolumeIn.{VolumeIn}
+use Rattle.info.specs.declared.scale.VolumeIn.the-variants.{Is as VolumeIs, Wrong as NoVolume}
+use Rattle.info.specs.declared.members.ShardingIn.{ShardingIn}
+use Rattle.info.specs.declared.members.ShardingIn.the-variants.{Wrong as NoSharding}
+use Rattle.info.specs.declared.scale.Settings.{Settings}
+use Rattle.info.specs.declared.scale.Settings.the-variants.{Are as SettingsAre, Wrong as NoSettings}
+use Rattle.info.specs.members.Words.{scalesName, sizeName, chunksName, offsetName, shardingName, typeName, preshiftName, hashName, minishardName, shardName, indexName, dataName, typeText, rawText, identityText, murmurText}
+use Rattle.info.specs.Answers.{noSettings, recordOf}
+use Rattle.info.specs.scale.Scale.{whenExtents, whenOffset, whenVolume, whenSharding, extentsOf, offsetOf, numbersOf}
+use Rattle.info.specs.document.Document.{DocumentOf, Document, Times, times, memberOf, elementsOf, saysText, whenOnce, whenTriple, whenNth}
+use Rattle.info.specs.document.Document.DocumentOf.{word, number, string, array, object}
+use Rattle.info.specs.document.Document.Times.{never, once, twice}
+
+-- a number of 0 or more; with a minus, 0 only (RULES I6)
+unfoldable pub naturalOf : {D : Type 0} → DocumentOf D → Number
+naturalOf word = Wrong
+naturalOf (number m n) = pick m (whenIs n Wrong (λ k. pick (eqb k 0) (Is 0) Wrong)) n
+naturalOf (string t) = Wrong
+naturalOf (array l) = Wrong
+naturalOf (object l) = Wrong
+
+-- a signed number of 32 bits (RULES I6)
+unfoldable pub coordinateOf : {D : Type 0} → DocumentOf D → Number
+coordinateOf word = Wrong
+coordinateOf (number m n) = pick m (belowOf n) (aboveOf n)
+coordinateOf (string t) = Wrong
+coordinateOf (array l) = Wrong
+coordinateOf (object l) = Wrong
+
+-- an array of three numbers
+unfoldable pub extentsOn : {D : Type 0} → DocumentOf (DocumentOf D) → ExtentsIn
+extentsOn v = whenTriple (elementsOf v) NoExtents (λ a b c. extentsOf (naturalOf a) (naturalOf b) (naturalOf c))
+
+unfoldable pub offsetOn : {D : Type 0} → DocumentOf (DocumentOf D) → OffsetIn
+offsetOn v = whenTriple (elementsOf v) NoOffset (λ a b c. offsetOf (coordinateOf a) (coordinateOf b) (coordinateOf c))
+
+-- "size", "chunk_sizes (just one)", "voxel_offset (default 0,0,0)" of a scale
+unfoldable pub sizeOf : {D : Type 0} → DocumentOf (DocumentOf (DocumentOf D)) → ExtentsIn
+sizeOf scale = whenOnce (memberOf sizeName scale) NoExtents extentsOn
+
+unfoldable pub chunkOf : {D : Type 0} → DocumentOf (DocumentOf (DocumentOf (DocumentOf D))) → ExtentsIn
+chunkOf scale = whenOnce (memberOf chunksName scale) NoExtents (λ v. whenOnce (times (elementsOf v)) NoExtents extentsOn)
+
+unfoldable pub offsetGiven : {D : Type 0} → Times (DocumentOf (DocumentOf D)) → OffsetIn
+offsetGiven never = OffsetIs zeros
+offsetGiven (once v) = offsetOn v
+offsetGiven twice = NoOffset
+
+unfoldable pub volumeOf : {D : Type 0} → DocumentOf (DocumentOf (DocumentOf (DocumentOf D))) → VolumeIn
+volumeOf scale =
+    whenExtents (sizeOf scale) NoVolume (λ a. whenExtents (chunkOf scale) NoVolume (λ b. whenOffset (offsetGiven (memberOf offsetName scale)) NoVolume
+    (λ o. VolumeIs (record { size = a; chunk = b; offset = o }))))
+
+-- "its @type as 002 says" (RULES I7)
+unfoldable pub typeSaid : {D : Type 0} → DocumentOf (DocumentOf D) → Bool
+typeSaid g = whenOnce (memberOf typeName g) false (saysText typeText)
+
+-- "an index or data encoding other than raw" is refused; "If not specified, equivalent to "raw"." (RULES I7)
+unfoldable pub rawGiven : {D : Type 0} → Times (DocumentOf D) → Bool
+rawGiven never = true
+rawGiven (once v) = saysText rawText v
+rawGiven twice = false
+
+-- the number of a hash, by its name: 2, which no specification may have, "answers an unknown hash name" with 1 (RULES I7)
+unfoldable pub hashOf : {D : Type 0} → DocumentOf D → Number
+hashOf word = Wrong
+hashOf (number m n) = Wrong
+hashOf (string t) = pick (eqList t identityText) (Is 0) (pick (eqList t murmurText) (Is 1) (Is 2))
+hashOf (array l) = Wrong
+hashOf (object l) = Wrong
+
+unfoldable pub numberOf : {D : Type 0} → List ℕ → DocumentOf (DocumentOf D) → Number
+numberOf name g = whenOnce (memberOf name g) Wrong naturalOf
+
+unfoldable pub shardingOn : {D : Type 0} → DocumentOf (DocumentOf D) → ShardingIn
+shardingOn g =
+    pick (typeSaid g && (rawGiven (memberOf indexName g) && rawGiven (memberOf dataName g)))
+    (numbersOf (numberOf preshiftName g) (whenOnce (memberOf hashName g) Wrong hashOf) (numberOf minishardName g) (numberOf shardName g)) NoSharding
+
+-- the settings of a scale
+unfoldable pub settingsOn : {D : Type 0} → DocumentOf (DocumentOf (DocumentOf (DocumentOf D))) → Settings
+settingsOn scale =
+    whenSharding (whenOnce (memberOf shardingName scale) NoSharding shardingOn) NoSettings
+    (λ a. whenVolume (volumeOf scale) NoSettings (λ v. SettingsAre (record { sharding = a; volume = v })))
+
+-- of scale k, from 0, of the outermost value's scales (RULES I5)
+unfoldable pub settingsIn : {D : Type 0} → ℕ → DocumentOf (DocumentOf (DocumentOf (DocumentOf (DocumentOf (DocumentOf D))))) → Settings
+settingsIn k doc = whenOnce (memberOf scalesName doc) NoSettings (λ v. whenNth k (elementsOf v) NoSettings settingsOn)
+
+-- ---- what a text whose document this is gets for scale k: "20 no scale k, a needed member missing, a used one doubled or of the wrong kind,
+-- another @type or a refused encoding", then 1, 2 and 3 as for a card, else the record
+
+unfoldable pub saidChecks : ℕ → Document deepest → List Check
+saidChecks k d = check 20 (noSettings (settingsIn k d)) ∷ recordChecks (recordOf (settingsIn k d))
+
+unfoldable pub saidAnswer : ℕ → Document deepest → CardAnswer
+saidAnswer k d = answered Refused (saidChecks k d) (Says (recordOf (settingsIn k d)))

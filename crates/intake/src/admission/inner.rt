@@ -1,0 +1,87 @@
+// The number of the first refusal of each call, or 0.
+ghost use mathlib.Core.Path.{_≡_};
+ghost use Prim.Native.Nat.{_<_};
+ghost use Rattle.refusal.specs.Checks.{firstNumber};
+ghost use Rattle.intake.specs.admission.Refusals.{openChecks, announceChecks, partChecks, closeChecks};
+use crate::intakesanity::inner::is_not_volume;
+use crate::intakesanity::inner::most_bytes;
+use crate::intakestate::Intake;
+use crate::intaketests::inner::is_foreign;
+use crate::intaketests::inner::is_full;
+use crate::intaketests::inner::is_other;
+use crate::intaketests::inner::is_out_of_order;
+use crate::intaketests::inner::is_unusable;
+use shard::inner::index_length;
+use sharding::Sharding;
+use sharding::inner::shard_count;
+use sharding::placement::inner::minishard_of;
+
+pub fn open_refusal(spec: Sharding, shard: u64, output: usize) -> u8
+    ensures { λ r. ⌜ r ≡ firstNumber (openChecks spec shard output) ⌝ }
+{
+    if is_not_volume(spec) {
+        return 1;
+    }
+    if shard_count(spec) <= shard {
+        return 5;
+    }
+    if most_bytes(output) < index_length(spec) {
+        return 13;
+    }
+    0
+}
+
+pub fn part_refusal(state: Intake, n: usize, output: usize, waiting: &[u8]) -> u8
+    ensures { λ r. ⌜ r ≡ firstNumber (partChecks state n output (now (waiting .entry))) ⌝ }
+{
+    if is_other(state, output, waiting.len()) {
+        return 30;
+    }
+    if is_unusable(state, waiting) {
+        return 25;
+    }
+    if state.owed < n {
+        return 26;
+    }
+    0
+}
+
+pub fn close_refusal(state: Intake, output: usize, waiting: &[u8]) -> u8
+    ensures { λ r. ⌜ r ≡ firstNumber (closeChecks state output (now (waiting .entry))) ⌝ }
+{
+    if is_other(state, output, waiting.len()) {
+        return 30;
+    }
+    if is_unusable(state, waiting) {
+        return 25;
+    }
+    if state.owed != 0 {
+        return 26;
+    }
+    0
+}
+
+pub fn announce_refusal(state: Intake, id: u64, size: usize, output: usize, waiting: &[u8]) -> u8
+    ensures { λ r. ⌜ r ≡ firstNumber (announceChecks state id size output (now (waiting .entry))) ⌝ }
+{
+    if is_other(state, output, waiting.len()) {
+        return 30;
+    }
+    if is_foreign(state, id) {
+        return 10;
+    }
+    if is_unusable(state, waiting) {
+        return 25;
+    }
+    let m = minishard_of(state.spec, id);
+    if is_out_of_order(state, m, id) {
+        return 25;
+    }
+    if 0 < state.owed {
+        return 26;
+    }
+    if is_full(state, m, id, size) {
+        return 13;
+    }
+    0
+}

@@ -1,0 +1,41 @@
+// A minishard index of a volume judged once: `fill_table` writes a table of its entries into lent memory, in which `find_in_table` of the crate
+// tablefind finds ids.
+pub mod inner;
+
+ghost use mathlib.Core.Path.{_≡_};
+ghost use Rattle.lookup_table.specs.lookuptable.Fill.{fillAnswer, fillLeft};
+use lookup::idsearch::LookupAnswer;
+use lookup::lookupranges::index_range;
+use sharding::Sharding;
+
+// How many entries the table has. 7 to 11 come with a position, as in a lookup.
+pub enum FillAnswer {
+    Filled(usize),
+    Refused(u8),
+    Faulty { number: u8, position: u64 },
+}
+
+// The table of the minishard that `id` belongs to, from the bytes of its entry in the shard index and of its minishard index, in a file of `len` bytes: for
+// each entry its id, where its chunk lies in the file and its length, by rising id, at the front of `out`. Refusals: 1 (of a mesh too), 5, 6, 31 where a
+// slice has not the length of its range, 7 to 11, 13 where `out` has fewer than three numbers for each entry; they leave `out` as it was.
+pub fn fill_table(
+    spec: Sharding,
+    shard: u64,
+    id: u64,
+    len: u64,
+    entry: &[u8],
+    rows: &[u8],
+    out: &mut [u64],
+) -> FillAnswer
+    ensures answer { λ r. ⌜ r ≡ fillAnswer spec shard id len (now (entry .entry)) (now (rows .entry)) (now (out .entry)) ⌝ }
+    ensures table { λ _. ⌜ now (out .exit) ≡ fillLeft spec shard id len (now (entry .entry)) (now (rows .entry)) (now (out .entry)) ⌝ }
+{
+    let range = index_range(spec, shard, id, len, entry);
+    match range {
+        LookupAnswer::Found { start, length } => {
+            inner::rows_fill(spec, shard, id, len, start, length, rows, out)
+        }
+        LookupAnswer::Refused(number) => inner::empty_or(number),
+        LookupAnswer::Faulty { number, position } => FillAnswer::Faulty { number, position },
+    }
+}

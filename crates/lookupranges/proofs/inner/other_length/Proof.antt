@@ -1,7 +1,0 @@
--- The length is told.
-use Rattle.lookupranges.proofs.WaysOut.{length-told}
-use Rattle.lookupranges.proofs.inner.other_length.Statement.{statement}
-use Rattle.lookupranges.proofs.inner.other_length.Tie as tie
-
-pub other-length-spec : {M : Type 1} → statement M
-other-length-spec = tie.close (tie.spec (λ c. search length-told))

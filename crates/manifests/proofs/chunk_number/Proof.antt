@@ -1,8 +1,0 @@
-use borrow.Author.Needs.{needs}
-use Rattle.manifests.proofs.Walk.{part-number}
-use Rattle.manifests.proofs.chunk_number.Statement.{statement}
-use Rattle.manifests.proofs.chunk_number.Tie as tie
-
-pub chunk-number-spec : {M : Type 1} → statement M
-chunk-number-spec =
-    tie.close (tie.spec (λ c. search needs) (λ c. search needs) (λ c. search needs) (λ c. search needs) (λ c κs. search needs) (λ c. search part-number))

@@ -1,7 +1,0 @@
-use borrow.Author.Needs.{needs}
-use Rattle.noted.proofs.Windows.{below-counted}
-use Rattle.noted.proofs.inner.open_below.Statement.{statement}
-use Rattle.noted.proofs.inner.open_below.Tie as tie
-
-pub open-below-spec : {M : Type 1} → statement M
-open-below-spec = tie.close (tie.spec (λ c κs. search needs) (λ c κs. search needs) (λ c. search needs) (λ c. search below-counted))

@@ -1,9 +1,0 @@
-use borrow.Author.Needs.{needs}
-use Rattle.rawform.proofs.Wholes.{layer-some, room-is}
-use Rattle.rawform.proofs.inner.has_room.Statement.{statement}
-use Rattle.rawform.proofs.inner.has_room.Tie as tie
-
-pub has-room-spec : {M : Type 1} → statement M
-has-room-spec =
-    tie.close
-    (tie.spec (λ c κs. search needs) (λ c. search needs) (λ c κs. search needs) (λ c κs. search needs) (λ c. search layer-some) (λ c. search room-is))

@@ -1,6 +1,0 @@
-use Rattle.scale.proofs.Ways.{volumes}
-use Rattle.scale.proofs.parts.extents_of.Statement.{statement}
-use Rattle.scale.proofs.parts.extents_of.Tie as tie
-
-pub extents-of-spec : {M : Type 1} → statement M
-extents-of-spec = tie.close (tie.spec (λ c. search volumes) (λ c. search volumes) (λ c. search volumes) (λ c. search volumes) (λ c. search volumes) (λ c. search volumes) (λ c. search volumes) (λ c. search volumes) (λ c. search volumes) (λ c. search volumes))

@@ -1,6 +1,0 @@
-use Rattle.scale.proofs.Ways.{shardings}
-use Rattle.scale.proofs.parts.formed.Statement.{statement}
-use Rattle.scale.proofs.parts.formed.Tie as tie
-
-pub formed-spec : {M : Type 1} → statement M
-formed-spec = tie.close (tie.spec (λ c. search shardings) (λ c. search shardings) (λ c. search shardings) (λ c. search shardings) (λ c κs. search shardings) (λ c κs. search shardings) (λ c κs. search shardings) (λ c κs. search shardings) (λ c. search shardings))

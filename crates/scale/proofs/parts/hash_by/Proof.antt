@@ -1,6 +1,0 @@
-use Rattle.scale.proofs.Ways.{shardings}
-use Rattle.scale.proofs.parts.hash_by.Statement.{statement}
-use Rattle.scale.proofs.parts.hash_by.Tie as tie
-
-pub hash-by-spec : {M : Type 1} → statement M
-hash-by-spec = tie.close (tie.spec (λ c κs. search shardings) (λ c. search shardings) (λ c. search shardings) (λ c. search shardings) (λ c κs. search shardings) (λ c. search shardings))

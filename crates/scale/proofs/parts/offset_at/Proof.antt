@@ -1,6 +1,0 @@
-use Rattle.scale.proofs.Ways.{volumes}
-use Rattle.scale.proofs.parts.offset_at.Statement.{statement}
-use Rattle.scale.proofs.parts.offset_at.Tie as tie
-
-pub offset-at-spec : {M : Type 1} → statement M
-offset-at-spec = tie.close (tie.spec (λ c κs. search volumes) (λ c. search volumes) (λ c. search volumes) (λ c. search volumes) (λ c κs. search volumes) (λ c κs. search volumes) (λ c κs. search volumes) (λ c κs. search volumes) (λ c. search volumes))

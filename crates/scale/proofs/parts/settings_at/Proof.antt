@@ -1,6 +1,0 @@
-use Rattle.scale.proofs.Ways.{answers}
-use Rattle.scale.proofs.parts.settings_at.Statement.{statement}
-use Rattle.scale.proofs.parts.settings_at.Tie as tie
-
-pub settings-at-spec : {M : Type 1} → statement M
-settings-at-spec = tie.close (tie.spec (λ c. search answers) (λ c. search answers) (λ c. search answers) (λ c. search answers) (λ c κs. search answers) (λ c κs. search answers) (λ c. search answers) (λ c. search answers) (λ c. search answers) (λ c κs. search answers) (λ c. search answers) (λ c. search answers) (λ c. search answers) (λ c. search answers))

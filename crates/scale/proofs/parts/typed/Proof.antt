@@ -1,6 +1,0 @@
-use Rattle.scale.proofs.Ways.{shardings}
-use Rattle.scale.proofs.parts.typed.Statement.{statement}
-use Rattle.scale.proofs.parts.typed.Tie as tie
-
-pub typed-spec : {M : Type 1} → statement M
-typed-spec = tie.close (tie.spec (λ c κs. search shardings) (λ c. search shardings) (λ c. search shardings) (λ c. search shardings) (λ c. search shardings) (λ c κs. search shardings) (λ c. search shardings))

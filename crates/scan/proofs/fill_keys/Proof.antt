@@ -1,8 +1,0 @@
--- `scan::fill_keys` meets its contract.
-use borrow.Author.Needs.{needs}
-use Rattle.scan.proofs.Filled.{planned-keys}
-use Rattle.scan.proofs.fill_keys.Statement.{statement}
-use Rattle.scan.proofs.fill_keys.Tie as tie
-
-pub fill-keys-spec : {M : Type 1} → statement M
-fill-keys-spec = tie.close (tie.spec (λ c κs. search needs) (λ c κs. search needs) (λ c. search needs) (λ c κs. (search needs, search needs)) (λ c. search needs) (λ c. search planned-keys))

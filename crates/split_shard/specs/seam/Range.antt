@@ -1,0 +1,27 @@
+-- "a byte range of the joined file" (RULES P4), end excluded: "that part of the index file or of the data file, whichever holds it. An empty
+-- range at the seam belongs to the data file."
+use Prim.Native.Nat.{ℕ}
+use mathlib.Core.Bool.{not}
+use mathlib.Core.List.{List, [], _∷_, _++_}
+use lib.ListN.{length}
+use Rattle.refusal.specs.Checks.{Check, check, answered}
+use Rattle.sharding.specs.declared.Sharding.{Sharding}
+use Rattle.sharding.specs.Specification.{allowed}
+use Rattle.shard.specs.File.{badFileLength}
+use Rattle.split_shard.specs.declared.heldrange.RangeAnswer.{RangeAnswer}
+use Rattle.split_shard.specs.declared.heldrange.RangeAnswer.the-variants.{Refused}
+use Rattle.split_shard.specs.heldrange.Held.{badRange, heldRange}
+use Rattle.split_shard.specs.seam.Pair.{badSeam}
+
+-- "a range request tests 1, 23, 6, 24"
+unfoldable pub rangeChecks : Sharding → List ℕ → List ℕ → ℕ → ℕ → List Check
+rangeChecks spec index d start end =
+    check 1 (not (allowed spec))
+    ∷ check 23 (badSeam spec index)
+    ∷ check 6 (badFileLength spec (length (index ++ d)))
+    ∷ check 24 (badRange (length index) (length (index ++ d)) start end)
+    ∷ []
+
+-- RULES P4
+unfoldable pub rangeAnswer : Sharding → List ℕ → List ℕ → ℕ → ℕ → RangeAnswer
+rangeAnswer spec index d start end = answered Refused (rangeChecks spec index d start end) (heldRange (length index) start end)

@@ -1,9 +1,0 @@
-use Rattle.strings.proofs.Steps.{naming}
-use Rattle.strings.proofs.names.hex_value.Statement.{statement}
-use Rattle.strings.proofs.names.hex_value.Tie as tie
-
-pub hex-value-spec : {M : Type 1} → statement M
-hex-value-spec =
-    tie.close
-    (tie.spec (λ c κs. search naming) (λ c. search naming) (λ c. search naming) (λ c. search naming) (λ c. search naming) (λ c. search naming)
-    (λ c. search naming))

@@ -1,8 +1,0 @@
-use Rattle.text.proofs.Steps.{counting}
-use Rattle.text.proofs.numbers.skip_frac.Statement.{statement}
-use Rattle.text.proofs.numbers.skip_frac.Tie as tie
-
-pub skip-frac-spec : {M : Type 1} → statement M
-skip-frac-spec =
-    tie.close
-    (tie.spec (λ c κs. search counting) (λ c. search counting) (λ c κs. search counting) (λ c. search counting) (λ c. search counting))

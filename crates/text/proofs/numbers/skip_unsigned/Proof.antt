@@ -1,9 +1,0 @@
-use Rattle.text.proofs.Steps.{counting}
-use Rattle.text.proofs.numbers.skip_unsigned.Statement.{statement}
-use Rattle.text.proofs.numbers.skip_unsigned.Tie as tie
-
-pub skip-unsigned-spec : {M : Type 1} → statement M
-skip-unsigned-spec =
-    tie.close
-    (tie.spec (λ c κs. search counting) (λ c. search counting) (λ c. search counting) (λ c. search counting) (λ c κs. search counting)
-    (λ c. search counting) (λ c. search counting) (λ c. search counting) (λ c κs. search counting) (λ c. search counting))

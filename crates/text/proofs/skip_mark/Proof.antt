@@ -1,9 +1,0 @@
-use Rattle.text.proofs.Steps.{marking}
-use Rattle.text.proofs.skip_mark.Statement.{statement}
-use Rattle.text.proofs.skip_mark.Tie as tie
-
-pub skip-mark-spec : {M : Type 1} → statement M
-skip-mark-spec =
-    tie.close
-    (tie.spec (λ c κs. search marking) (λ c κs. search marking) (λ c. search marking) (λ c. search marking) (λ c κs. search marking)
-    (λ c. search marking))
