@@ -41,6 +41,10 @@ use Rattle.mesh_manifest.specs.nodes.Nodes.{nodeChecks, nodeAnswer}
 use Rattle.mesh_manifest.specs.levelnodes.Level.{nodesChecks, nodesAnswer, nodesLeft}
 use Rattle.mesh_manifest.specs.declared.corners.CornersAnswer.the-variants as Cs
 use Rattle.mesh_manifest.specs.corners.Boxes.{boxChecks, cornersChecks, cornersAnswer}
+use Rattle.compressed_segmentation.specs.declared.segmentation.Shape.{Shape}
+use Rattle.compressed_segmentation.specs.declared.segmentation.LabelAnswer.the-variants as E
+use Rattle.compressed_segmentation.specs.segmentation.Labels.{labelChecks, labelAnswer}
+use Rattle.compressed_segmentation.specs.rawform.Raw.{unpackChecks, unpackAnswer, unpackLeft, lengthChecks, lengthAnswer}
 
 -- ---- grids, places and names
 
@@ -162,3 +166,21 @@ module _ (s : List ℕ) where
   pub corners-refuses : (l i : ℕ) → Refuses (cornersAnswer s l i) Cs.Refused (cornersChecks s l i)
   unfolding cornersAnswer cornersChecks nodeChecks manifestChecks boxChecks
   corners-refuses l i = refuses Cs.Refused (λ j k e. cc) (cornersChecks s l i) _ refl (λ k e. cc)
+
+-- ---- labels
+
+pub label-refuses : (s : List ℕ) (sh : Shape) (x y z c : ℕ) → Refuses (labelAnswer s sh x y z c) E.Refused (labelChecks s sh x y z c)
+unfolding labelAnswer labelChecks
+label-refuses s sh x y z c = refuses E.Refused (λ j k e. cc) (labelChecks s sh x y z c) _ refl (λ k e. cc)
+
+pub unpack-refuses : (s : List ℕ) (sh : Shape) (out : List ℕ) → Refuses (unpackAnswer s sh out) Refused (unpackChecks s sh out)
+unfolding unpackAnswer unpackChecks
+unpack-refuses s sh out = refuses Refused (λ j k e. cc) (unpackChecks s sh out) _ refl (λ k e. cc)
+
+pub unpacked-length-refuses : (sh : Shape) → Refuses (lengthAnswer sh) Refused (lengthChecks sh)
+unfolding lengthAnswer lengthChecks
+unpacked-length-refuses sh = refuses Refused (λ j k e. cc) (lengthChecks sh) _ refl (λ k e. cc)
+
+pub unpack-kept : (s : List ℕ) (sh : Shape) (out : List ℕ) (k : ℕ) → unpackAnswer s sh out ≡ Refused k → unpackLeft s sh out ≡ out
+unfolding unpackAnswer unpackLeft
+unpack-kept s sh out k e = keeping Refused (unpackChecks s sh out) _ _ out k (λ h. cc) e

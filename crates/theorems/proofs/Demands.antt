@@ -35,8 +35,9 @@ use Rattle.card.proofs.Meaning.{one-meaning-one-card}
 use Rattle.info.proofs.document.Meaning.{meaning}
 use Rattle.mesh_manifest.proofs.levelnodes.Each.{node-numbers}
 use Rattle.theorems.specs.Demands.{Demand1, Demand2, Ready, Demand3}
-use Rattle.theorems.proofs.Measures.{measure-refuses, measure-names, measure-refuses-pair, add-refuses, add-pair-refuses, join-refuses}
-use Rattle.theorems.proofs.Calls.{grid-refuses, key-refuses, keys-refuses, keys-kept, cover-refuses, cover-kept, cell-refuses, bounds-refuses, chunk-name-refuses, chunk-name-kept, place-refuses, places-refuses, places-kept, file-name-refuses, file-name-kept, card-read-refuses, card-write-refuses, card-kept, manifest-refuses, header-refuses, field-refuses, node-refuses, nodes-refuses, nodes-kept, corners-refuses}
+use Rattle.theorems.proofs.Entry.{entry-decides}
+use Rattle.theorems.proofs.Measures.{measure-refuses, measure-names, check-number-pair, check-passes-pair, check-names-pair, measure-names-pair, measure-refuses-pair, add-refuses, add-pair-refuses, join-refuses}
+use Rattle.theorems.proofs.Calls.{grid-refuses, key-refuses, keys-refuses, keys-kept, cover-refuses, cover-kept, cell-refuses, bounds-refuses, chunk-name-refuses, chunk-name-kept, place-refuses, places-refuses, places-kept, file-name-refuses, file-name-kept, card-read-refuses, card-write-refuses, card-kept, manifest-refuses, header-refuses, field-refuses, node-refuses, nodes-refuses, nodes-kept, corners-refuses, label-refuses, unpack-refuses, unpacked-length-refuses, unpack-kept}
 
 pub demand-1 : Demand1
 demand-1 =
@@ -63,6 +64,9 @@ demand-1 =
       settle = settle-refuses;
       unlisted = unlisted-refuses;
       checkOfPair = check-refuses-pair;
+      checkedOfPair = check-number-pair;
+      passedOfPair = check-passes-pair;
+      namedOfPair = check-names-pair;
       lookupOfPair = lookup-refuses-pair;
       fragmentOfPair = fragment-refuses-pair;
       countOfPair = count-refuses-pair;
@@ -73,6 +77,7 @@ demand-1 =
       measure = measure-refuses;
       measureNamed = measure-names;
       measureOfPair = measure-refuses-pair;
+      measureNamedOfPair = measure-names-pair;
       sheetAdd = add-refuses;
       sheetAddPair = add-pair-refuses;
       sheetJoin = join-refuses;
@@ -90,6 +95,9 @@ demand-1 =
       node = node-refuses;
       nodes = nodes-refuses;
       corners = corners-refuses;
+      label = label-refuses;
+      unpack = unpack-refuses;
+      unpackedLength = unpacked-length-refuses;
       keysKept = keys-kept;
       coverKept = cover-kept;
       placesKept = places-kept;
@@ -105,6 +113,7 @@ demand-1 =
       intakePartKept = part-keeps;
       intakeCloseKept = close-keeps;
       nodesKept = nodes-kept;
+      unpackKept = unpack-kept;
     }
 
 pub demand-2 : Demand2
@@ -115,6 +124,7 @@ demand-2 =
       found = λ spec shard file id i bytes a. listed-chunk-is-handed-out spec shard file id a;
       absent = twelve-means-not-listed;
       depends = λ spec shard id a b. lookup-depends-only-on-these spec shard id a b;
+      dependsEntry = entry-decides;
       fragment = λ spec shard file item level node mesh asked sound lists has. listed-fragment-is-handed-out spec shard file item level node asked mesh sound lists has;
       fragments = λ spec shard file item mesh sound lists. (fragments-are-the-lead mesh sound lists, lead-length mesh sound lists);
       noFragment = eighteen-means-no-fragment;

@@ -16,12 +16,15 @@ use Rattle.shard.specs.declared.CheckAnswer.the-variants.{Sound, Refused, Fault
 use Rattle.holdings.specs.declared.measure.Counts.{Counts}
 use Rattle.holdings.specs.chunksums.Totals.{mostTotal, passes}
 use Rattle.holdings.specs.declared.shardsheet.Sheet.{Sheet}
+use Rattle.holdings.specs.declared.SheetAnswer.{SheetAnswer}
 use Rattle.holdings.specs.declared.SheetAnswer.the-variants.{Total, Refused as SheetRefused}
 use Rattle.holdings.specs.shardsheet.Sheet.{rows, empty, tally, soundSheet, refusedSheet, shardSheet, numbers, isAmong, hasRow}
 use Rattle.holdings.specs.sheettotals.Totals.{anyPasses, both}
 use Rattle.holdings.specs.Answers.{joinAnswer, sheetOf, addAnswer, pairSheet, pairAddAnswer}
 use Rattle.holdings.proofs.shardsheet.Numbers.{Told, check-told, pair-told}
 use Rattle.holdings.proofs.Answered.{join-pick}
+use Rattle.coronagamba.specs.Sheets as L
+use Rattle.theorems.proofs.Counted.{listed-these, chunks-listed, bytes-listed}
 use Rattle.theorems.specs.Holdings.{Holding, oneFile, twoFiles, verdictOn, countsOf, addOne, keptBy, addAll, NoneRefused, isSound, isRefusedWith, howMany, sumOver, sheetOver, Within, Reordered, none, first, swapped, then, shardsOn, Order13}
 
 -- ---- rows, added one by one; a list that ends goes on with 0
@@ -249,6 +252,15 @@ only-27 : (b : Bool) (t : Sheet) (k : ℕ) → pick b (SheetRefused 27) (Total t
 only-27 true t k e = cc
 only-27 false t k e = let z : _≡_ {A = ℕ} 0 1 = cc in absurd (omega arith)
 
+of-rows : (s : Sheet) → L.sheetOf (rows s) ≡ s
+unfolding rows L.sheetOf
+of-rows s = refl
+
+rows-left : (s : Sheet) (a : SheetAnswer) → L.rowsAfter a (rows s) ≡ rows (keptBy s a)
+unfolding keptBy
+rows-left s (Total t) = refl
+rows-left s (SheetRefused k) = refl
+
 -- ----
 
 pub order-13 : Order13
@@ -257,7 +269,13 @@ order-13 = record {
   counts = add-counts;
   all = λ hs w. none-refused empty hs (within-sums hs w);
   shards = λ hs w. ap shardsOn (add-counts hs w ∙ over-sums hs) ∙ shards-sums hs;
+  chunks = λ spec shard a items s. chunks-listed spec shard a s items;
+  bytes = λ spec shard a items s. bytes-listed spec shard a s items;
+  list = listed-these;
   parts = parts-join;
   past = λ sheet h. rw (add-pick sheet h) (by-27 _ _);
-  stays = λ sheet h k e. (only-27 (anyPasses (rows (both sheet (sheetOver (h ∷ []))))) (both sheet (one h)) k (sym (add-pick sheet h) ∙ e), unfold keptBy in rw e);
+  only = λ sheet h k e. only-27 (anyPasses (rows (both sheet (sheetOver (h ∷ []))))) (both sheet (one h)) k (sym (add-pick sheet h) ∙ e);
+  stays = λ lent h k e. rw e;
+  joinStays = λ lent other k e. rw e;
+  lent = λ sheet h. rw (of-rows sheet) (rows-left sheet (addOne sheet h));
 }

@@ -9,14 +9,13 @@ use lib.ListN.{length, drop}
 use lib.Seq.{drop-append-seam}
 use borrow.Author.Tests.{ltb-true, ltb-false, lt-leb}
 use Rattle.refusal.specs.Choice.{pick}
-use Rattle.refusal.specs.Checks.{firstNumber, unless, Refuses}
+use Rattle.refusal.specs.Checks.{firstNumber, unless}
 use Rattle.refusal.specs.declared.Written.the-variants.{Length, Refused}
-use Rattle.refusal.proofs.Refusing.{refuses, keeping, by-none}
+use Rattle.refusal.proofs.Refusing.{by-none}
 use Rattle.endian.specs.Little.{le, leAt}
 use Rattle.endian.specs.Range.{anyBelow}
 use Rattle.morton.specs.grid.Grid.{gridSize, hasZero}
 use Rattle.compressed_segmentation.specs.declared.segmentation.Shape.{Shape}
-use Rattle.compressed_segmentation.specs.declared.segmentation.LabelAnswer.the-variants.{Refused as Unlabelled}
 use Rattle.compressed_segmentation.specs.segmentation.Words.{word, whole}
 use Rattle.compressed_segmentation.specs.segmentation.Layout.{noVoxels, outside, blockNumber, placeNumber, isWidth}
 use Rattle.compressed_segmentation.specs.segmentation.Labels.{valueIn, labelAt, otherWidth, cutOff, labelChecks, labelAnswer}
@@ -25,22 +24,6 @@ use Rattle.compressed_segmentation.specs.rawform.Raw.{joined, rawVoxel, rawRow,
 use Rattle.compressed_segmentation.proofs.unpack.Laws.{equals-asking, refuses-by-voxels, length-none, refused-number}
 use Rattle.compressed_segmentation.proofs.rawform.Lengths.{form-bytes}
 use Rattle.theorems.specs.Labels.{workedShape, workedChunk, zeros, workedRaw, Order14}
-
-label-refuses : (s : List ℕ) (sh : Shape) (x y z c : ℕ) → Refuses (labelAnswer s sh x y z c) Unlabelled (labelChecks s sh x y z c)
-unfolding labelAnswer labelChecks
-label-refuses s sh x y z c = refuses Unlabelled (λ j k e. cc) (labelChecks s sh x y z c) _ refl (λ k e. cc)
-
-unpack-refuses : (s : List ℕ) (sh : Shape) (out : List ℕ) → Refuses (unpackAnswer s sh out) Refused (unpackChecks s sh out)
-unfolding unpackAnswer unpackChecks
-unpack-refuses s sh out = refuses Refused (λ j k e. cc) (unpackChecks s sh out) _ refl (λ k e. cc)
-
-length-refuses : (sh : Shape) → Refuses (lengthAnswer sh) Refused (lengthChecks sh)
-unfolding lengthAnswer lengthChecks
-length-refuses sh = refuses Refused (λ j k e. cc) (lengthChecks sh) _ refl (λ k e. cc)
-
-unpack-kept : (s : List ℕ) (sh : Shape) (out : List ℕ) (k : ℕ) → unpackAnswer s sh out ≡ Refused k → unpackLeft s sh out ≡ out
-unfolding unpackAnswer unpackLeft
-unpack-kept s sh out k e = keeping Refused (unpackChecks s sh out) _ _ out k (λ h. cc) e
 
 -- ---- lengths
 
@@ -123,10 +106,6 @@ pub order-14 : Order14
 order-14 = record {
   asking = equals-asking;
   voxels = refuses-by-voxels;
-  label = label-refuses;
-  unpack = unpack-refuses;
-  measure = length-refuses;
-  kept = unpack-kept;
   past = unpack-past;
   told = λ s sh out n h e. unpack-told s sh out n h e;
   room = λ s sh out n e h r. enough-room s sh out n e h r;

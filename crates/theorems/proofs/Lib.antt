@@ -1,9 +1,15 @@
 pub mod Calls
 pub mod Measures
+pub mod Carried
+pub mod Entry
 pub mod Demands
+pub mod Hash
+pub mod Standing
+pub mod Starts
 pub mod Orders
 pub mod Pairs
 pub mod Intake
 pub mod Shortest
+pub mod Counted
 pub mod Holdings
 pub mod Labels

@@ -1,30 +1,34 @@
 -- What measuring a shard and adding to a sheet refuse, by their checks.
 use Prim.Native.Nat.{ℕ, zero, suc}
-use mathlib.Core.Path.{_≡_, refl, sym, _∙_}
+use mathlib.Core.Path.{_≡_, refl, sym, ap, _∙_}
 use mathlib.Core.List.{List, [], _∷_, _++_}
 use mathlib.Core.Logic.{_↔_}
+use native.Mathlib.Omega.{arith}
+use lib.ListN.{length}
 use Rattle.refusal.specs.Checks.{Check, check, firstNumber, unless, answeredAt, Refuses, RefusesAt}
 use Rattle.refusal.proofs.Picks.{all-in, all-in-both}
-use Rattle.refusal.proofs.Refusing.{refuses}
+use Rattle.refusal.proofs.Refusing.{orElse, first-both, refuses}
 use Rattle.refusal.proofs.Positions.{at-both, at-plain, refusing-at}
 use Rattle.sharding.specs.declared.Sharding.{Sharding}
 use Rattle.sharding.specs.Specification.{noSuchShard}
+use Rattle.shard.specs.declared.CheckAnswer.{CheckAnswer}
 use Rattle.shard.specs.declared.CheckAnswer.the-variants as C
 use Rattle.shard.specs.Faults.{shardFault}
-use Rattle.shard.specs.File.{indexPart, dataPart, fileChecks, shardChecks, checkAnswer}
+use Rattle.shard.specs.File.{indexLength, indexPart, dataPart, fileChecks, shardChecks, checkAnswer, checkNumber}
 use Rattle.shard.specs.Sound.{FirstFaultIs}
 use Rattle.shard.proofs.Numbers.{shard-in, shard-answer}
-use Rattle.shard.proofs.Whole.{check-names}
+use Rattle.shard.proofs.Whole.{check-number, check-passes, check-names}
 use Rattle.split_shard.specs.seam.Pair.{pairChecks, pairAnswer}
 use Rattle.split_shard.proofs.seam.Pairs.{checks-seamed, seamed-front, seamed-back}
 use Rattle.split_shard.proofs.seam.Refusals.{pair-refuses-at}
 use Rattle.split_shard.specs.pair.Answers.{pairCheck}
+use Rattle.split_shard.proofs.pair.Laws.{check-as-joined}
 use Rattle.holdings.specs.declared.measure.MeasureAnswer.{MeasureAnswer}
 use Rattle.holdings.specs.declared.measure.MeasureAnswer.the-variants.{Sound, Refused, Faulty}
 use Rattle.holdings.specs.measure.Measures.{chunkBytes, fileMeasure}
 use Rattle.holdings.specs.chunksums.Totals.{passes}
 use Rattle.holdings.specs.measure.Answers.{measuredIn, afterVerdict, measureAnswer, pairMeasure}
-use Rattle.holdings.proofs.measure.Answered.{measure-faulty, named-fault}
+use Rattle.holdings.proofs.measure.Answered.{measure-faulty, measure-as-joined, named-fault}
 use Rattle.holdings.specs.declared.shardsheet.Sheet.{Sheet}
 use Rattle.holdings.specs.declared.SheetAnswer.the-variants as Sh
 use Rattle.holdings.specs.Answers.{joinAnswer, sheetOf, addAnswer, pairSheet, pairAddAnswer}
@@ -79,6 +83,46 @@ module _ (spec : Sharding) (shard : ℕ) (index d : List ℕ) where
           let e = checks-seamed spec (noSuchShard spec shard) index z in
           unfold unless measureAnswer in rw (seamed-front spec index d e, seamed-back spec index d e)
       go (suc n) z = unfold unless afterVerdict in refl
+
+  numbered : (n : ℕ) (a : CheckAnswer) → checkNumber (unless C.Refused n a) ≡ orElse n (checkNumber a)
+  unfolding unless orElse
+  numbered zero a = refl
+  numbered (suc n) a = refl
+
+  pub check-number-pair : checkNumber (pairCheck spec shard index d) ≡ firstNumber (pairChecks spec (noSuchShard spec shard) index ++ shardChecks spec shard (index ++ d))
+  unfolding pairCheck pairChecks
+  check-number-pair =
+      numbered (firstNumber (pairChecks spec (noSuchShard spec shard) index)) (checkAnswer spec shard (index ++ d))
+      ∙ rw (check-number spec shard (index ++ d))
+      (sym (first-both (pairChecks spec (noSuchShard spec shard) index) (shardChecks spec shard (index ++ d)) (all-in (pairChecks spec (noSuchShard spec shard) index) refl)))
+
+  none-pair : checkNumber (pairCheck spec shard index d) ≡ 0 → pairCheck spec shard index d ≡ C.Sound
+  unfolding pairCheck
+  none-pair = go (firstNumber (pairChecks spec (noSuchShard spec shard) index))
+    where
+      go : (n : ℕ) → checkNumber (unless C.Refused n (checkAnswer spec shard (index ++ d))) ≡ 0 → unless C.Refused n (checkAnswer spec shard (index ++ d)) ≡ C.Sound
+      go zero e = unfold unless in check-passes spec shard (index ++ d) .1 (sym (check-number spec shard (index ++ d)) ∙ e)
+      go (suc n) e = unfold unless in absurd (omega arith)
+
+  pub check-passes-pair : (pairCheck spec shard index d ≡ C.Sound) ↔ (firstNumber (pairChecks spec (noSuchShard spec shard) index ++ shardChecks spec shard (index ++ d)) ≡ 0)
+  check-passes-pair = ((λ e. sym check-number-pair ∙ ap checkNumber e), (λ z. none-pair (check-number-pair ∙ z)))
+
+  pub check-names-pair : (k m p : ℕ) → (pairCheck spec shard index d ≡ C.Faulty k m p) ↔ ((length index ≡ indexLength spec) × FirstFaultIs spec shard (index ++ d) k m p)
+  check-names-pair k m p = (
+    λ e. go (firstNumber (pairChecks spec (noSuchShard spec shard) index)) refl (unfold pairCheck in e),
+    λ g. check-as-joined spec shard index d (g .0) ∙ check-names spec shard (index ++ d) k m p .1 (g .1),
+  )
+    where
+      go : (n : ℕ) → firstNumber (pairChecks spec (noSuchShard spec shard) index) ≡ n → unless C.Refused n (checkAnswer spec shard (index ++ d)) ≡ C.Faulty k m p
+          → (length index ≡ indexLength spec) × FirstFaultIs spec shard (index ++ d) k m p
+      go zero z e = unfold unless in (checks-seamed spec (noSuchShard spec shard) index z, check-names spec shard (index ++ d) k m p .0 e)
+      go (suc n) z e = unfold unless in (let y : _≡_ {A = ℕ} 0 1 = cc in absurd (omega arith))
+
+  pub measure-names-pair : (k m p : ℕ) → (pairMeasure spec shard index d ≡ Faulty k m p) ↔ ((length index ≡ indexLength spec) × FirstFaultIs spec shard (index ++ d) k m p)
+  measure-names-pair k m p = (
+    λ e. check-names-pair k m p .0 (named-fault spec index d (pairCheck spec shard index d) (unfold pairMeasure in e)),
+    λ g. measure-as-joined spec shard index d (g .0) ∙ measure-names spec shard (index ++ d) k m p .1 (g .1),
+  )
 
   pub measure-refuses-pair : RefusesAt (pairMeasure spec shard index d) Refused (faultyAt spec shard (index ++ d)) (pairChecks spec (noSuchShard spec shard) index ++ measureChecks spec shard (index ++ d))
   measure-refuses-pair =

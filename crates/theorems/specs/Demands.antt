@@ -44,7 +44,7 @@ use Rattle.unlisted.specs.declared.UnlistedAnswer.the-variants as U
 use Rattle.unlisted.specs.Answers.{unlistedAnswer}
 use Rattle.lookup.specs.declared.idsearch.LookupAnswer.the-variants as L
 use Rattle.lookup.specs.Find.{lookupChecks, lookupAnswer}
-use Rattle.lookup.specs.Lookups.{Asked, HandsOut, AgreeFor, SameAnswer}
+use Rattle.lookup.specs.Lookups.{Asked, HandsOut, entryBytes, AgreeFor, SameAnswer}
 use Rattle.lookup.specs.fragment.Fragment.{fragmentChecks, fragmentAnswer}
 use Rattle.lookup.specs.fragment.Fragments.{HandsOutFragment, LacksFragment, SameFragment}
 use Rattle.lookup.specs.declared.listing.CountAnswer.the-variants as N
@@ -92,6 +92,10 @@ use Rattle.mesh_manifest.specs.nodenumbers.Numbers.{numbersOf, nodesOf}
 use Rattle.mesh_manifest.specs.levelnodes.Level.{nodesChecks, nodesAnswer, nodesLeft}
 use Rattle.mesh_manifest.specs.declared.corners.CornersAnswer.the-variants as Cs
 use Rattle.mesh_manifest.specs.corners.Boxes.{cornersChecks, cornersAnswer}
+use Rattle.compressed_segmentation.specs.declared.segmentation.Shape.{Shape}
+use Rattle.compressed_segmentation.specs.declared.segmentation.LabelAnswer.the-variants as E
+use Rattle.compressed_segmentation.specs.segmentation.Labels.{labelChecks, labelAnswer}
+use Rattle.compressed_segmentation.specs.rawform.Raw.{unpackChecks, unpackAnswer, unpackLeft, lengthChecks as lengthChecksOfLabels, lengthAnswer as lengthAnswerOfLabels}
 
 -- ---- Demand 1
 
@@ -136,6 +140,9 @@ pub record Demand1 : Type 0 where
   pub unlisted : (spec : Sharding) (shard : ℕ) (file : List ℕ) → RefusesAt (unlistedAnswer spec shard file) U.Refused U.Faulty (shardChecks spec shard file)
   -- (of a pair: 1, 5, 23, then those of the joined file, whose 1 and 5 are the same tests; order 10)
   pub checkOfPair : (spec : Sharding) (shard : ℕ) (index d : List ℕ) → Refuses (pairCheck spec shard index d) CheckRefused (pairChecks spec (noSuchShard spec shard) index ++ fileChecks spec (noSuchShard spec shard) (index ++ d))
+  pub checkedOfPair : (spec : Sharding) (shard : ℕ) (index d : List ℕ) → checkNumber (pairCheck spec shard index d) ≡ firstNumber (pairChecks spec (noSuchShard spec shard) index ++ shardChecks spec shard (index ++ d))
+  pub passedOfPair : (spec : Sharding) (shard : ℕ) (index d : List ℕ) → (pairCheck spec shard index d ≡ Sound) ↔ (firstNumber (pairChecks spec (noSuchShard spec shard) index ++ shardChecks spec shard (index ++ d)) ≡ 0)
+  pub namedOfPair : (spec : Sharding) (shard : ℕ) (index d : List ℕ) (k m p : ℕ) → (pairCheck spec shard index d ≡ Faulty k m p) ↔ ((length index ≡ indexLength spec) × FirstFaultIs spec shard (index ++ d) k m p)
   pub lookupOfPair : (spec : Sharding) (shard : ℕ) (index d : List ℕ) (id : ℕ) → RefusesAt (pairLookup spec shard index d id) L.Refused L.Faulty (pairChecks spec (otherShard spec shard id) index ++ lookupChecks spec shard (index ++ d) id)
   pub fragmentOfPair : (spec : Sharding) (shard : ℕ) (index d : List ℕ) (id level node : ℕ) → RefusesAt (pairFragment spec shard index d id level node) L.Refused L.Faulty (pairChecks spec (otherShard spec shard id) index ++ fragmentChecks spec shard (index ++ d) id level node)
   pub countOfPair : (spec : Sharding) (shard : ℕ) (index d : List ℕ) (m : ℕ) → RefusesAt (pairCount spec shard index d m) N.Refused N.Faulty (pairChecks spec (noMinishard spec shard m) index ++ countChecks spec shard (index ++ d) m)
@@ -147,6 +154,7 @@ pub record Demand1 : Type 0 where
   pub measure : (spec : Sharding) (shard : ℕ) (file : List ℕ) → RefusesAt (measureAnswer spec shard file) Ms.Refused (faultyAt spec shard file) (measureChecks spec shard file)
   pub measureNamed : (spec : Sharding) (shard : ℕ) (file : List ℕ) (k m p : ℕ) → (measureAnswer spec shard file ≡ Ms.Faulty k m p) ↔ FirstFaultIs spec shard file k m p
   pub measureOfPair : (spec : Sharding) (shard : ℕ) (index d : List ℕ) → RefusesAt (pairMeasure spec shard index d) Ms.Refused (faultyAt spec shard (index ++ d)) (pairChecks spec (noSuchShard spec shard) index ++ measureChecks spec shard (index ++ d))
+  pub measureNamedOfPair : (spec : Sharding) (shard : ℕ) (index d : List ℕ) (k m p : ℕ) → (pairMeasure spec shard index d ≡ Ms.Faulty k m p) ↔ ((length index ≡ indexLength spec) × FirstFaultIs spec shard (index ++ d) k m p)
   pub sheetAdd : (sheet : Sheet) (spec : Sharding) (shard : ℕ) (file : List ℕ) → Refuses (addAnswer sheet spec shard file) Sh.Refused (joinChecks sheet (sheetOf spec shard file))
   pub sheetAddPair : (sheet : Sheet) (spec : Sharding) (shard : ℕ) (index d : List ℕ) → Refuses (pairAddAnswer sheet spec shard index d) Sh.Refused (joinChecks sheet (pairSheet spec shard index d))
   pub sheetJoin : (a b : Sheet) → Refuses (joinAnswer a b) Sh.Refused (joinChecks a b)
@@ -165,6 +173,10 @@ pub record Demand1 : Type 0 where
   pub node : (s : List ℕ) (l i : ℕ) → Refuses (nodeAnswer s l i) O.Refused (nodeChecks s l i)
   pub nodes : (s : List ℕ) (l : ℕ) (out : List ℕ) → Refuses (nodesAnswer s l out) Refused (nodesChecks s l out)
   pub corners : (s : List ℕ) (l i : ℕ) → Refuses (cornersAnswer s l i) Cs.Refused (cornersChecks s l i)
+  -- (of labels: "2 first, 29 before 28, then 13 for unpacking"; order 14)
+  pub label : (s : List ℕ) (sh : Shape) (x y z c : ℕ) → Refuses (labelAnswer s sh x y z c) E.Refused (labelChecks s sh x y z c)
+  pub unpack : (s : List ℕ) (sh : Shape) (out : List ℕ) → Refuses (unpackAnswer s sh out) Refused (unpackChecks s sh out)
+  pub unpackedLength : (sh : Shape) → Refuses (lengthAnswerOfLabels sh) Refused (lengthChecksOfLabels sh)
   -- And it changes no byte of a buffer that was lent. (A sheet stays: order 13's stays.)
   pub keysKept : (v : Volume) (cells : List Cell) (out : List ℕ) (k : ℕ) → keysAnswer v cells out ≡ Refused k → keysLeft v cells out ≡ out
   pub coverKept : (v : Volume) (lower upper : Point) (out : List ℕ) (k : ℕ) → coverAnswer v lower upper out ≡ Refused k → coverLeft v lower upper out ≡ out
@@ -184,6 +196,7 @@ pub record Demand1 : Type 0 where
   pub intakePartKept : (s : Intake) (bytes out waiting : List ℕ) (k : ℕ) → partAnswer s bytes out waiting ≡ I.Refused k → partLeft s bytes out waiting ≡ out
   pub intakeCloseKept : (s : Intake) (out waiting : List ℕ) (k : ℕ) → closeAnswer s out waiting ≡ X.Refused k → closeLeft s out waiting ≡ out
   pub nodesKept : (s : List ℕ) (l : ℕ) (out : List ℕ) (k : ℕ) → nodesAnswer s l out ≡ Refused k → nodesLeft s l out ≡ out
+  pub unpackKept : (s : List ℕ) (sh : Shape) (out : List ℕ) (k : ℕ) → unpackAnswer s sh out ≡ Refused k → unpackLeft s sh out ≡ out
 
 -- ---- Demand 2
 
@@ -220,6 +233,9 @@ pub record Demand2 : Type 0 where
   -- Its answer depends on nothing else than the file's length, one index entry, that minishard's index, of a mesh every manifest of that
   -- minishard, and the chunk handed out.
   pub depends : (spec : Sharding) (shard id : ℕ) (a b : List ℕ) → AgreeFor spec id a b → SameAnswer spec shard id a b
+  -- A refusal with 1 to 8 depends on the file's length and the index entry alone: behind an entry that 7 or 8 holds of, nothing matters.
+  pub dependsEntry : (spec : Sharding) (shard id : ℕ) (a b : List ℕ) → length a ≡ length b → entryBytes a (minishardOf spec id) ≡ entryBytes b (minishardOf spec id)
+      → (k : ℕ) (p : Option ℕ) → k ≤ 8 → lookupAnswer spec shard a id ≡ refusal L.Refused L.Faulty k p → lookupAnswer spec shard b id ≡ refusal L.Refused L.Faulty k p
   -- (order 7) Where the chosen minishard of a mesh is sound and lists the item, and its manifest has the node, the node's fragment is found
   -- among the item's fragments and handed out.
   pub fragment : (spec : Sharding) (shard : ℕ) (file : List ℕ) (item : Item) (level node : ℕ) → isMesh spec ≡ true → Asked spec shard file (item .id)

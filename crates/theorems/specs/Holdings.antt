@@ -11,6 +11,11 @@ use Rattle.sharding.specs.declared.Sharding.{Sharding}
 use Rattle.shard.specs.declared.CheckAnswer.{CheckAnswer}
 use Rattle.shard.specs.declared.CheckAnswer.the-variants.{Sound, Refused, Faulty}
 use Rattle.shard.specs.File.{checkAnswer}
+use Rattle.shard.specs.Sound.{SoundShard}
+use Rattle.shard.specs.Items.{Item}
+use Rattle.shard.specs.Lists.{Lists}
+use Rattle.settled_form.specs.form.Sorted.{Member, Distinct}
+use Rattle.settled_form.specs.form.Content.{idOf}
 use Rattle.split_shard.specs.pair.Answers.{pairCheck}
 use Rattle.holdings.specs.declared.measure.Counts.{Counts}
 use Rattle.holdings.specs.measure.Measures.{measureOf, fileMeasure}
@@ -20,6 +25,7 @@ use Rattle.holdings.specs.declared.SheetAnswer.the-variants.{Total, Refused as 
 use Rattle.holdings.specs.shardsheet.Sheet.{rows, empty}
 use Rattle.holdings.specs.sheettotals.Totals.{anyPasses, both}
 use Rattle.holdings.specs.Answers.{joinAnswer, addAnswer, pairAddAnswer}
+use Rattle.coronagamba.specs.Sheets.{sheetOf, rowsAfter}
 
 -- ---- shards, "with specification and number each"
 
@@ -121,6 +127,16 @@ pub data Reordered : List Holding → List Holding → Type 0 where
 unfoldable pub shardsOn : Sheet → ℕ
 shardsOn s = s .sound + s .refused1 + s .refused5 + s .refused6 + s .refused7 + s .refused8 + s .refused9 + s .refused10 + s .refused11 + s .refused15 + s .refused16 + s .refused17 + s .refused21 + s .refused23
 
+-- the shard lists these items and no others, each once: no two have one id
+pub record ListsThese (spec : Sharding) (file : List ℕ) (items : List Item) : Type 0 where
+  pub each : (item : Item) → Member item items ↔ Lists spec file item
+  pub once : Distinct idOf items
+
+-- the bytes of their chunks together
+unfoldable pub bodyBytes : List Item → ℕ
+bodyBytes [] = 0
+bodyBytes (x ∷ xs) = length (x .body) + bodyBytes xs
+
 -- RULES H4
 pub record Order13 : Type 0 where
   -- "Where the sheet began empty and no total over all of them passes 2^64-1, the same shards in another order give the same sheet."
@@ -130,8 +146,19 @@ pub record Order13 : Type 0 where
   pub all : (hs : List Holding) → Within hs → NoneRefused empty hs
   -- Each shard is in a row: no number that the check gives is forgotten.
   pub shards : (hs : List Holding) → Within hs → shardsOn (addAll empty hs) ≡ length hs
+  -- "over sound shards, chunks listed, sum of chunk sizes": the number of the items that the shard lists, and the bytes of their chunks. (Unlisted bytes are as
+  -- order 8 has them.)
+  pub chunks : (spec : Sharding) (shard : ℕ) (a : List ℕ) (items : List Item) → SoundShard spec shard a → ListsThese spec a items → fileMeasure spec a .chunks ≡ length items
+  pub bytes : (spec : Sharding) (shard : ℕ) (a : List ℕ) (items : List Item) → SoundShard spec shard a → ListsThese spec a items → fileMeasure spec a .bytes ≡ bodyBytes items
+  -- Every sound shard has such a list.
+  pub list : (spec : Sharding) (shard : ℕ) (a : List ℕ) → SoundShard spec shard a → (items : List Item) × ListsThese spec a items
   -- The sheets of two parts, joined, are that of the whole.
   pub parts : (hs gs : List Holding) → Within (hs ++ gs) → joinAnswer (addAll empty hs) (addAll empty gs) ≡ Total (addAll empty (hs ++ gs))
-  -- 27 is given exactly when a total would pass, of any sheet, and no other number; then the sheet stays.
+  -- 27 is given exactly when a total would pass, of any sheet, and no other number;
   pub past : (sheet : Sheet) (h : Holding) → (addOne sheet h ≡ SheetRefused 27) ↔ WouldPass sheet h
-  pub stays : (sheet : Sheet) (h : Holding) (k : ℕ) → addOne sheet h ≡ SheetRefused k → (k ≡ 27) × (keptBy sheet (addOne sheet h) ≡ sheet)
+  pub only : (sheet : Sheet) (h : Holding) (k : ℕ) → addOne sheet h ≡ SheetRefused k → k ≡ 27
+  -- "the sheet stays as before that shard": what the contracts of the C calls say of the numbers that were lent.
+  pub stays : (lent : List ℕ) (h : Holding) (k : ℕ) → addOne (sheetOf lent) h ≡ SheetRefused k → rowsAfter (addOne (sheetOf lent) h) lent ≡ lent
+  pub joinStays : (lent other : List ℕ) (k : ℕ) → joinAnswer (sheetOf lent) (sheetOf other) ≡ SheetRefused k → rowsAfter (joinAnswer (sheetOf lent) (sheetOf other)) lent ≡ lent
+  -- Where the rows of a sheet are lent, the next sheet's rows are left: `addAll` is a run of these calls.
+  pub lent : (sheet : Sheet) (h : Holding) → rowsAfter (addOne (sheetOf (rows sheet)) h) (rows sheet) ≡ rows (keptBy sheet (addOne sheet h))

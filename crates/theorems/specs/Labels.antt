@@ -4,13 +4,10 @@ use mathlib.Core.Path.{_≡_}
 use mathlib.Core.Bool.{false}
 use mathlib.Core.List.{List, [], _∷_}
 use lib.ListN.{length, drop}
-use Rattle.refusal.specs.Checks.{Refuses}
 use Rattle.refusal.specs.declared.Written.the-variants.{Length, Refused}
 use Rattle.morton.specs.declared.grid.Extents.{Extents}
 use Rattle.compressed_segmentation.specs.declared.segmentation.Shape.{Shape}
-use Rattle.compressed_segmentation.specs.declared.segmentation.LabelAnswer.the-variants.{Refused as Unlabelled}
-use Rattle.compressed_segmentation.specs.segmentation.Labels.{labelChecks, labelAnswer}
-use Rattle.compressed_segmentation.specs.rawform.Raw.{unpackChecks, unpackAnswer, unpackLeft, lengthChecks, lengthAnswer}
+use Rattle.compressed_segmentation.specs.rawform.Raw.{unpackAnswer, unpackLeft, lengthAnswer}
 use Rattle.compressed_segmentation.specs.unpack.Meaning.{EqualsAsking, RefusesByVoxels}
 
 -- ---- the chunk that the format's description works by hand
@@ -45,12 +42,8 @@ pub record Order14 : Type 0 where
   pub asking : (s : List ℕ) (sh : Shape) (out : List ℕ) → EqualsAsking s sh out
   -- "it gives 29 if any voxel would, else 28 if any would."
   pub voxels : (s : List ℕ) (sh : Shape) (out : List ℕ) → RefusesByVoxels s sh out
-  -- "2 first, 29 before 28, then 13 for unpacking": each call refuses with the first of its checks that holds.
-  pub label : (s : List ℕ) (sh : Shape) (x y z c : ℕ) → Refuses (labelAnswer s sh x y z c) Unlabelled (labelChecks s sh x y z c)
-  pub unpack : (s : List ℕ) (sh : Shape) (out : List ℕ) → Refuses (unpackAnswer s sh out) Refused (unpackChecks s sh out)
-  pub measure : (sh : Shape) → Refuses (lengthAnswer sh) Refused (lengthChecks sh)
-  -- A refused unpacking leaves the output as it was; otherwise it is as it was past the length that is answered.
-  pub kept : (s : List ℕ) (sh : Shape) (out : List ℕ) (k : ℕ) → unpackAnswer s sh out ≡ Refused k → unpackLeft s sh out ≡ out
+  -- The order of each call's refusals, and that a refused unpacking leaves the output as it was, is in Demand1; otherwise it is as it was past the length
+  -- that is answered.
   pub past : (s : List ℕ) (sh : Shape) (out : List ℕ) (n : ℕ) → unpackAnswer s sh out ≡ Length n → drop n (unpackLeft s sh out) ≡ drop n out
   -- That length is told by the shape alone, of every output whose own length is a number of 64 bits; and with that room none is refused with 13.
   pub told : (s : List ℕ) (sh : Shape) (out : List ℕ) (n : ℕ) → length out < 2 ^ 64 → unpackAnswer s sh out ≡ Length n → lengthAnswer sh ≡ Length n

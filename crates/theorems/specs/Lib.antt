@@ -1,6 +1,8 @@
 pub mod cases
 pub mod meshcases
 pub mod Demands
+pub mod Hash
+pub mod Kept
 pub mod Orders
 pub mod Pairs
 pub mod Intake

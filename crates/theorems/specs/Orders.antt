@@ -1,10 +1,12 @@
 -- What the orders promise (RULES R4, G10, S9, C6, F16, U7, U8), beyond the demands, which hold of volumes as they did, and since order 7 of meshes too.
-use Prim.Native.Nat.{ℕ, _<_, _≤_, _+_, _-_, _^_}
+use Prim.Native.Nat.{ℕ, zero, suc, _<_, _≤_, _+_, _-_, _^_}
 use mathlib.Core.Path.{_≡_}
-use mathlib.Core.Bool.{Bool, true, false, not}
+use mathlib.Core.Bool.{Bool, true, false, not, _&&_, _||_}
 use mathlib.Core.Logic.{_↔_}
 use mathlib.Core.List.{List, [], _∷_, _++_, List·Memᴰ, map}
+use lib.Dec.{eqb, leb}
 use lib.ListN.{length, take, getD}
+use Rattle.refusal.specs.Choice.{pick}
 use Rattle.refusal.specs.Checks.{Check, check, left, answeredAt}
 use Rattle.refusal.specs.Buffer.{over, room}
 use Rattle.refusal.specs.declared.Written.the-variants.{Length}
@@ -23,22 +25,20 @@ use Rattle.morton.specs.cellrows.Row.{rowOf}
 use Rattle.cover.specs.overlap.Cover.{coverKeys, coverAnswer, coverLeft}
 use Rattle.cover.specs.overlap.Meaning.{SharesVoxel, RisingFrom, reversed, outside}
 use Rattle.sharding.specs.declared.Sharding.{Sharding}
-use Rattle.sharding.specs.Specification.{volume, mesh, isMesh, minishardBits, allowed, noSuchShard}
+use Rattle.sharding.specs.Specification.{volume, mesh, isMesh, minishardBits, minishardCount, allowed, noSuchShard}
 use Rattle.sharding.specs.placement.Place.{minishardOf, placeChecks}
 use Rattle.sharding.specs.manyplaces.Batch.{shardsOf, minishardsOf, placesChecks}
 use Rattle.sharding.specs.Before.{mostMinishardBitsBefore, allowedBefore}
 use Rattle.names.specs.Shards.{shardName, shardNameChecks}
 use Rattle.shard.specs.declared.CheckAnswer.the-variants.{Sound, Faulty}
-use Rattle.shard.specs.index.Index.{mostShardBytes}
+use Rattle.shard.specs.declared.CheckAnswer.the-variants as C
+use Rattle.shard.specs.index.Index.{entryStart, entryEnd, entryCount, startSteps, chunkAt, mostShardBytes}
 use Rattle.mesh_manifest.specs.nodes.Nodes.{fragmentsLength}
-use Rattle.shard.specs.index.Tests.{entryTest}
-use Rattle.shard.specs.manifests.Mesh.{wrongLength, badReal, unorderedNodes, fragmentsOutside}
-use Rattle.shard.specs.Faults.{idTest, placeTest, endTest, entryTests}
-use Rattle.shard.specs.Items.{leadLength}
-use Rattle.shard.specs.File.{indexPart, dataPart, badFileLength, fileChecks, shardChecks, checkAnswer}
+use Rattle.shard.specs.File.{indexPart, dataPart, fileChecks, shardChecks, checkAnswer}
 use Rattle.shard.specs.Before.{PassedBefore}
-use Rattle.shard.specs.Sound.{SoundShard}
-use Rattle.unlisted.specs.ranges.Ranges.{Unlisted}
+use Rattle.shard.specs.Sound.{SoundMinishard, SoundShard}
+use Rattle.mesh_manifest.specs.manifest.Soundness.{Sound as Manifest}
+use Rattle.unlisted.specs.ranges.Ranges.{countIn, chunkStart, Unlisted}
 use Rattle.bitmap.specs.Positions.{misses}
 use Rattle.unlisted.specs.ranges.Covered.{coveredAt, fileUnlisted}
 use Rattle.unlisted.specs.declared.UnlistedAnswer.the-variants as U
@@ -48,10 +48,15 @@ use Rattle.lookup.specs.Find.{lookupAnswer}
 use Rattle.lookup.specs.fragment.Fragment.{fragmentAnswer}
 use Rattle.lookup.specs.declared.listing.CountAnswer.the-variants as N
 use Rattle.lookup.specs.listing.Listing.{countAnswer, listingAnswer}
-use Rattle.settled_form.specs.form.Content.{fileForm, fileFormLength}
-use Rattle.settled_form.specs.form.Before.{fileFormBefore, fileFormBeforeMesh}
+use Rattle.settled_form.specs.form.Content.{fileContent, fileForm, fileFormLength}
+use Rattle.settled_form.specs.form.Form.{partsLength}
+use Rattle.settled_form.specs.form.Before.{Pair, settledBefore, pairsFrom, pairBefore, fileFormBeforeMesh}
 use Rattle.settle.specs.declared.settleanswers.SettleAnswer.the-variants as S
 use Rattle.settle.specs.settleanswers.Answers.{lengthCheck, settleCheck, lengthAnswer, settleAnswer, settleLeft}
+use Rattle.split_shard.specs.pair.Answers.{pairCheck, pairLookup, pairFragment}
+use Rattle.split_shard.specs.pairform.Answers.{pairCount, pairListing, pairUnlisted, pairLength, pairSettle}
+use Rattle.holdings.specs.declared.measure.MeasureAnswer.the-variants as Ms
+use Rattle.holdings.specs.measure.Answers.{measureAnswer, pairMeasure}
 use Rattle.positions.specs.Points.{PointsAt, Named}
 use Rattle.card.specs.declared.Card.{Card}
 use Rattle.card.specs.declared.CardAnswer.the-variants.{Says, Refused}
@@ -59,30 +64,46 @@ use Rattle.card.specs.Layout.{cardBytes, Ranged}
 use Rattle.card.specs.Answers.{recordChecks, readAnswer, writeAnswer, writeLeft}
 use Rattle.card.specs.oldcards.Before.{cardBytesBeforeMesh, readAnswerBeforeMesh, MeshCard, recordChecksBefore, readAnswerBefore, NewCard}
 use Rattle.info.specs.Answers.{infoAnswer}
+use Rattle.theorems.specs.Kept.{fileChecksBefore, checkBefore, lookupBefore, settleBefore, settleLeftBefore}
+
+-- what k minishards from minishard m on listed before order 2, by exact sums, as it stands: ids rose, so nothing was sorted
+unfoldable pub listedBefore : List ℕ → List ℕ → ℕ → ℕ → List (List Pair)
+listedBefore index d m zero = []
+listedBefore index d m (suc k) =
+    let s = entryStart index m in
+    let n = entryCount s (entryEnd index m) in
+    pairsFrom (pairBefore d s n) 0 n ∷ listedBefore index d (suc m) k
+
+-- the settled form of it, restated (RULES U8)
+unfoldable pub formBefore : Sharding → List ℕ → List ℕ
+formBefore spec file = settledBefore (listedBefore (indexPart spec file) (dataPart spec file) 0 (minishardCount spec))
 
 -- Order 2: "a shard that passed before settles to the bytes it did before". (RULES F16, U8)
 pub record Order2 : Type 0 where
   -- a shard that passed before passes now,
   pub passes : (spec : Sharding) (shard : ℕ) (a : List ℕ) → PassedBefore spec shard a → checkAnswer spec shard a ≡ Sound
   -- its settled form is what it was,
-  pub form : (spec : Sharding) (shard : ℕ) (a : List ℕ) → PassedBefore spec shard a → fileForm spec a ≡ fileFormBefore spec a
+  pub form : (spec : Sharding) (shard : ℕ) (a : List ℕ) → PassedBefore spec shard a → fileForm spec a ≡ formBefore spec a
   -- and where that has room, settling, asked to drop what is unlisted as it always did, writes these bytes and reports their length.
-  pub settles : (spec : Sharding) (shard : ℕ) (a out : List ℕ) → PassedBefore spec shard a → length (fileFormBefore spec a) ≤ length out → length (fileFormBefore spec a) ≤ mostShardBytes
-      → (settleAnswer spec shard a true out ≡ S.Length (length (fileFormBefore spec a))) × (settleLeft spec shard a true out ≡ over (fileFormBefore spec a) out)
+  pub settles : (spec : Sharding) (shard : ℕ) (a out : List ℕ) → PassedBefore spec shard a → length (formBefore spec a) ≤ length out → length (formBefore spec a) ≤ mostShardBytes
+      → (settleAnswer spec shard a true out ≡ S.Length (length (formBefore spec a))) × (settleLeft spec shard a true out ≡ over (formBefore spec a) out)
 
 -- Order 4: "Existing shards and cards keep their bytes and meaning." Since order 7 it "speaks of volume cards". (RULES S9, C6)
 pub record Order4 : Type 0 where
-  -- What was allowed before is allowed now. Of all that answers are said with, `allowed` alone knows the limit, and it stands in these
-  -- lists of checks: of a place, of places, of a shard's name, of every call on a shard and of a card's record. They are what they
-  -- were, so every answer is.
+  -- What was allowed before is allowed now;
   pub allows : (spec : Sharding) → allowedBefore spec ≡ true → allowed spec ≡ true
+  -- with it every file is checked, looked up and settled as it was: the answers, and what settling leaves, are those kept from before;
+  pub checkKept : (spec : Sharding) (shard : ℕ) (file : List ℕ) → allowedBefore spec ≡ true → checkAnswer spec shard file ≡ checkBefore spec shard file
+  pub lookupKept : (spec : Sharding) (shard : ℕ) (file : List ℕ) (id : ℕ) → allowedBefore spec ≡ true → lookupAnswer spec shard file id ≡ lookupBefore spec shard file id
+  pub settleKept : (spec : Sharding) (shard : ℕ) (file out : List ℕ) → allowedBefore spec ≡ true
+      → (settleAnswer spec shard file true out ≡ settleBefore spec shard file out) × (settleLeft spec shard file true out ≡ settleLeftBefore spec shard file out)
+  -- and the checks of a place, of places, of a shard's name, of other calls on a shard and of a card's record are what they were.
   pub places : (spec : Sharding) → allowedBefore spec ≡ true → placeChecks spec ≡ check 1 (not (allowedBefore spec)) ∷ []
   pub batches : (spec : Sharding) (ids shards minishards : List ℕ) → allowedBefore spec ≡ true
       → placesChecks spec ids shards minishards ≡ check 1 (not (allowedBefore spec)) ∷ room (shardsOf spec ids) shards ∷ room (minishardsOf spec ids) minishards ∷ []
   pub names : (spec : Sharding) (shard : ℕ) (out : List ℕ) → allowedBefore spec ≡ true
       → shardNameChecks spec shard out ≡ check 1 (not (allowedBefore spec)) ∷ check 5 (noSuchShard spec shard) ∷ room (shardName spec shard) out ∷ []
-  pub files : (spec : Sharding) (five : Bool) (file : List ℕ) → allowedBefore spec ≡ true
-      → fileChecks spec five file ≡ check 1 (not (allowedBefore spec)) ∷ check 5 five ∷ check 6 (badFileLength spec (length file)) ∷ []
+  pub files : (spec : Sharding) (five : Bool) (file : List ℕ) → allowedBefore spec ≡ true → fileChecks spec five file ≡ fileChecksBefore spec five file
   pub records : (c : Card) → allowedBefore (c .sharding) ≡ true → recordChecks c ≡ recordChecksBefore c
   -- "A card with 13 to 16 is written in the same field,
   pub field : (c : Card) → getD (cardBytes c) 11 0 ≡ minishardBits (c .sharding)
@@ -114,6 +135,15 @@ pub record Order5 : Type 0 where
       → length (coverKeys v lower upper) ≤ length out
       → (coverAnswer v lower upper out ≡ Length (length (coverKeys v lower upper))) × (coverLeft v lower upper out ≡ over (coverKeys v lower upper) out)
 
+-- the refusals that carry a position: 7 to 11, 15 to 17 and 21
+abbrev pub isPlaced : ℕ → Bool
+isPlaced k = (leb 7 k && leb k 11) || (leb 15 k && leb k 17) || eqb k 21
+
+-- the answer a has a position exactly where it refuses with one of these
+pub record Carries {A : Type 0} (a : A) (refused : ℕ → A) (refusedAt : ℕ → ℕ → A) : Type 0 where
+  pub always : (k : ℕ) → a ≡ refused k → isPlaced k ≡ false
+  pub only : (k p : ℕ) → a ≡ refusedAt k p → isPlaced k ≡ true
+
 -- Order 6: "Refusals 7 to 11 now carry a byte position in the shard: for 7 and 8 the index entry, for 9 and 10 the id step of the first
 -- offending entry, for 11 its start step. For 9 the offending entry is the later of the pair." Since order 7 also those of a mesh's manifests, 15 to 17
 -- and 21: "all four carry what 11 carries".
@@ -130,22 +160,64 @@ pub record Order6 : Type 0 where
   pub unlisted : (spec : Sharding) (shard : ℕ) (file : List ℕ) (k p : ℕ) → unlistedAnswer spec shard file ≡ U.Faulty k p → Named spec shard file k p
   pub formLength : (spec : Sharding) (shard : ℕ) (file : List ℕ) (k p : ℕ) (dropping : Bool) → lengthAnswer spec shard file dropping ≡ S.Faulty k p → Named spec shard file k p
   pub settle : (spec : Sharding) (shard : ℕ) (file : List ℕ) (dropping : Bool) (out : List ℕ) (k p : ℕ) → settleAnswer spec shard file dropping out ≡ S.Faulty k p → Named spec shard file k p
+  -- "Refusals 7 to 11 now carry a byte position", and 15 to 17 and 21 of a listed manifest, always; no other refusal ever does. "All who pass these refusals on,
+  -- from lookup to settling, pass the position too": of each call on a file, and on a pair.
+  pub checkCarries : (spec : Sharding) (shard : ℕ) (file : List ℕ) (m : ℕ) → Carries (checkAnswer spec shard file) C.Refused (λ k p. C.Faulty k m p)
+  pub lookupCarries : (spec : Sharding) (shard : ℕ) (file : List ℕ) (id : ℕ) → Carries (lookupAnswer spec shard file id) L.Refused L.Faulty
+  pub fragmentCarries : (spec : Sharding) (shard : ℕ) (file : List ℕ) (id level node : ℕ) → Carries (fragmentAnswer spec shard file id level node) L.Refused L.Faulty
+  pub countCarries : (spec : Sharding) (shard : ℕ) (file : List ℕ) (m : ℕ) → Carries (countAnswer spec shard file m) N.Refused N.Faulty
+  pub listingCarries : (spec : Sharding) (shard : ℕ) (file : List ℕ) (m : ℕ) (out : List ℕ) → Carries (listingAnswer spec shard file m out) N.Refused N.Faulty
+  pub unlistedCarries : (spec : Sharding) (shard : ℕ) (file : List ℕ) → Carries (unlistedAnswer spec shard file) U.Refused U.Faulty
+  pub formLengthCarries : (spec : Sharding) (shard : ℕ) (file : List ℕ) (dropping : Bool) → Carries (lengthAnswer spec shard file dropping) S.Refused S.Faulty
+  pub settleCarries : (spec : Sharding) (shard : ℕ) (file : List ℕ) (dropping : Bool) (out : List ℕ) → Carries (settleAnswer spec shard file dropping out) S.Refused S.Faulty
+  pub measureCarries : (spec : Sharding) (shard : ℕ) (file : List ℕ) (m : ℕ) → Carries (measureAnswer spec shard file) Ms.Refused (λ k p. Ms.Faulty k m p)
+  pub checkOfPairCarries : (spec : Sharding) (shard : ℕ) (index d : List ℕ) (m : ℕ) → Carries (pairCheck spec shard index d) C.Refused (λ k p. C.Faulty k m p)
+  pub lookupOfPairCarries : (spec : Sharding) (shard : ℕ) (index d : List ℕ) (id : ℕ) → Carries (pairLookup spec shard index d id) L.Refused L.Faulty
+  pub fragmentOfPairCarries : (spec : Sharding) (shard : ℕ) (index d : List ℕ) (id level node : ℕ) → Carries (pairFragment spec shard index d id level node) L.Refused L.Faulty
+  pub countOfPairCarries : (spec : Sharding) (shard : ℕ) (index d : List ℕ) (m : ℕ) → Carries (pairCount spec shard index d m) N.Refused N.Faulty
+  pub listingOfPairCarries : (spec : Sharding) (shard : ℕ) (index d : List ℕ) (m : ℕ) (out : List ℕ) → Carries (pairListing spec shard index d m out) N.Refused N.Faulty
+  pub unlistedOfPairCarries : (spec : Sharding) (shard : ℕ) (index d : List ℕ) → Carries (pairUnlisted spec shard index d) U.Refused U.Faulty
+  pub formLengthOfPairCarries : (spec : Sharding) (shard : ℕ) (index d : List ℕ) (dropping : Bool) → Carries (pairLength spec shard index d dropping) S.Refused S.Faulty
+  pub settleOfPairCarries : (spec : Sharding) (shard : ℕ) (index d : List ℕ) (dropping : Bool) (out : List ℕ) → Carries (pairSettle spec shard index d dropping out) S.Refused S.Faulty
+  pub measureOfPairCarries : (spec : Sharding) (shard : ℕ) (index d : List ℕ) (m : ℕ) → Carries (pairMeasure spec shard index d) Ms.Refused (λ k p. Ms.Faulty k m p)
+
+-- the specification, of a volume
+abbrev pub asVolume : Sharding → Sharding
+asVolume spec = record { preshift = spec .preshift; hash = spec .hash; «minishard_bits» = spec .«minishard_bits»; «shard_bits» = spec .«shard_bits»; kind = volume }
+
+-- each chunk of minishard m is a sound manifest, and the sum of its sizes is at most its start
+pub record Manifests (index d : List ℕ) (m : ℕ) : Type 0 where
+  pub sound : (i : ℕ) → i < countIn index m → Manifest (chunkAt d (entryStart index m) (countIn index m) i)
+  pub behind : (i : ℕ) → i < countIn index m → fragmentsLength (chunkAt d (entryStart index m) (countIn index m) i) ≤ chunkStart index d m i
+
+-- of minishard m of a file: the number of its entries, and the start step and the chunk of entry i
+abbrev pub entriesIn : Sharding → List ℕ → ℕ → ℕ
+entriesIn spec file m = entryCount (entryStart (indexPart spec file) m) (entryEnd (indexPart spec file) m)
+
+abbrev pub startStepIn : Sharding → List ℕ → ℕ → ℕ → ℕ
+startStepIn spec file m = startSteps (dataPart spec file) (entryStart (indexPart spec file) m) (entriesIn spec file m)
+
+abbrev pub chunkIn : Sharding → List ℕ → ℕ → ℕ → List ℕ
+chunkIn spec file m = chunkAt (dataPart spec file) (entryStart (indexPart spec file) m) (entriesIn spec file m)
+
+-- where minishard m of the settled form begins: behind those before it
+abbrev pub placeIn : Sharding → List ℕ → ℕ → ℕ
+placeIn spec file m = partsLength (take m (fileContent spec file))
 
 -- Order 7: "In a mesh shard each chunk must be a sound manifest, and its fragments are the bytes before it, as many as the sum of its sizes." The
 -- demands say it of both kinds. "card tag 8, one byte of 1, means mesh and is absent for volume, so a mesh card has 50 or 65 bytes. Readers from before answer it
 -- with 14, so order 4 now speaks of volume cards; the info reader yields volume." (RULES C6, U8)
 pub record Order7 : Type 0 where
-  -- A minishard of a volume is tested as it was, and nothing goes with its chunks;
-  pub volumes : (spec : Sharding) (shard m : ℕ) (d : List ℕ) (s n : ℕ) → isMesh spec ≡ false → entryTests spec shard m d s n ≡ idTest d s ∷ placeTest spec shard m d s ∷ endTest d s n ∷ []
-  pub alone : (spec : Sharding) (body : List ℕ) → isMesh spec ≡ false → leadLength spec body ≡ 0
-  -- its settled form is what it was, whatever the file;
+  -- A minishard of a mesh is sound exactly where, taken for a volume's, it is sound, and each of its chunks is a sound manifest whose fragments do not start
+  -- before the index end.
+  pub manifests : (spec : Sharding) (shard : ℕ) (index d : List ℕ) (m : ℕ) → spec .kind ≡ mesh
+      → SoundMinishard spec shard index d m ↔ (SoundMinishard (asVolume spec) shard index d m × Manifests index d m)
+  -- The settled form of a volume is what it was, whatever the file.
   pub form : (spec : Sharding) (a : List ℕ) → isMesh spec ≡ false → fileForm spec a ≡ fileFormBeforeMesh spec a
-  -- in a mesh four tests follow, and the fragments go with the manifest.
-  pub tests : (spec : Sharding) (shard m : ℕ) (d : List ℕ) (s n : ℕ) → isMesh spec ≡ true
-      → entryTests spec shard m d s n
-      ≡ idTest d s ∷ placeTest spec shard m d s ∷ endTest d s n
-      ∷ entryTest 15 1 (wrongLength d s n) ∷ entryTest 16 1 (badReal d s n) ∷ entryTest 17 1 (unorderedNodes d s n) ∷ entryTest 21 1 (fragmentsOutside d s n) ∷ []
-  pub led : (spec : Sharding) (body : List ℕ) → isMesh spec ≡ true → leadLength spec body ≡ fragmentsLength body
+  -- "The settled form puts the fragments first, so each start step is the sum of that manifest's sizes, plus the minishard's place for the first."
+  pub starts : (spec : Sharding) (shard : ℕ) (a : List ℕ) (m i : ℕ) → isMesh spec ≡ true → SoundShard spec shard a → length (fileForm spec a) ≤ mostShardBytes
+      → m < minishardCount spec → i < entriesIn spec (fileForm spec a) m
+      → startStepIn spec (fileForm spec a) m i ≡ pick (eqb i 0) (placeIn spec a m) 0 + fragmentsLength (chunkIn spec (fileForm spec a) m i)
   -- The reader from before this order, and the one from before order 4, answer 14 to what is written now of a mesh, and to every mesh
   -- card, whoever made it.
   pub written : (c : Card) (out : List ℕ) (n : ℕ) → writeAnswer c out ≡ Length n → c .sharding .kind ≡ mesh

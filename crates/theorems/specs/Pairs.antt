@@ -18,6 +18,9 @@ use Rattle.split_shard.specs.heldrange.Held.{rangeBytes}
 use Rattle.split_shard.specs.seam.Range.{rangeChecks, rangeAnswer}
 use Rattle.split_shard.specs.pair.Answers.{pairCheck, pairLookup, pairFragment}
 use Rattle.split_shard.specs.pairform.Answers.{pairCount, pairListing, pairListingLeft, pairUnlisted, pairLength, pairSettle, pairSettleLeft}
+use Rattle.holdings.specs.measure.Answers.{measureAnswer, pairMeasure}
+use Rattle.holdings.specs.declared.shardsheet.Sheet.{Sheet}
+use Rattle.holdings.specs.Answers.{addAnswer, pairAddAnswer}
 
 -- Order 10: "Treat the pair as their concatenation, without joining them." (RULES P2)
 pub record Order10 : Type 0 where
@@ -35,6 +38,8 @@ pub record Order10 : Type 0 where
       → pairLength spec shard index d dropping ≡ lengthAnswer spec shard (index ++ d) dropping
   pub settle : (spec : Sharding) (shard : ℕ) (index d : List ℕ) (dropping : Bool) (out : List ℕ) → length index ≡ indexLength spec
       → (pairSettle spec shard index d dropping out ≡ settleAnswer spec shard (index ++ d) dropping out) × (pairSettleLeft spec shard index d dropping out ≡ settleLeft spec shard (index ++ d) dropping out)
+  pub measure : (spec : Sharding) (shard : ℕ) (index d : List ℕ) → length index ≡ indexLength spec → pairMeasure spec shard index d ≡ measureAnswer spec shard (index ++ d)
+  pub sheet : (sheet : Sheet) (spec : Sharding) (shard : ℕ) (index d : List ℕ) → length index ≡ indexLength spec → pairAddAnswer sheet spec shard index d ≡ addAnswer sheet spec shard (index ++ d)
   pub unsound : (spec : Sharding) (shard : ℕ) (index d : List ℕ) → pairCheck spec shard index d ≡ Sound → length index ≡ indexLength spec
   -- A range that is not refused has the bytes of the joined file from its start to its end, "that part of the index file or of the data file,
   -- whichever holds it. An empty range at the seam belongs to the data file."
