@@ -1,5 +1,5 @@
 -- Positions and maps of them.
-pub mod noted
-pub mod seen
+pub mod window
+pub mod visited
 pub mod Positions
 pub mod Bits

@@ -22,7 +22,7 @@ use Rattle.sharding.specs.Specification.{mesh, isMesh, minishardBits, shardBits
 use Rattle.sharding.specs.declared.Sharding.{Sharding}
 use Rattle.card.specs.declared.Card.{Card}
 use Rattle.card.specs.Layout.{head, field, oneByte, three, shardingBytes, extentsBytes, offsetTag, offsetBytes, volumeBytes, kindBytes, cardBytes}
-use Rattle.card.specs.cardfields.Twos.{bits32, noOffset}
+use Rattle.card.specs.fields.Twos.{bits32, noOffset}
 
 -- ---- how long
 length-head : (tag n : ℕ) → length (head tag n) ≡ 3

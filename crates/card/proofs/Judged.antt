@@ -20,7 +20,7 @@ use Rattle.sharding.specs.Specification.{allowed}
 use Rattle.card.specs.declared.Card.{Card}
 use Rattle.card.specs.declared.CardAnswer.the-variants.{Says, Refused}
 use Rattle.card.specs.Layout.{cardBytes}
-use Rattle.card.specs.cardform.Form.{wellFormed}
+use Rattle.card.specs.form.Form.{wellFormed}
 use Rattle.card.specs.Reading.{cardIn}
 use Rattle.card.specs.Answers.{recordChecks, fault, readChecks, readAnswer, writeChecks, writeAnswer, writeLeft}
 

@@ -28,15 +28,15 @@ use Rattle.sharding.proofs.Allowed.{allowed-within}
 use Rattle.card.specs.declared.Card.{Card}
 use Rattle.card.specs.declared.CardAnswer.the-variants.{Says, Refused}
 use Rattle.card.specs.Layout.{head, field, oneByte, three, shardingBytes, extentsBytes, offsetTag, offsetBytes, volumeBytes, kindBytes, cardBytes, Ranged, Bytes}
-use Rattle.card.specs.cardfields.Twos.{bits32, isZero, noOffset, InI32, signed32}
-use Rattle.card.specs.cardfields.Fields.{fieldAt, sixFields, offsetAt, offsetField, kindField}
-use Rattle.card.specs.Reading.{extentsAt, kindIn, shardingIn, zeros, offsetIn, volumeIn, cardIn}
-use Rattle.card.specs.cardform.Form.{wellFormed}
+use Rattle.card.specs.fields.Twos.{bits32, isZero, noOffset, InI32, signed32}
+use Rattle.card.specs.fields.Fields.{fieldAt, sixFields, cardOffsetAt, offsetField, kindField}
+use Rattle.card.specs.Reading.{cardExtentsAt, kindIn, cardSharding, zeros, offsetIn, cardVolume, cardIn}
+use Rattle.card.specs.form.Form.{wellFormed}
 use Rattle.card.specs.Answers.{recordChecks, fault, readAnswer, writeAnswer, writeLeft}
 use Rattle.card.specs.Meaning.{OneCard}
-use Rattle.card.proofs.cardfields.Words.{bits-signed, signed-bits, bits-below, signed-in}
-use Rattle.card.proofs.cardform.Parsing.{CardLength, formed-length, formed-never}
-use Rattle.card.proofs.cardform.Parsing.CardLength.{bare, shifted, bareMesh, shiftedMesh}
+use Rattle.card.proofs.fields.Words.{bits-signed, signed-bits, bits-below, signed-in}
+use Rattle.card.proofs.form.Parsing.{CardLength, formed-length, formed-never}
+use Rattle.card.proofs.form.Parsing.CardLength.{bare, shifted, bareMesh, shiftedMesh}
 use Rattle.card.proofs.Judged.{faultless, read-first, write-first, left-first}
 
 -- ---- the bytes of a record are read back as the record
@@ -69,8 +69,8 @@ number n h = leAt-le 4 n [] h
 signed-number : (z : ℤ) → InI32 z → signed32 (leAt 4 (le 4 (bits32 z) ++ []) 0) ≡ z
 signed-number z h = ap signed32 (number (bits32 z) (bits-below z h)) ∙ signed-bits z h
 
-offset-back : (k : Bool) (c : Card) → Ranged c → offsetAt (bytesBy false k c) 49 ≡ c .volume .offset
-unfolding offsetAt bytesBy shardingBytes extentsBytes offsetTag oneByte field head three le leAt
+offset-back : (k : Bool) (c : Card) → Ranged c → cardOffsetAt (bytesBy false k c) 49 ≡ c .volume .offset
+unfolding cardOffsetAt bytesBy shardingBytes extentsBytes offsetTag oneByte field head three le leAt
 offset-back k c r =
     let px = signed-number (c .volume .offset .x) (r .x) in
     let py = signed-number (c .volume .offset .y) (r .y) in
@@ -84,16 +84,16 @@ formed-back true true c r e = refl
 formed-back false false c r e = ap (λ (o : Offset). not (noOffset o)) (offset-back false c r) ∙ ap not e
 formed-back false true c r e = ap (λ (o : Offset). not (noOffset o) && true) (offset-back true c r) ∙ ap (λ (t : Bool). not t && true) e
 
-size-back : (b k : Bool) (c : Card) → Ranged c → extentsAt (bytesBy b k c) 19 ≡ c .volume .size
-unfolding extentsAt bytesBy shardingBytes extentsBytes oneByte field head three le leAt
+size-back : (b k : Bool) (c : Card) → Ranged c → cardExtentsAt (bytesBy b k c) 19 ≡ c .volume .size
+unfolding cardExtentsAt bytesBy shardingBytes extentsBytes oneByte field head three le leAt
 size-back b k c r =
     let px = number (c .volume .size .x) (r .size .x) in
     let py = number (c .volume .size .y) (r .size .y) in
     let pz = number (c .volume .size .z) (r .size .z) in
     λ i. record { x = px i; y = py i; z = pz i }
 
-chunk-back : (b k : Bool) (c : Card) → Ranged c → extentsAt (bytesBy b k c) 34 ≡ c .volume .chunk
-unfolding extentsAt bytesBy shardingBytes extentsBytes oneByte field head three le leAt
+chunk-back : (b k : Bool) (c : Card) → Ranged c → cardExtentsAt (bytesBy b k c) 34 ≡ c .volume .chunk
+unfolding cardExtentsAt bytesBy shardingBytes extentsBytes oneByte field head three le leAt
 chunk-back b k c r =
     let px = number (c .volume .chunk .x) (r .chunk .x) in
     let py = number (c .volume .chunk .y) (r .chunk .y) in
@@ -111,8 +111,8 @@ kind-of : (h : Sharding) → (h .kind ≡ volume) ⊎ (h .kind ≡ mesh) → pic
 kind-of h (inl e) = rw e
 kind-of h (inr e) = rw e
 
-sharding-back : (b : Bool) (c : Card) → Within (c .sharding) → shardingIn (bytesBy b (isMesh (c .sharding)) c) ≡ c .sharding
-unfolding shardingIn bytesBy shardingBytes oneByte field head le
+sharding-back : (b : Bool) (c : Card) → Within (c .sharding) → cardSharding (bytesBy b (isMesh (c .sharding)) c) ≡ c .sharding
+unfolding cardSharding bytesBy shardingBytes oneByte field head le
 sharding-back b c w =
     let h = c .sharding in
     let p = kind-by b (isMesh h) c ∙ kind-of h (w .kind) in
@@ -126,7 +126,7 @@ offset-in-back false false c r e = offset-back false c r
 offset-in-back false true c r e = offset-back true c r
 
 card-back : (b : Bool) (c : Card) → Ranged c → noOffset (c .volume .offset) ≡ b → Within (c .sharding) → cardIn (bytesBy b (isMesh (c .sharding)) c) ≡ c
-unfolding cardIn volumeIn
+unfolding cardIn cardVolume
 card-back b c r e w =
     let k = isMesh (c .sharding) in
     let p = sharding-back b c w in
@@ -215,16 +215,16 @@ module _ (s : List ℕ) (bs : Bytes s) where
       ap (take 8) (drop-drop 4 p s) ∙ take-add 4 4 (drop (p + 4) s) ∙ ap₂ _++_ (sym (le-leAt 4 s (p + 4) bs (omega arith))) z in
       take-add 4 8 (drop p s) ∙ ap₂ _++_ (sym (le-leAt 4 s p bs (omega arith))) y
 
-  extents-from : (tag p : ℕ) → fieldAt tag 12 s p ≡ true → p + 15 ≤ length s → drop p s ≡ extentsBytes tag (extentsAt s (p + 3)) ++ drop (p + 15) s
-  unfolding extentsBytes extentsAt
+  extents-from : (tag p : ℕ) → fieldAt tag 12 s p ≡ true → p + 15 ≤ length s → drop p s ≡ extentsBytes tag (cardExtentsAt s (p + 3)) ++ drop (p + 15) s
+  unfolding extentsBytes cardExtentsAt
   extents-from tag p e h =
       field-from tag 12 p (three (leAt 4 s (p + 3)) (leAt 4 s (p + 3 + 4)) (leAt 4 s (p + 3 + 8))) e (three-from (p + 3) (omega arith)) (omega arith)
 
   bits-from : (p : ℕ) → bits32 (signed32 (leAt 4 s p)) ≡ leAt 4 s p
   bits-from p = bits-signed (leAt 4 s p) (leAt-bound 4 s p bs)
 
-  tag-from : (p : ℕ) → fieldAt 7 12 s p ≡ true → p + 15 ≤ length s → drop p s ≡ offsetTag (offsetAt s (p + 3)) ++ drop (p + 15) s
-  unfolding offsetTag offsetAt
+  tag-from : (p : ℕ) → fieldAt 7 12 s p ≡ true → p + 15 ≤ length s → drop p s ≡ offsetTag (cardOffsetAt s (p + 3)) ++ drop (p + 15) s
+  unfolding offsetTag cardOffsetAt
   tag-from p e h =
       rw (bits-from (p + 3), bits-from (p + 3 + 4), bits-from (p + 3 + 8))
       (field-from 7 12 p (three (leAt 4 s (p + 3)) (leAt 4 s (p + 3 + 4)) (leAt 4 s (p + 3 + 8))) e (three-from (p + 3) (omega arith)) (omega arith))
@@ -233,22 +233,22 @@ module _ (s : List ℕ) (bs : Bytes s) where
   four-assoc a b c d r = simp append-assoc
 
   six-from : sixFields s ≡ true → 46 ≤ length s
-      → s ≡ shardingBytes (shardingIn s) ++ (extentsBytes 5 (extentsAt s 19) ++ (extentsBytes 6 (extentsAt s 34) ++ drop 46 s))
-  unfolding sixFields shardingBytes shardingIn
+      → s ≡ shardingBytes (cardSharding s) ++ (extentsBytes 5 (cardExtentsAt s 19) ++ (extentsBytes 6 (cardExtentsAt s 34) ++ drop 46 s))
+  unfolding sixFields shardingBytes cardSharding
   six-from e h =
       let e1 = both (fieldAt 1 1 s 0) (fieldAt 2 1 s 4 && (fieldAt 3 1 s 8 && (fieldAt 4 1 s 12 && (fieldAt 5 12 s 16 && fieldAt 6 12 s 31)))) e in
       let e2 = both (fieldAt 2 1 s 4) (fieldAt 3 1 s 8 && (fieldAt 4 1 s 12 && (fieldAt 5 12 s 16 && fieldAt 6 12 s 31))) (e1 .1) in
       let e3 = both (fieldAt 3 1 s 8) (fieldAt 4 1 s 12 && (fieldAt 5 12 s 16 && fieldAt 6 12 s 31)) (e2 .1) in
       let e4 = both (fieldAt 4 1 s 12) (fieldAt 5 12 s 16 && fieldAt 6 12 s 31) (e3 .1) in
       let e5 = both (fieldAt 5 12 s 16) (fieldAt 6 12 s 31) (e4 .1) in
-      let p5 : drop 16 s ≡ extentsBytes 5 (extentsAt s 19) ++ (extentsBytes 6 (extentsAt s 34) ++ drop 46 s) =
-      extents-from 5 16 (e5 .0) (omega arith) ∙ ap (λ (l : List ℕ). extentsBytes 5 (extentsAt s 19) ++ l) (extents-from 6 31 (e5 .1) (omega arith)) in
+      let p5 : drop 16 s ≡ extentsBytes 5 (cardExtentsAt s 19) ++ (extentsBytes 6 (cardExtentsAt s 34) ++ drop 46 s) =
+      extents-from 5 16 (e5 .0) (omega arith) ∙ ap (λ (l : List ℕ). extentsBytes 5 (cardExtentsAt s 19) ++ l) (extents-from 6 31 (e5 .1) (omega arith)) in
       let p4 = one-from 4 12 (e4 .0) (omega arith) ∙ ap (λ (l : List ℕ). oneByte 4 (getD s 15 0) ++ l) p5 in
       let p3 = one-from 3 8 (e3 .0) (omega arith) ∙ ap (λ (l : List ℕ). oneByte 3 (getD s 11 0) ++ l) p4 in
       let p2 = one-from 2 4 (e2 .0) (omega arith) ∙ ap (λ (l : List ℕ). oneByte 2 (getD s 7 0) ++ l) p3 in
       one-from 1 0 (e1 .0) (omega arith) ∙ ap (λ (l : List ℕ). oneByte 1 (getD s 3 0) ++ l) p2
       ∙ four-assoc (oneByte 1 (getD s 3 0)) (oneByte 2 (getD s 7 0)) (oneByte 3 (getD s 11 0)) (oneByte 4 (getD s 15 0))
-      (extentsBytes 5 (extentsAt s 19) ++ (extentsBytes 6 (extentsAt s 34) ++ drop 46 s))
+      (extentsBytes 5 (cardExtentsAt s 19) ++ (extentsBytes 6 (cardExtentsAt s 34) ++ drop 46 s))
 
   -- the end: no offset, or the seventh field, and then no kind, or the eighth
   no-offset-from : (eqb (length s) 46 || eqb (length s) 50) ≡ true → drop 46 s ≡ offsetBytes (offsetIn s) ++ drop 46 s
@@ -258,22 +258,22 @@ module _ (s : List ℕ) (bs : Bytes s) where
   offset-from : (eqb (length s) 46 || eqb (length s) 50) ≡ false → 61 ≤ length s → offsetField s ≡ true → drop 46 s ≡ offsetBytes (offsetIn s) ++ drop 61 s
   unfolding offsetIn offsetBytes offsetField
   offset-from h l e =
-      let q = both (fieldAt 7 12 s 46) (not (noOffset (offsetAt s 49))) e in
-      rw (h, not-true (noOffset (offsetAt s 49)) (q .1)) (tag-from 46 (q .0) (omega arith))
+      let q = both (fieldAt 7 12 s 46) (not (noOffset (cardOffsetAt s 49))) e in
+      rw (h, not-true (noOffset (cardOffsetAt s 49)) (q .1)) (tag-from 46 (q .0) (omega arith))
 
-  no-kind-from : (p : ℕ) → length s ≡ p → kindIn s ≡ volume → drop p s ≡ kindBytes (shardingIn s)
-  unfolding kindBytes shardingIn
+  no-kind-from : (p : ℕ) → length s ≡ p → kindIn s ≡ volume → drop p s ≡ kindBytes (cardSharding s)
+  unfolding kindBytes cardSharding
   no-kind-from p h k = rw k (drop-of-length-le s {i = p} (omega arith))
 
-  kind-from : (p : ℕ) → length s ≡ p + 4 → kindIn s ≡ mesh → kindField s p ≡ true → drop p s ≡ kindBytes (shardingIn s)
-  unfolding kindBytes shardingIn kindField
+  kind-from : (p : ℕ) → length s ≡ p + 4 → kindIn s ≡ mesh → kindField s p ≡ true → drop p s ≡ kindBytes (cardSharding s)
+  unfolding kindBytes cardSharding kindField
   kind-from p h k e =
       let q = both (fieldAt 8 1 s p) (eqb (getD s (p + 3) 0) mesh) e in
       let b : getD s (p + 3) 0 ≡ mesh = eqb-true (getD s (p + 3) 0) mesh (q .1) in
       let d : drop (p + 4) s ≡ [] = drop-of-length-le s {i = p + 4} (omega arith) in
       rw k (one-from 8 p (q .0) (omega arith) ∙ ap₂ _++_ (ap (oneByte 8) b) d ∙ append-nil (oneByte 8 mesh))
 
-  rest-by : wellFormed s ≡ true → CardLength (length s) → (sixFields s ≡ true) × (46 ≤ length s) × (drop 46 s ≡ offsetBytes (offsetIn s) ++ kindBytes (shardingIn s))
+  rest-by : wellFormed s ≡ true → CardLength (length s) → (sixFields s ≡ true) × (46 ≤ length s) × (drop 46 s ≡ offsetBytes (offsetIn s) ++ kindBytes (cardSharding s))
   unfolding wellFormed kindIn
   rest-by e (bare h) =
       (rw h at e, omega arith, no-offset-from (rw h) ∙ ap (λ (l : List ℕ). offsetBytes (offsetIn s) ++ l) (no-kind-from 46 h (rw h)))
@@ -293,20 +293,20 @@ module _ (s : List ℕ) (bs : Bytes s) where
 
   -- bytes that are well formed are those of what they say
   formed-is-bytes : wellFormed s ≡ true → s ≡ cardBytes (cardIn s)
-  unfolding cardBytes cardIn volumeBytes volumeIn
+  unfolding cardBytes cardIn volumeBytes cardVolume
   formed-is-bytes e =
       let r = rest-by e (formed-length s e) in
-      let f5 = extentsBytes 5 (extentsAt s 19) in
-      let f6 = extentsBytes 6 (extentsAt s 34) in
+      let f5 = extentsBytes 5 (cardExtentsAt s 19) in
+      let f6 = extentsBytes 6 (cardExtentsAt s 34) in
       six-from (r .0) (r .1)
-      ∙ ap (λ (l : List ℕ). shardingBytes (shardingIn s) ++ l)
-      (ap (λ (l : List ℕ). f5 ++ (f6 ++ l)) (r .2) ∙ three-assoc f5 f6 (offsetBytes (offsetIn s)) (kindBytes (shardingIn s)))
+      ∙ ap (λ (l : List ℕ). shardingBytes (cardSharding s) ++ l)
+      (ap (λ (l : List ℕ). f5 ++ (f6 ++ l)) (r .2) ∙ three-assoc f5 f6 (offsetBytes (offsetIn s)) (kindBytes (cardSharding s)))
 
-  in-u32 : (p : ℕ) → InU32 (extentsAt s p)
-  unfolding extentsAt
+  in-u32 : (p : ℕ) → InU32 (cardExtentsAt s p)
+  unfolding cardExtentsAt
   in-u32 p = record { x = leAt-bound 4 s p bs; y = leAt-bound 4 s (p + 4) bs; z = leAt-bound 4 s (p + 8) bs }
 
-  in-i32 : (b : Bool) (f : Offset → ℤ) → InI32 (f zeros) → InI32 (f (offsetAt s 49)) → InI32 (f (pick b zeros (offsetAt s 49)))
+  in-i32 : (b : Bool) (f : Offset → ℤ) → InI32 (f zeros) → InI32 (f (cardOffsetAt s 49)) → InI32 (f (pick b zeros (cardOffsetAt s 49)))
   in-i32 true f p q = p
   in-i32 false f p q = q
 
@@ -315,7 +315,7 @@ module _ (s : List ℕ) (bs : Bytes s) where
 
   -- and what bytes say fits a card
   said-ranged : Ranged (cardIn s)
-  unfolding cardIn volumeIn shardingIn offsetIn offsetAt
+  unfolding cardIn cardVolume cardSharding offsetIn cardOffsetAt
   said-ranged = record {
     preshift = bs 3;
     hash = bs 7;

@@ -10,7 +10,7 @@ use Rattle.morton.specs.declared.grid.Offset.{Offset}
 use Rattle.morton.specs.declared.grid.Volume.{Volume}
 use Rattle.sharding.specs.Specification.{mesh, isMesh, minishardBits, shardBits}
 use Rattle.sharding.specs.declared.Sharding.{Sharding}
-use Rattle.card.specs.cardfields.Twos.{bits32, noOffset, InI32}
+use Rattle.card.specs.fields.Twos.{bits32, noOffset, InI32}
 use Rattle.card.specs.declared.Card.{Card}
 
 -- "a one-byte tag, a two-byte little-endian length"

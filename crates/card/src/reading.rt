@@ -1,14 +1,15 @@
 // What the bytes of a card say.
+
 ghost use mathlib.Core.Path.{_≡_};
 ghost use mathlib.Core.Bool.{true};
 ghost use Prim.Native.Nat.{_+_, _≤_};
 ghost use lib.ListN.{length};
-ghost use Rattle.card.specs.Reading.{extentsAt, kindIn, shardingIn, offsetIn, volumeIn, cardIn};
-ghost use Rattle.card.specs.cardform.Form.{wellFormed};
+ghost use Rattle.card.specs.Reading.{cardExtentsAt, kindIn, cardSharding, offsetIn, cardVolume, cardIn};
+ghost use Rattle.card.specs.form.Form.{wellFormed};
 use crate::Card;
-use crate::cardfields::inner::byte;
-use crate::cardfields::inner::offset_at;
-use endian::inner;
+use crate::fields::byte;
+use crate::fields::offset_at;
+use endian;
 use morton::grid::Extents;
 use morton::grid::Offset;
 use morton::grid::Volume;
@@ -16,12 +17,12 @@ use sharding::Sharding;
 
 fn extents_at(s: &[u8], at: usize) -> Extents
     requires { ⌜ at + 12 ≤ length (now s) ⌝ }
-    ensures { λ r. ⌜ r ≡ extentsAt (now (s .entry)) at ⌝ }
+    ensures { λ r. ⌜ r ≡ cardExtentsAt (now (s .entry)) at ⌝ }
 {
     Extents {
-        x: inner::read_u32(s, at),
-        y: inner::read_u32(s, at + 4),
-        z: inner::read_u32(s, at + 8),
+        x: endian::read_u32(s, at),
+        y: endian::read_u32(s, at + 4),
+        z: endian::read_u32(s, at + 8),
     }
 }
 
@@ -38,7 +39,7 @@ fn kind_in(s: &[u8]) -> u8
 
 fn sharding_in(s: &[u8]) -> Sharding
     requires { ⌜ 46 ≤ length (now s) ⌝ }
-    ensures { λ r. ⌜ r ≡ shardingIn (now (s .entry)) ⌝ }
+    ensures { λ r. ⌜ r ≡ cardSharding (now (s .entry)) ⌝ }
 {
     Sharding {
         preshift: byte(s, 3),
@@ -61,7 +62,7 @@ fn offset_in(s: &[u8]) -> Offset
 
 fn volume_in(s: &[u8]) -> Volume
     requires { ⌜ wellFormed (now s) ≡ true ⌝ }
-    ensures { λ r. ⌜ r ≡ volumeIn (now (s .entry)) ⌝ }
+    ensures { λ r. ⌜ r ≡ cardVolume (now (s .entry)) ⌝ }
 {
     let size = extents_at(s, 19);
     let chunk = extents_at(s, 34);

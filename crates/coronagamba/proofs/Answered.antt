@@ -5,19 +5,19 @@ use mathlib.Core.Option.{none, some}
 use borrow.Author.Needs.{needs}
 use Rattle.shard.specs.declared.CheckAnswer.{CheckAnswer}
 use Rattle.shard.specs.declared.CheckAnswer.the-variants.{Sound, Faulty, Refused as CheckRefused}
-use Rattle.lookup.specs.declared.idsearch.LookupAnswer.{LookupAnswer}
-use Rattle.lookup.specs.declared.idsearch.LookupAnswer.the-variants as L
-use Rattle.lookup.specs.declared.listing.CountAnswer.{CountAnswer}
-use Rattle.lookup.specs.declared.listing.CountAnswer.the-variants as N
+use Rattle.lookup.specs.declared.id_search.LookupAnswer.{LookupAnswer}
+use Rattle.lookup.specs.declared.id_search.LookupAnswer.the-variants as L
+use Rattle.lookup.specs.declared.listings.CountAnswer.{CountAnswer}
+use Rattle.lookup.specs.declared.listings.CountAnswer.the-variants as N
 use Rattle.unlisted.specs.declared.UnlistedAnswer.{UnlistedAnswer}
 use Rattle.unlisted.specs.declared.UnlistedAnswer.the-variants as U
-use Rattle.settle.specs.declared.settleanswers.SettleAnswer.{SettleAnswer}
-use Rattle.settle.specs.settleanswers.Answers.{lengthAnswer, settleAnswer, settleLeft}
-use Rattle.split_shard.specs.pairform.Answers.{pairLength, pairSettle, pairSettleLeft}
+use Rattle.settle.specs.declared.answers.SettleAnswer.{SettleAnswer}
+use Rattle.settle.specs.answers.Answers.{lengthAnswer, settleAnswer, settleLeft}
+use Rattle.split_shard.specs.form.Answers.{pairLength, pairSettle, pairSettleLeft}
 use Rattle.sharding.specs.declared.Sharding.{Sharding}
 use mathlib.Core.Bool.{Bool}
 use mathlib.Core.List.{List}
-use Rattle.settle.specs.declared.settleanswers.SettleAnswer.the-variants as S
+use Rattle.settle.specs.declared.answers.SettleAnswer.the-variants as S
 use Rattle.coronagamba.specs.word.Word.{word}
 use Rattle.coronagamba.specs.Shards.{checkWord, lookupWord, startAfter, sizeAfter, countWord, countAfter, settleWord, formAfter, unlistedWord, unlistedAfter}
 use Rattle.coronagamba.proofs.Told.{told, after, given, left}

@@ -13,19 +13,19 @@ use Rattle.shard.specs.declared.CheckAnswer.the-variants.{Faulty}
 use Rattle.shard.specs.File.{checkAnswer}
 use Rattle.shard.proofs.Numbers.{file-called}
 use Rattle.shard.proofs.Whole.{check-names}
-use Rattle.lookup.specs.declared.idsearch.LookupAnswer.{LookupAnswer}
-use Rattle.lookup.specs.declared.idsearch.LookupAnswer.the-variants as L
+use Rattle.lookup.specs.declared.id_search.LookupAnswer.{LookupAnswer}
+use Rattle.lookup.specs.declared.id_search.LookupAnswer.the-variants as L
 use Rattle.lookup.specs.Find.{lookupAnswer}
-use Rattle.lookup.specs.fragment.Fragment.{fragmentAnswer}
-use Rattle.lookup.specs.declared.listing.CountAnswer.{CountAnswer}
-use Rattle.lookup.specs.declared.listing.CountAnswer.the-variants as N
-use Rattle.lookup.specs.listing.Listing.{countAnswer, listingAnswer}
+use Rattle.lookup.specs.fragments.Fragment.{fragmentAnswer}
+use Rattle.lookup.specs.declared.listings.CountAnswer.{CountAnswer}
+use Rattle.lookup.specs.declared.listings.CountAnswer.the-variants as N
+use Rattle.lookup.specs.listings.Listing.{countAnswer, listingAnswer}
 use Rattle.unlisted.specs.declared.UnlistedAnswer.{UnlistedAnswer}
 use Rattle.unlisted.specs.declared.UnlistedAnswer.the-variants as U
 use Rattle.unlisted.specs.Answers.{unlistedAnswer}
-use Rattle.settle.specs.declared.settleanswers.SettleAnswer.{SettleAnswer}
-use Rattle.settle.specs.declared.settleanswers.SettleAnswer.the-variants as S
-use Rattle.settle.specs.settleanswers.Answers.{lengthAnswer, settleAnswer}
+use Rattle.settle.specs.declared.answers.SettleAnswer.{SettleAnswer}
+use Rattle.settle.specs.declared.answers.SettleAnswer.the-variants as S
+use Rattle.settle.specs.answers.Answers.{lengthAnswer, settleAnswer}
 use Rattle.positions.specs.Points.{PointsAt}
 use Rattle.positions.proofs.Points.{check-points, lookup-points, fragment-points, count-points, listing-points, unlisted-named, length-named, settle-named}
 

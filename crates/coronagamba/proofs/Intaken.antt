@@ -4,13 +4,13 @@ use mathlib.Core.Path.{_≡_, ap, _∙_}
 use mathlib.Core.List.{List}
 use lib.ListN.{set}
 use borrow.Author.Needs.{needs}
-use Rattle.intake.specs.declared.intakestate.Intake.{Intake}
+use Rattle.intake.specs.declared.state.Intake.{Intake}
 use Rattle.intake.specs.declared.IntakeAnswer.{IntakeAnswer}
 use Rattle.intake.specs.declared.IntakeAnswer.the-variants.{Next, Refused}
 use Rattle.intake.specs.declared.CloseAnswer.{CloseAnswer}
 use Rattle.intake.specs.declared.CloseAnswer.the-variants.{Closed, Refused as NotClosed}
 use Rattle.intake.specs.Calls.{announceAnswer, announceLeft, announceWaiting, partAnswer, partLeft, closeAnswer, closeLeft}
-use Rattle.intake.specs.intakenumbers.Numbers.{numbersOf, stateOf}
+use Rattle.intake.specs.numbers.Numbers.{numbersOf, stateOf}
 use Rattle.coronagamba.specs.Intakes.{intakeWord, stateAfter, partAfter, closeWord, closedAfter, shardLengthAfter}
 use Rattle.coronagamba.proofs.Told.{told, after, given, left}
 

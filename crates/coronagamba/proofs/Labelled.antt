@@ -8,13 +8,13 @@ use Rattle.refusal.specs.Checks.{answered}
 use Rattle.refusal.specs.declared.Written.{Written}
 use Rattle.refusal.specs.declared.Written.the-variants.{Refused}
 use Rattle.refusal.proofs.Picks.{by-picks}
-use Rattle.compressed_segmentation.specs.declared.segmentation.Shape.{Shape}
-use Rattle.compressed_segmentation.specs.declared.segmentation.LabelAnswer.{LabelAnswer}
-use Rattle.compressed_segmentation.specs.declared.segmentation.LabelAnswer.the-variants.{Label, Refused as Unlabelled}
-use Rattle.compressed_segmentation.specs.segmentation.Labels.{labelAnswer}
-use Rattle.compressed_segmentation.specs.rawform.Raw.{lengthAnswer, unpackAnswer, unpackLeft}
+use Rattle.compressed_segmentation.specs.declared.Shape.{Shape}
+use Rattle.compressed_segmentation.specs.declared.LabelAnswer.{LabelAnswer}
+use Rattle.compressed_segmentation.specs.declared.LabelAnswer.the-variants.{Label, Refused as Unlabelled}
+use Rattle.compressed_segmentation.specs.Labels.{labelAnswer}
+use Rattle.compressed_segmentation.specs.raw_form.Raw.{lengthAnswer, unpackAnswer, unpackLeft}
 use Rattle.coronagamba.specs.word.Word.{writtenWord, lengthAfter}
-use Rattle.coronagamba.specs.Labels.{noWidth, widthChecks, labelBy, writtenBy, leftBy, labelWord, labelAfter}
+use Rattle.coronagamba.specs.Labels.{noWidth, widthChecks, labelBy, writtenBy, labelsLeftBy, labelWord, labelAfter}
 use Rattle.coronagamba.proofs.Told.{told, after, given, left}
 
 -- ---- by the label width, w telling whether it is none
@@ -40,7 +40,7 @@ module _ (bits : ℕ) {w : Bool} (p : w ≡ noWidth bits) where
     pub written-none-kept : (a : Written) (m : ℕ) → m ≡ lengthAfter (writtenBy bits a) m
     written-none-kept a m = ap (λ (b : Written). lengthAfter b m) (by-none Refused a h)
 
-    pub none-left : (out d : List ℕ) → d ≡ leftBy bits out d
+    pub none-left : (out d : List ℕ) → d ≡ labelsLeftBy bits out d
     none-left out d = by-none (λ k. d) out h
 
   module _ (h : w ≡ false) {sh t : Shape} (q : sh ≡ t) where
@@ -71,7 +71,7 @@ module _ (bits : ℕ) {w : Bool} (p : w ≡ noWidth bits) where
       bytes-length m i = left lengthAfter m i counted
 
     module _ (s d : List ℕ) where
-      pub unpack-left : {g : List ℕ} → g ≡ unpackLeft s sh d → g ≡ leftBy bits (unpackLeft s t d) d
+      pub unpack-left : {g : List ℕ} → g ≡ unpackLeft s sh d → g ≡ labelsLeftBy bits (unpackLeft s t d) d
       unpack-left e = e ∙ ap (λ (r : Shape). unpackLeft s r d) q ∙ by-width (λ k. d) (unpackLeft s t d) h
 
       module _ {b : Written} (e : b ≡ unpackAnswer s sh d) where

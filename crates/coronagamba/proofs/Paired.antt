@@ -12,19 +12,19 @@ use Rattle.sharding.specs.Specification.{noSuchShard}
 use Rattle.shard.specs.declared.CheckAnswer.{CheckAnswer}
 use Rattle.shard.specs.declared.CheckAnswer.the-variants as C
 use Rattle.shard.specs.File.{checkAnswer}
-use Rattle.lookup.specs.declared.idsearch.LookupAnswer.{LookupAnswer}
-use Rattle.lookup.specs.declared.idsearch.LookupAnswer.the-variants as L
-use Rattle.lookup.specs.declared.listing.CountAnswer.{CountAnswer}
-use Rattle.lookup.specs.declared.listing.CountAnswer.the-variants as N
+use Rattle.lookup.specs.declared.id_search.LookupAnswer.{LookupAnswer}
+use Rattle.lookup.specs.declared.id_search.LookupAnswer.the-variants as L
+use Rattle.lookup.specs.declared.listings.CountAnswer.{CountAnswer}
+use Rattle.lookup.specs.declared.listings.CountAnswer.the-variants as N
 use Rattle.unlisted.specs.declared.UnlistedAnswer.{UnlistedAnswer}
 use Rattle.unlisted.specs.declared.UnlistedAnswer.the-variants as U
-use Rattle.settle.specs.declared.settleanswers.SettleAnswer.{SettleAnswer}
-use Rattle.settle.specs.declared.settleanswers.SettleAnswer.the-variants as S
-use Rattle.split_shard.specs.declared.heldrange.RangeAnswer.{RangeAnswer}
-use Rattle.split_shard.specs.declared.heldrange.RangeAnswer.the-variants as R
+use Rattle.settle.specs.declared.answers.SettleAnswer.{SettleAnswer}
+use Rattle.settle.specs.declared.answers.SettleAnswer.the-variants as S
+use Rattle.split_shard.specs.declared.held_range.RangeAnswer.{RangeAnswer}
+use Rattle.split_shard.specs.declared.held_range.RangeAnswer.the-variants as R
 use Rattle.split_shard.specs.seam.Pair.{pairChecks}
-use Rattle.split_shard.specs.pair.Answers.{otherShard, pairCheck, pairLookup, pairFragment}
-use Rattle.split_shard.specs.pairform.Answers.{noMinishard, pairCount, pairListing, pairUnlisted, pairLength, pairSettle}
+use Rattle.split_shard.specs.Answers.{otherShard, pairCheck, pairLookup, pairFragment}
+use Rattle.split_shard.specs.form.Answers.{noMinishard, pairCount, pairListing, pairUnlisted, pairLength, pairSettle}
 use Rattle.coronagamba.specs.Pairs.{rangeWord, fileAfter, placeAfter, rangeAfter}
 use Rattle.coronagamba.proofs.Told.{told, after}
 use Rattle.coronagamba.proofs.Checked.{minishard-fits, check-fits, lookup-fits, fragment-fits, count-fits, listing-fits, unlisted-fits, length-fits, settle-fits}

@@ -9,17 +9,17 @@ use lib.ListN.{getD}
 use lib.Ieee.{binary32, isNan, toBits}
 use borrow.Author.Tests.{lt-ltb}
 use Rattle.refusal.specs.Choice.{pick}
-use Rattle.mesh_manifest.specs.layout.Layout.{itemAt, levelsOf, isReal, fieldCount}
+use Rattle.mesh_manifest.specs.layout.Layout.{manifestItem, levelsOf, isReal, fieldCount}
 use Rattle.mesh_manifest.specs.layout.Bits.{realAt}
-use Rattle.mesh_manifest.specs.manifest.Verdict.{verdict}
-use Rattle.mesh_manifest.specs.manifestread.Fields.{headerAt, headerAnswer, fieldAt, fieldAnswer}
-use Rattle.mesh_manifest.specs.declared.manifestread.Header.{Header}
-use Rattle.mesh_manifest.specs.declared.manifestread.HeaderAnswer.{HeaderAnswer}
-use Rattle.mesh_manifest.specs.declared.manifestread.HeaderAnswer.the-variants as H
-use Rattle.mesh_manifest.specs.declared.manifestread.Field.the-variants as F
-use Rattle.mesh_manifest.proofs.manifest.Sounds.{sound-ends}
-use Rattle.mesh_manifest.proofs.manifestread.Asked.{header-given, field-given}
-use Rattle.mesh_manifest.proofs.manifestread.Fields.{real-bits, header-number}
+use Rattle.mesh_manifest.specs.sound.Verdict.{manifestVerdict}
+use Rattle.mesh_manifest.specs.Fields.{headerAt, headerAnswer, fieldAt, fieldAnswer}
+use Rattle.mesh_manifest.specs.declared.Header.{Header}
+use Rattle.mesh_manifest.specs.declared.HeaderAnswer.{HeaderAnswer}
+use Rattle.mesh_manifest.specs.declared.HeaderAnswer.the-variants as H
+use Rattle.mesh_manifest.specs.declared.Field.the-variants as F
+use Rattle.mesh_manifest.proofs.sound.Sounds.{sound-ends}
+use Rattle.mesh_manifest.proofs.Asked.{header-given, field-given}
+use Rattle.mesh_manifest.proofs.Fields.{real-bits, header-number}
 use Rattle.coronagamba.specs.Manifests.{headerAfter, valueAfter}
 
 module _ (s : List ℕ) {a : HeaderAnswer} {h : Header} (e : a ≡ headerAnswer s) (g : a ≡ H.Header h) where
@@ -48,24 +48,24 @@ module _ (s : List ℕ) {a : HeaderAnswer} {h : Header} (e : a ≡ headerAnswer 
   origin-z = header-number s e g (λ (h : Header). h .«origin_z») 5 refl (omega arith)
 
 -- of a sound manifest
-module _ (s : List ℕ) (sound : verdict s ≡ 0) (bytes : (i : ℕ) → getD s i 0 < 256) where
+module _ (s : List ℕ) (sound : manifestVerdict s ≡ 0) (bytes : (i : ℕ) → getD s i 0 < 256) where
   -- the header writes the first six items,
-  pub header-items : (before : List ℕ) → headerAfter (headerAnswer s) before ≡ itemAt s 0 ∷ itemAt s 1 ∷ itemAt s 2 ∷ itemAt s 3 ∷ itemAt s 4 ∷ itemAt s 5 ∷ []
+  pub header-items : (before : List ℕ) → headerAfter (headerAnswer s) before ≡ manifestItem s 0 ∷ manifestItem s 1 ∷ manifestItem s 2 ∷ manifestItem s 3 ∷ manifestItem s 4 ∷ manifestItem s 5 ∷ []
   unfolding headerAt isReal
   header-items before =
       ap (λ (a : HeaderAnswer). headerAfter a before) (sym (header-given s (sym sound) refl refl))
       ∙ rw (item 0 (omega arith), item 1 (omega arith), item 2 (omega arith), item 3 (omega arith), item 4 (omega arith), item 5 (omega arith))
     where
-      item : (i : ℕ) → i < 6 → toBits binary32 (realAt s i) ≡ itemAt s i
+      item : (i : ℕ) → i < 6 → toBits binary32 (realAt s i) ≡ manifestItem s i
       item i l = real-bits s sound bytes i (omega (arith, sound-ends s sound)) (rw (lt-ltb i 6 l))
 
   -- and a field the item of its number
-  pub field-item : (i before : ℕ) → i < fieldCount s → valueAfter (fieldAnswer s i) before ≡ itemAt s i
+  pub field-item : (i before : ℕ) → i < fieldCount s → valueAfter (fieldAnswer s i) before ≡ manifestItem s i
   unfolding fieldAt
   field-item i before h =
       ap (λ a. valueAfter a before) (sym (field-given s (sym sound) i refl refl (omega (arith, sound-ends s sound))))
       ∙ value (isReal (levelsOf s) i) refl
     where
-      value : (b : Bool) → isReal (levelsOf s) i ≡ b → valueAfter (pick b (F.Real (realAt s i)) (F.Whole (itemAt s i))) before ≡ itemAt s i
+      value : (b : Bool) → isReal (levelsOf s) i ≡ b → valueAfter (pick b (F.Real (realAt s i)) (F.Whole (manifestItem s i))) before ≡ manifestItem s i
       value true e = real-bits s sound bytes i h e
       value false e = refl

@@ -8,16 +8,16 @@ use lib.ListN.{getD}
 use Rattle.sharding.specs.declared.Sharding.{Sharding}
 use Rattle.shard.specs.declared.CheckAnswer.the-variants as C
 use Rattle.shard.specs.File.{indexPart, dataPart, checkAnswer}
-use Rattle.split_shard.specs.pair.Answers.{pairCheck}
-use Rattle.holdings.specs.declared.measure.Counts.{Counts}
-use Rattle.holdings.specs.declared.measure.MeasureAnswer.{MeasureAnswer}
-use Rattle.holdings.specs.declared.measure.MeasureAnswer.the-variants as M
-use Rattle.holdings.specs.measure.Answers.{measureAnswer, pairMeasure}
-use Rattle.holdings.proofs.measure.Answered.{named-fault}
-use Rattle.holdings.specs.declared.shardsheet.Sheet.{Sheet}
+use Rattle.split_shard.specs.Answers.{pairCheck}
+use Rattle.holdings.specs.declared.measures.Counts.{Counts}
+use Rattle.holdings.specs.declared.measures.MeasureAnswer.{MeasureAnswer}
+use Rattle.holdings.specs.declared.measures.MeasureAnswer.the-variants as M
+use Rattle.holdings.specs.measures.Answers.{measureAnswer, pairMeasure}
+use Rattle.holdings.proofs.measures.Answered.{named-fault}
+use Rattle.holdings.specs.declared.one_shard.Sheet.{Sheet}
 use Rattle.holdings.specs.declared.SheetAnswer.{SheetAnswer}
 use Rattle.holdings.specs.declared.SheetAnswer.the-variants.{Total, Refused}
-use Rattle.holdings.specs.shardsheet.Sheet.{rows}
+use Rattle.holdings.specs.one_shard.Sheet.{rows}
 use Rattle.holdings.specs.Answers.{joinAnswer, addAnswer, pairAddAnswer}
 use Rattle.coronagamba.specs.word.Word.{word}
 use Rattle.coronagamba.specs.Sheets.{measureWord, countsOf, countsAfter, sheetOf, sheetWord, rowsAfter}

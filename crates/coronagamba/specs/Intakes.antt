@@ -6,7 +6,7 @@ use Rattle.intake.specs.declared.IntakeAnswer.{IntakeAnswer}
 use Rattle.intake.specs.declared.IntakeAnswer.the-variants.{Next, Refused}
 use Rattle.intake.specs.declared.CloseAnswer.{CloseAnswer}
 use Rattle.intake.specs.declared.CloseAnswer.the-variants.{Closed, Refused as NotClosed}
-use Rattle.intake.specs.intakenumbers.Numbers.{numbersOf}
+use Rattle.intake.specs.numbers.Numbers.{numbersOf}
 
 abbrev pub intakeWord : IntakeAnswer → ℕ
 intakeWord (Next s) = 0

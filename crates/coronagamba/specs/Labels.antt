@@ -7,9 +7,9 @@ use Rattle.refusal.specs.Checks.{Check, check, answered, left}
 use Rattle.refusal.specs.declared.Written.{Written}
 use Rattle.refusal.specs.declared.Written.the-variants as W
 use Rattle.morton.specs.declared.grid.Extents.{Extents}
-use Rattle.compressed_segmentation.specs.declared.segmentation.Shape.{Shape}
-use Rattle.compressed_segmentation.specs.declared.segmentation.LabelAnswer.{LabelAnswer}
-use Rattle.compressed_segmentation.specs.declared.segmentation.LabelAnswer.the-variants.{Label, Refused}
+use Rattle.compressed_segmentation.specs.declared.Shape.{Shape}
+use Rattle.compressed_segmentation.specs.declared.LabelAnswer.{LabelAnswer}
+use Rattle.compressed_segmentation.specs.declared.LabelAnswer.the-variants.{Label, Refused}
 
 -- "32- or 64-bit labels" (RULES E1): no other number is a label width
 abbrev pub noWidth : ℕ → Bool
@@ -26,8 +26,8 @@ abbrev pub writtenBy : ℕ → Written → Written
 writtenBy bits answer = answered W.Refused (widthChecks bits) answer
 
 -- and what an output then holds
-abbrev pub leftBy : ℕ → List ℕ → List ℕ → List ℕ
-leftBy bits after before = left (widthChecks bits) after before
+abbrev pub labelsLeftBy : ℕ → List ℕ → List ℕ → List ℕ
+labelsLeftBy bits after before = left (widthChecks bits) after before
 
 abbrev pub shapeOf : Extents → Extents → ℕ → ℕ → Shape
 shapeOf size block channels bits = record { extents = size; block = block; channels = channels; wide = eqb bits 64 }

@@ -1,3 +1,4 @@
+-- The border to C: the answer word, and what each exported function gives and writes.
 pub mod word
 pub mod Version
 pub mod Places

@@ -2,13 +2,13 @@
 use Prim.Native.Nat.{ℕ}
 use mathlib.Core.List.{List, [], _∷_}
 use lib.Ieee.{Float, binary32, toBits}
-use Rattle.mesh_manifest.specs.declared.manifest.ManifestAnswer.{ManifestAnswer}
-use Rattle.mesh_manifest.specs.declared.manifest.ManifestAnswer.the-variants as M
-use Rattle.mesh_manifest.specs.declared.manifestread.Header.{Header}
-use Rattle.mesh_manifest.specs.declared.manifestread.HeaderAnswer.{HeaderAnswer}
-use Rattle.mesh_manifest.specs.declared.manifestread.HeaderAnswer.the-variants as H
-use Rattle.mesh_manifest.specs.declared.manifestread.Field.{Field}
-use Rattle.mesh_manifest.specs.declared.manifestread.Field.the-variants as F
+use Rattle.mesh_manifest.specs.declared.sound.ManifestAnswer.{ManifestAnswer}
+use Rattle.mesh_manifest.specs.declared.sound.ManifestAnswer.the-variants as M
+use Rattle.mesh_manifest.specs.declared.Header.{Header}
+use Rattle.mesh_manifest.specs.declared.HeaderAnswer.{HeaderAnswer}
+use Rattle.mesh_manifest.specs.declared.HeaderAnswer.the-variants as H
+use Rattle.mesh_manifest.specs.declared.Field.{Field}
+use Rattle.mesh_manifest.specs.declared.Field.the-variants as F
 use Rattle.mesh_manifest.specs.declared.nodes.NodeAnswer.{NodeAnswer}
 use Rattle.mesh_manifest.specs.declared.nodes.NodeAnswer.the-variants as N
 use Rattle.mesh_manifest.specs.declared.corners.Corner.{Corner}

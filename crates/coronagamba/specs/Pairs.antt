@@ -1,7 +1,7 @@
 -- A range of a pair across the C border: the answer word, and what the lent numbers hold afterwards.
 use Prim.Native.Nat.{ℕ}
-use Rattle.split_shard.specs.declared.heldrange.RangeAnswer.{RangeAnswer}
-use Rattle.split_shard.specs.declared.heldrange.RangeAnswer.the-variants.{InIndex, InData, Refused}
+use Rattle.split_shard.specs.declared.held_range.RangeAnswer.{RangeAnswer}
+use Rattle.split_shard.specs.declared.held_range.RangeAnswer.the-variants.{InIndex, InData, Refused}
 
 abbrev pub rangeWord : RangeAnswer → ℕ
 rangeWord (InIndex start n) = 0

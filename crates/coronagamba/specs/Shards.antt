@@ -3,14 +3,14 @@ use Prim.Native.Nat.{ℕ}
 use mathlib.Core.Option.{none, some}
 use Rattle.shard.specs.declared.CheckAnswer.{CheckAnswer}
 use Rattle.shard.specs.declared.CheckAnswer.the-variants.{Sound, Faulty, Refused as CheckRefused}
-use Rattle.lookup.specs.declared.idsearch.LookupAnswer.{LookupAnswer}
-use Rattle.lookup.specs.declared.idsearch.LookupAnswer.the-variants.{Found, Refused as NotFound, Faulty as FaultFound}
-use Rattle.lookup.specs.declared.listing.CountAnswer.{CountAnswer}
-use Rattle.lookup.specs.declared.listing.CountAnswer.the-variants.{Count, Refused as NoCount, Faulty as FaultCounted}
+use Rattle.lookup.specs.declared.id_search.LookupAnswer.{LookupAnswer}
+use Rattle.lookup.specs.declared.id_search.LookupAnswer.the-variants.{Found, Refused as NotFound, Faulty as FaultFound}
+use Rattle.lookup.specs.declared.listings.CountAnswer.{CountAnswer}
+use Rattle.lookup.specs.declared.listings.CountAnswer.the-variants.{Count, Refused as NoCount, Faulty as FaultCounted}
 use Rattle.unlisted.specs.declared.UnlistedAnswer.{UnlistedAnswer}
 use Rattle.unlisted.specs.declared.UnlistedAnswer.the-variants.{Count as Unlisted, Refused as NotCounted, Faulty as FaultUnlisted}
-use Rattle.settle.specs.declared.settleanswers.SettleAnswer.{SettleAnswer}
-use Rattle.settle.specs.declared.settleanswers.SettleAnswer.the-variants.{Length, Refused as NotSettled, Faulty as FaultSettled}
+use Rattle.settle.specs.declared.answers.SettleAnswer.{SettleAnswer}
+use Rattle.settle.specs.declared.answers.SettleAnswer.the-variants.{Length, Refused as NotSettled, Faulty as FaultSettled}
 use Rattle.coronagamba.specs.word.Word.{word}
 
 -- the check names the faulty minishard and the position; the other calls give the position alone

@@ -3,13 +3,13 @@ use Prim.Native.Nat.{ℕ}
 use mathlib.Core.List.{List, [], _∷_}
 use mathlib.Core.Option.{some}
 use lib.ListN.{getD}
-use Rattle.holdings.specs.declared.measure.Counts.{Counts}
-use Rattle.holdings.specs.declared.measure.MeasureAnswer.{MeasureAnswer}
-use Rattle.holdings.specs.declared.measure.MeasureAnswer.the-variants.{Sound, Refused, Faulty}
-use Rattle.holdings.specs.declared.shardsheet.Sheet.{Sheet}
+use Rattle.holdings.specs.declared.measures.Counts.{Counts}
+use Rattle.holdings.specs.declared.measures.MeasureAnswer.{MeasureAnswer}
+use Rattle.holdings.specs.declared.measures.MeasureAnswer.the-variants.{Sound, Refused, Faulty}
+use Rattle.holdings.specs.declared.one_shard.Sheet.{Sheet}
 use Rattle.holdings.specs.declared.SheetAnswer.{SheetAnswer}
 use Rattle.holdings.specs.declared.SheetAnswer.the-variants.{Total, Refused as SheetRefused}
-use Rattle.holdings.specs.shardsheet.Sheet.{rows}
+use Rattle.holdings.specs.one_shard.Sheet.{rows}
 use Rattle.coronagamba.specs.word.Word.{word}
 
 -- ---- the measure of a shard

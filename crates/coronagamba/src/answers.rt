@@ -1,19 +1,20 @@
 // The answer word of an answer of the library, and what it writes to the lent numbers.
+
 ghost use mathlib.Core.Path.{_≡_};
 ghost use Prim.Native.Nat.{ℕ, _+_, _<_};
 ghost use Rattle.shard.specs.declared.CheckAnswer.the-variants.{Faulty};
-ghost use Rattle.lookup.specs.declared.idsearch.LookupAnswer.the-variants.{Faulty as FaultFound};
-ghost use Rattle.lookup.specs.declared.listing.CountAnswer.the-variants.{Faulty as FaultCounted};
+ghost use Rattle.lookup.specs.declared.id_search.LookupAnswer.the-variants.{Faulty as FaultFound};
+ghost use Rattle.lookup.specs.declared.listings.CountAnswer.the-variants.{Faulty as FaultCounted};
 ghost use Rattle.unlisted.specs.declared.UnlistedAnswer.the-variants.{Faulty as FaultUnlisted};
-ghost use Rattle.settle.specs.declared.settleanswers.SettleAnswer.the-variants.{Faulty as FaultSettled};
+ghost use Rattle.settle.specs.declared.answers.SettleAnswer.the-variants.{Faulty as FaultSettled};
 ghost use Rattle.coronagamba.specs.word.Word.{writtenWord, lengthAfter};
 ghost use Rattle.coronagamba.specs.Shards.{checkWord, lookupWord, startAfter, sizeAfter, countWord, countAfter, settleWord, formAfter, unlistedWord, unlistedAfter};
-use crate::word::inner::fault_word;
-use crate::word::inner::position_word;
-use lookup::idsearch::LookupAnswer;
-use lookup::listing::CountAnswer;
+use crate::word::fault_word;
+use crate::word::position_word;
+use lookup::CountAnswer;
+use lookup::LookupAnswer;
 use refusal::Written;
-use settle::settleanswers::SettleAnswer;
+use settle::answers::SettleAnswer;
 use shard::CheckAnswer;
 use unlisted::UnlistedAnswer;
 

@@ -1,4 +1,5 @@
 // Deposit cards.
+
 ghost use mathlib.Core.Path.{_≡_};
 ghost use Rattle.card.specs.Answers.{readAnswer, writeAnswer, writeLeft};
 ghost use Rattle.coronagamba.specs.word.Word.{writtenWord, lengthAfter};
@@ -45,6 +46,6 @@ pub extern "C" fn coronagamba_card_write(
     ensures out { λ _. ⌜ now (out .exit) ≡ writeLeft (record { sharding = sharding; volume = volume }) (now (out .entry)) ⌝ }
     ensures length { λ _. ⌜ now (length .exit) ≡ lengthAfter (writeAnswer (record { sharding = sharding; volume = volume }) (now (out .entry))) (now (length .entry)) ⌝ }
 {
-    let answer = card::cardwriting::write_card(Card { sharding, volume }, out);
+    let answer = card::write_card(Card { sharding, volume }, out);
     put_length(answer, length)
 }

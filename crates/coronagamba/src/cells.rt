@@ -1,11 +1,12 @@
 // Volumes, cells and keys.
+
 ghost use mathlib.Core.Path.{_≡_};
 ghost use mathlib.Core.List.{[], _∷_};
 ghost use Rattle.morton.specs.grid.Answers.{gridAnswer};
 ghost use Rattle.morton.specs.Answers.{keyAnswer, cellAnswer};
 ghost use Rattle.morton.specs.bounds.Answers.{boundsAnswer};
 ghost use Rattle.morton.specs.batch.Batch.{cellsOf, keysAnswer, keysLeft};
-ghost use Rattle.morton.specs.cellrows.Row.{rowOf};
+ghost use Rattle.morton.specs.rows.Row.{rowOf};
 ghost use Rattle.cover.specs.overlap.Cover.{coverAnswer, coverLeft};
 ghost use Rattle.coronagamba.specs.word.Word.{writtenWord, lengthAfter};
 ghost use Rattle.coronagamba.specs.Cells.{gridWord, gridAfter, keyWord, keyAfter, cellWord, cellAfter, boundsWord, beginAfter, endAfter};
@@ -25,7 +26,7 @@ pub extern "C" fn coronagamba_grid_of(volume: Volume, grid: &mut [u32; 3]) -> u6
     ensures answer { λ r. ⌜ r ≡ gridWord (gridAnswer volume) ⌝ }
     ensures grid { λ _. ⌜ now (grid .exit) ≡ gridAfter (gridAnswer volume) (now (grid .entry)) ⌝ }
 {
-    match morton::grid::grid_of(volume) {
+    match morton::grid_of(volume) {
         GridAnswer::Grid(g) => {
             *grid = [g.x, g.y, g.z];
             0
@@ -66,7 +67,7 @@ pub extern "C" fn coronagamba_keys_of(
     ensures keys { λ _. ⌜ now (keys .exit) ≡ keysLeft volume (cellsOf (now (cells .entry))) (now (keys .entry)) ⌝ }
     ensures length { λ _. ⌜ now (length .exit) ≡ lengthAfter (keysAnswer volume (cellsOf (now (cells .entry))) (now (keys .entry))) (now (length .entry)) ⌝ }
 {
-    let answer = morton::scan::keys_of(volume, cells, keys);
+    let answer = morton::keys_of(volume, cells, keys);
     put_length(answer, length)
 }
 
@@ -89,7 +90,7 @@ pub extern "C" fn coronagamba_row_keys(
     ensures keys { λ _. ⌜ now (keys .exit) ≡ keysLeft volume (rowOf from to y z) (now (keys .entry)) ⌝ }
     ensures length { λ _. ⌜ now (length .exit) ≡ lengthAfter (keysAnswer volume (rowOf from to y z) (now (keys .entry))) (now (length .entry)) ⌝ }
 {
-    let answer = morton::scan::row::row_keys(volume, from, to, y, z, keys);
+    let answer = morton::row_keys(volume, from, to, y, z, keys);
     put_length(answer, length)
 }
 
@@ -151,7 +152,7 @@ pub extern "C" fn coronagamba_bounds_of(
     ensures begin { λ _. ⌜ now (begin .exit) ≡ beginAfter (boundsAnswer volume cell) (now (begin .entry)) ⌝ }
     ensures end { λ _. ⌜ now (end .exit) ≡ endAfter (boundsAnswer volume cell) (now (end .entry)) ⌝ }
 {
-    match morton::bounds::bounds_of(volume, cell) {
+    match morton::bounds_of(volume, cell) {
         BoundsAnswer::Within(bounds) => {
             *begin = three(bounds.begin);
             *end = three(bounds.end);

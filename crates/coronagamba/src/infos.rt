@@ -1,4 +1,5 @@
 // Info files.
+
 ghost use mathlib.Core.Path.{_≡_};
 ghost use Rattle.info.specs.Answers.{infoAnswer};
 ghost use Rattle.coronagamba.specs.Cards.{cardWord, shardingAfter, volumeAfter, chunkAfter, offsetAfter};

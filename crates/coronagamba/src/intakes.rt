@@ -1,12 +1,13 @@
 // Intake: a new volume shard, written while its chunks come in parts.
+
 ghost use mathlib.Core.Path.{_≡_};
 ghost use Rattle.intake.specs.Calls.{openAnswer, openLeft, announceAnswer, announceLeft, announceWaiting, partAnswer, partLeft, closeAnswer, closeLeft};
-ghost use Rattle.intake.specs.intakenumbers.Numbers.{stateOf};
+ghost use Rattle.intake.specs.numbers.Numbers.{stateOf};
 ghost use Rattle.coronagamba.specs.Intakes.{intakeWord, stateAfter, partAfter, closeWord, closedAfter, shardLengthAfter};
 use intake::CloseAnswer;
 use intake::IntakeAnswer;
-use intake::intakenumbers::numbers_of;
-use intake::intakenumbers::state_of;
+use intake::numbers_of;
+use intake::state_of;
 use sharding::Sharding;
 
 // The numbers of the new state, or the refusal.

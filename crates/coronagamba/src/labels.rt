@@ -1,12 +1,13 @@
 // Labels inside a chunk: the label of a voxel, a whole chunk unpacked.
+
 ghost use mathlib.Core.Path.{_≡_};
-ghost use Rattle.compressed_segmentation.specs.segmentation.Labels.{labelAnswer};
-ghost use Rattle.compressed_segmentation.specs.rawform.Raw.{lengthAnswer, unpackAnswer, unpackLeft};
+ghost use Rattle.compressed_segmentation.specs.Labels.{labelAnswer};
+ghost use Rattle.compressed_segmentation.specs.raw_form.Raw.{lengthAnswer, unpackAnswer, unpackLeft};
 ghost use Rattle.coronagamba.specs.word.Word.{writtenWord, lengthAfter};
-ghost use Rattle.coronagamba.specs.Labels.{noWidth, labelBy, writtenBy, leftBy, shapeOf, labelWord, labelAfter};
+ghost use Rattle.coronagamba.specs.Labels.{noWidth, labelBy, writtenBy, labelsLeftBy, shapeOf, labelWord, labelAfter};
 use crate::answers::put_length;
-use compressed_segmentation::segmentation::LabelAnswer;
-use compressed_segmentation::segmentation::Shape;
+use compressed_segmentation::LabelAnswer;
+use compressed_segmentation::Shape;
 use morton::grid::Extents;
 
 // No label has this many bits.
@@ -55,7 +56,7 @@ pub extern "C" fn coronagamba_label(
     if no_width(bits) {
         return 2;
     }
-    match compressed_segmentation::voxellabel::label_of(
+    match compressed_segmentation::label_of(
         chunk,
         shape_of(size, block, channels, bits),
         x,
@@ -90,12 +91,7 @@ pub extern "C" fn coronagamba_unpacked_length(
     if no_width(bits) {
         return 2;
     }
-    let answer = compressed_segmentation::unpack::unpacked_length(shape_of(
-        size,
-        block,
-        channels,
-        bits,
-    ));
+    let answer = compressed_segmentation::unpacked_length(shape_of(size, block, channels, bits));
     put_length(answer, length)
 }
 
@@ -117,16 +113,12 @@ pub extern "C" fn coronagamba_unpack(
     length: &mut u64,
 ) -> u64
     ensures answer { λ r. ⌜ r ≡ writtenWord (writtenBy bits (unpackAnswer (now (chunk .entry)) (shapeOf size block channels bits) (now (out .entry)))) ⌝ }
-    ensures out { λ _. ⌜ now (out .exit) ≡ leftBy bits (unpackLeft (now (chunk .entry)) (shapeOf size block channels bits) (now (out .entry))) (now (out .entry)) ⌝ }
+    ensures out { λ _. ⌜ now (out .exit) ≡ labelsLeftBy bits (unpackLeft (now (chunk .entry)) (shapeOf size block channels bits) (now (out .entry))) (now (out .entry)) ⌝ }
     ensures length { λ _. ⌜ now (length .exit) ≡ lengthAfter (writtenBy bits (unpackAnswer (now (chunk .entry)) (shapeOf size block channels bits) (now (out .entry)))) (now (length .entry)) ⌝ }
 {
     if no_width(bits) {
         return 2;
     }
-    let answer = compressed_segmentation::unpack::unpack(
-        chunk,
-        shape_of(size, block, channels, bits),
-        out,
-    );
+    let answer = compressed_segmentation::unpack(chunk, shape_of(size, block, channels, bits), out);
     put_length(answer, length)
 }

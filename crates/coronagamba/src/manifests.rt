@@ -1,20 +1,21 @@
 // Mesh manifests. Reals cross the border as their bit patterns.
+
 ghost use mathlib.Core.Path.{_≡_};
 ghost use mathlib.Core.Bool.{true};
-ghost use Rattle.mesh_manifest.specs.manifest.Verdict.{manifestAnswer};
-ghost use Rattle.mesh_manifest.specs.manifestread.Fields.{headerAnswer, fieldAnswer};
+ghost use Rattle.mesh_manifest.specs.sound.Verdict.{manifestAnswer};
+ghost use Rattle.mesh_manifest.specs.Fields.{headerAnswer, fieldAnswer};
 ghost use Rattle.mesh_manifest.specs.nodes.Nodes.{nodeAnswer};
-ghost use Rattle.mesh_manifest.specs.levelnodes.Level.{nodesAnswer, nodesLeft};
+ghost use Rattle.mesh_manifest.specs.level.Level.{nodesAnswer, nodesLeft};
 ghost use Rattle.mesh_manifest.specs.corners.Boxes.{finiteCorner, cornersAnswer};
 ghost use Rattle.coronagamba.specs.word.Word.{writtenWord, lengthAfter};
 ghost use Rattle.coronagamba.specs.Manifests.{manifestWord, headerWord, headerAfter, fieldWord, kindAfter, valueAfter, nodeWord, positionAfter, fragmentAfter, bytesAfter, cornersWord, cornerBits, nearAfter, farAfter};
 use crate::answers::put_length;
+use mesh_manifest::Field;
+use mesh_manifest::HeaderAnswer;
 use mesh_manifest::corners::Corner;
 use mesh_manifest::corners::CornersAnswer;
-use mesh_manifest::manifest::ManifestAnswer;
-use mesh_manifest::manifestread::Field;
-use mesh_manifest::manifestread::HeaderAnswer;
 use mesh_manifest::nodes::NodeAnswer;
+use mesh_manifest::sound::ManifestAnswer;
 
 // Whether the bytes are a sound manifest. Writes nothing.
 // Refusals: 15, 16, 17
@@ -22,7 +23,7 @@ use mesh_manifest::nodes::NodeAnswer;
 pub extern "C" fn coronagamba_manifest_check(bytes: &[u8]) -> u64
     ensures answer { λ r. ⌜ r ≡ manifestWord (manifestAnswer (now (bytes .entry))) ⌝ }
 {
-    match mesh_manifest::manifestread::check_manifest(bytes) {
+    match mesh_manifest::check_manifest(bytes) {
         ManifestAnswer::Sound => 0,
         ManifestAnswer::Refused(refusal) => refusal as u64,
     }
@@ -36,7 +37,7 @@ pub extern "C" fn coronagamba_manifest_header(bytes: &[u8], header: &mut [u32; 6
     ensures answer { λ r. ⌜ r ≡ headerWord (headerAnswer (now (bytes .entry))) ⌝ }
     ensures header { λ _. ⌜ now (header .exit) ≡ headerAfter (headerAnswer (now (bytes .entry))) (now (header .entry)) ⌝ }
 {
-    match mesh_manifest::manifestread::header_of(bytes) {
+    match mesh_manifest::header_of(bytes) {
         HeaderAnswer::Header(h) => {
             *header = [
                 f32::to_bits(h.shape_x),
@@ -67,7 +68,7 @@ pub extern "C" fn coronagamba_manifest_field(
     ensures kind { λ _. ⌜ now (kind .exit) ≡ kindAfter (fieldAnswer (now (bytes .entry)) number) (now (kind .entry)) ⌝ }
     ensures value { λ _. ⌜ now (value .exit) ≡ valueAfter (fieldAnswer (now (bytes .entry)) number) (now (value .entry)) ⌝ }
 {
-    match mesh_manifest::manifestread::field_of(bytes, number) {
+    match mesh_manifest::field_of(bytes, number) {
         Field::Real(x) => {
             *kind = 1;
             *value = f32::to_bits(x);
@@ -100,7 +101,7 @@ pub extern "C" fn coronagamba_manifest_node(
     ensures start { λ _. ⌜ now (start .exit) ≡ fragmentAfter (nodeAnswer (now (bytes .entry)) level node) (now (start .entry)) ⌝ }
     ensures size { λ _. ⌜ now (size .exit) ≡ bytesAfter (nodeAnswer (now (bytes .entry)) level node) (now (size .entry)) ⌝ }
 {
-    match mesh_manifest::nodes::node_of(bytes, level, node) {
+    match mesh_manifest::node_of(bytes, level, node) {
         NodeAnswer::Node(n) => {
             *position = [n.x, n.y, n.z];
             *start = n.start;
@@ -127,7 +128,7 @@ pub extern "C" fn coronagamba_manifest_nodes(
     ensures out { λ _. ⌜ now (out .exit) ≡ nodesLeft (now (bytes .entry)) level (now (out .entry)) ⌝ }
     ensures length { λ _. ⌜ now (length .exit) ≡ lengthAfter (nodesAnswer (now (bytes .entry)) level (now (out .entry))) (now (length .entry)) ⌝ }
 {
-    let answer = mesh_manifest::levelnodes::nodes_of(bytes, level, out);
+    let answer = mesh_manifest::nodes_of(bytes, level, out);
     put_length(answer, length)
 }
 
@@ -156,7 +157,7 @@ pub extern "C" fn coronagamba_manifest_corners(
     ensures near { λ _. ⌜ now («near_corner» .exit) ≡ nearAfter (cornersAnswer (now (bytes .entry)) level node) (now («near_corner» .entry)) ⌝ }
     ensures far { λ _. ⌜ now («far_corner» .exit) ≡ farAfter (cornersAnswer (now (bytes .entry)) level node) (now («far_corner» .entry)) ⌝ }
 {
-    match mesh_manifest::corners::corners_of(bytes, level, node) {
+    match mesh_manifest::corners_of(bytes, level, node) {
         CornersAnswer::Corners(corners) => {
             *near_corner = three_patterns(corners.near);
             *far_corner = three_patterns(corners.far);

@@ -1,4 +1,5 @@
 // The numbers of a card's record, as they cross the border.
+
 ghost use mathlib.Core.Path.{_≡_};
 ghost use mathlib.Core.List.{[], _∷_};
 ghost use Rattle.sharding.specs.Specification.{minishardBits, shardBits};

@@ -1,8 +1,9 @@
 // Shards of the earlier edition, an index file and a data file each.
+
 ghost use mathlib.Core.Path.{_≡_};
 ghost use Rattle.split_shard.specs.seam.Range.{rangeAnswer};
-ghost use Rattle.split_shard.specs.pair.Answers.{pairCheck, pairLookup, pairFragment};
-ghost use Rattle.split_shard.specs.pairform.Answers.{pairCount, pairListing, pairListingLeft, pairUnlisted, pairLength, pairSettle, pairSettleLeft};
+ghost use Rattle.split_shard.specs.Answers.{pairCheck, pairLookup, pairFragment};
+ghost use Rattle.split_shard.specs.form.Answers.{pairCount, pairListing, pairListingLeft, pairUnlisted, pairLength, pairSettle, pairSettleLeft};
 ghost use Rattle.names.specs.Shards.{fileNameAnswer, fileNameLeft};
 ghost use Rattle.names.specs.declared.FileKind.the-variants.{Index, Data};
 ghost use Rattle.coronagamba.specs.word.Word.{writtenWord, lengthAfter, asksToDrop};
@@ -14,9 +15,9 @@ use crate::answers::put_form;
 use crate::answers::put_found;
 use crate::answers::put_length;
 use crate::answers::put_unlisted;
-use crate::word::inner::asks_to_drop;
+use crate::word::asks_to_drop;
 use sharding::Sharding;
-use split_shard::heldrange::RangeAnswer;
+use split_shard::held_range::RangeAnswer;
 
 // coronagamba_check of a pair: whether it is sound, as one file. Writes nothing. The position is that
 // in the joined file.
@@ -30,7 +31,7 @@ pub extern "C" fn coronagamba_pair_check(
 ) -> u64
     ensures answer { λ r. ⌜ r ≡ checkWord (pairCheck sharding shard (now (index .entry)) (now («data» .entry))) ⌝ }
 {
-    let answer = split_shard::pair::check(sharding, shard, index, data);
+    let answer = split_shard::check(sharding, shard, index, data);
     check_word(answer)
 }
 
@@ -53,7 +54,7 @@ pub extern "C" fn coronagamba_pair_lookup(
     ensures start { λ _. ⌜ now (start .exit) ≡ startAfter (pairLookup sharding shard (now (index .entry)) (now («data» .entry)) id) (now (start .entry)) ⌝ }
     ensures length { λ _. ⌜ now (length .exit) ≡ sizeAfter (pairLookup sharding shard (now (index .entry)) (now («data» .entry)) id) (now (length .entry)) ⌝ }
 {
-    let answer = split_shard::pair::lookup(sharding, shard, index, data, id);
+    let answer = split_shard::lookup(sharding, shard, index, data, id);
     put_found(answer, start, length)
 }
 
@@ -78,7 +79,7 @@ pub extern "C" fn coronagamba_pair_fragment(
     ensures start { λ _. ⌜ now (start .exit) ≡ startAfter (pairFragment sharding shard (now (index .entry)) (now («data» .entry)) id level node) (now (start .entry)) ⌝ }
     ensures length { λ _. ⌜ now (length .exit) ≡ sizeAfter (pairFragment sharding shard (now (index .entry)) (now («data» .entry)) id level node) (now (length .entry)) ⌝ }
 {
-    let answer = split_shard::pair::fragment(sharding, shard, index, data, id, level, node);
+    let answer = split_shard::fragment(sharding, shard, index, data, id, level, node);
     put_found(answer, start, length)
 }
 
@@ -98,7 +99,7 @@ pub extern "C" fn coronagamba_pair_listed_count(
     ensures answer { λ r. ⌜ r ≡ countWord (pairCount sharding shard (now (index .entry)) (now («data» .entry)) minishard) ⌝ }
     ensures chunks { λ _. ⌜ now (chunks .exit) ≡ countAfter (pairCount sharding shard (now (index .entry)) (now («data» .entry)) minishard) (now (chunks .entry)) ⌝ }
 {
-    let answer = split_shard::pairform::listed_count(sharding, shard, index, data, minishard);
+    let answer = split_shard::listed_count(sharding, shard, index, data, minishard);
     put_count(answer, chunks)
 }
 
@@ -122,7 +123,7 @@ pub extern "C" fn coronagamba_pair_listing(
     ensures out { λ _. ⌜ now (out .exit) ≡ pairListingLeft sharding shard (now (index .entry)) (now («data» .entry)) minishard (now (out .entry)) ⌝ }
     ensures length { λ _. ⌜ now (length .exit) ≡ countAfter (pairListing sharding shard (now (index .entry)) (now («data» .entry)) minishard (now (out .entry))) (now (length .entry)) ⌝ }
 {
-    let answer = split_shard::pairform::listing(sharding, shard, index, data, minishard, out);
+    let answer = split_shard::listing(sharding, shard, index, data, minishard, out);
     put_count(answer, length)
 }
 
@@ -141,7 +142,7 @@ pub extern "C" fn coronagamba_pair_unlisted(
     ensures answer { λ r. ⌜ r ≡ unlistedWord (pairUnlisted sharding shard (now (index .entry)) (now («data» .entry))) ⌝ }
     ensures bytes { λ _. ⌜ now (bytes .exit) ≡ unlistedAfter (pairUnlisted sharding shard (now (index .entry)) (now («data» .entry))) (now (bytes .entry)) ⌝ }
 {
-    let answer = split_shard::pairform::unlisted_count(sharding, shard, index, data);
+    let answer = split_shard::unlisted_count(sharding, shard, index, data);
     put_unlisted(answer, bytes)
 }
 
@@ -162,7 +163,7 @@ pub extern "C" fn coronagamba_pair_settled_length(
     ensures answer { λ r. ⌜ r ≡ settleWord (pairLength sharding shard (now (index .entry)) (now («data» .entry)) (asksToDrop «drop_unlisted»)) ⌝ }
     ensures length { λ _. ⌜ now (length .exit) ≡ formAfter (pairLength sharding shard (now (index .entry)) (now («data» .entry)) (asksToDrop «drop_unlisted»)) (now (length .entry)) ⌝ }
 {
-    let answer = split_shard::pairform::settled_length(
+    let answer = split_shard::settled_length(
         sharding,
         shard,
         index,
@@ -193,7 +194,7 @@ pub extern "C" fn coronagamba_pair_settle(
     ensures out { λ _. ⌜ now (out .exit) ≡ pairSettleLeft sharding shard (now (index .entry)) (now («data» .entry)) (asksToDrop «drop_unlisted») (now (out .entry)) ⌝ }
     ensures length { λ _. ⌜ now (length .exit) ≡ formAfter (pairSettle sharding shard (now (index .entry)) (now («data» .entry)) (asksToDrop «drop_unlisted») (now (out .entry))) (now (length .entry)) ⌝ }
 {
-    let answer = split_shard::pairform::settle(
+    let answer = split_shard::settle(
         sharding,
         shard,
         index,
@@ -225,7 +226,7 @@ pub extern "C" fn coronagamba_pair_range(
     ensures place { λ _. ⌜ now (place .exit) ≡ placeAfter (rangeAnswer sharding (now (index .entry)) (now («data» .entry)) start end) (now (place .entry)) ⌝ }
     ensures length { λ _. ⌜ now (length .exit) ≡ rangeAfter (rangeAnswer sharding (now (index .entry)) (now («data» .entry)) start end) (now (length .entry)) ⌝ }
 {
-    match split_shard::seam::range(sharding, index, data, start, end) {
+    match split_shard::range(sharding, index, data, start, end) {
         RangeAnswer::InIndex {
             start: begin,
             length: bytes,
@@ -262,7 +263,7 @@ pub extern "C" fn coronagamba_index_name(
     ensures out { λ _. ⌜ now (out .exit) ≡ fileNameLeft Index sharding shard (now (out .entry)) ⌝ }
     ensures length { λ _. ⌜ now (length .exit) ≡ lengthAfter (fileNameAnswer Index sharding shard (now (out .entry))) (now (length .entry)) ⌝ }
 {
-    let answer = names::shardnames::index_name(sharding, shard, out);
+    let answer = names::index_name(sharding, shard, out);
     put_length(answer, length)
 }
 
@@ -279,6 +280,6 @@ pub extern "C" fn coronagamba_data_name(
     ensures out { λ _. ⌜ now (out .exit) ≡ fileNameLeft Data sharding shard (now (out .entry)) ⌝ }
     ensures length { λ _. ⌜ now (length .exit) ≡ lengthAfter (fileNameAnswer Data sharding shard (now (out .entry))) (now (length .entry)) ⌝ }
 {
-    let answer = names::shardnames::data_name(sharding, shard, out);
+    let answer = names::data_name(sharding, shard, out);
     put_length(answer, length)
 }

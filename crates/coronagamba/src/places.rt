@@ -1,7 +1,8 @@
 // Ids and shards.
+
 ghost use mathlib.Core.Path.{_≡_};
 ghost use Rattle.sharding.specs.placement.Place.{placeAnswer};
-ghost use Rattle.sharding.specs.manyplaces.Batch.{placesAnswer, shardsLeft, minishardsLeft};
+ghost use Rattle.sharding.specs.batch.Batch.{placesAnswer, shardsLeft, minishardsLeft};
 ghost use Rattle.coronagamba.specs.word.Word.{writtenWord, lengthAfter};
 ghost use Rattle.coronagamba.specs.Places.{placeWord, shardAfter, minishardAfter};
 use crate::answers::put_length;
@@ -21,7 +22,7 @@ pub extern "C" fn coronagamba_place_of(
     ensures shard { λ _. ⌜ now (shard .exit) ≡ shardAfter (placeAnswer sharding id) (now (shard .entry)) ⌝ }
     ensures minishard { λ _. ⌜ now (minishard .exit) ≡ minishardAfter (placeAnswer sharding id) (now (minishard .entry)) ⌝ }
 {
-    match sharding::placement::place_of(sharding, id) {
+    match sharding::place_of(sharding, id) {
         PlaceAnswer::At(place) => {
             *shard = place.shard;
             *minishard = place.minishard;
@@ -47,6 +48,6 @@ pub extern "C" fn coronagamba_places_of(
     ensures minishards { λ _. ⌜ now (minishards .exit) ≡ minishardsLeft sharding (now (ids .entry)) (now (shards .entry)) (now (minishards .entry)) ⌝ }
     ensures length { λ _. ⌜ now (length .exit) ≡ lengthAfter (placesAnswer sharding (now (ids .entry)) (now (shards .entry)) (now (minishards .entry))) (now (length .entry)) ⌝ }
 {
-    let answer = sharding::manyplaces::places_of(sharding, ids, shards, minishards);
+    let answer = sharding::places_of(sharding, ids, shards, minishards);
     put_length(answer, length)
 }

@@ -1,11 +1,12 @@
 // Shards: lookup, fragments, the check, listings, unlisted bytes, settling.
+
 ghost use mathlib.Core.Path.{_≡_};
 ghost use Rattle.shard.specs.File.{checkAnswer};
 ghost use Rattle.lookup.specs.Find.{lookupAnswer};
-ghost use Rattle.lookup.specs.fragment.Fragment.{fragmentAnswer};
-ghost use Rattle.lookup.specs.listing.Listing.{countAnswer, listingAnswer, listingLeft};
+ghost use Rattle.lookup.specs.fragments.Fragment.{fragmentAnswer};
+ghost use Rattle.lookup.specs.listings.Listing.{countAnswer, listingAnswer, listingLeft};
 ghost use Rattle.unlisted.specs.Answers.{unlistedAnswer};
-ghost use Rattle.settle.specs.settleanswers.Answers.{lengthAnswer, settleAnswer, settleLeft};
+ghost use Rattle.settle.specs.answers.Answers.{lengthAnswer, settleAnswer, settleLeft};
 ghost use Rattle.coronagamba.specs.word.Word.{asksToDrop};
 ghost use Rattle.coronagamba.specs.Shards.{checkWord, lookupWord, startAfter, sizeAfter, countWord, countAfter, settleWord, formAfter, unlistedWord, unlistedAfter};
 use crate::answers::check_word;
@@ -13,7 +14,7 @@ use crate::answers::put_count;
 use crate::answers::put_form;
 use crate::answers::put_found;
 use crate::answers::put_unlisted;
-use crate::word::inner::asks_to_drop;
+use crate::word::asks_to_drop;
 use sharding::Sharding;
 
 // Where the chunk of an id lies in the shard's file; in a mesh the chunk is a manifest. Writes where
@@ -59,7 +60,7 @@ pub extern "C" fn coronagamba_fragment(
     ensures start { λ _. ⌜ now (start .exit) ≡ startAfter (fragmentAnswer sharding shard (now (file .entry)) id level node) (now (start .entry)) ⌝ }
     ensures length { λ _. ⌜ now (length .exit) ≡ sizeAfter (fragmentAnswer sharding shard (now (file .entry)) id level node) (now (length .entry)) ⌝ }
 {
-    let answer = lookup::fragment::fragment(sharding, shard, file, id, level, node);
+    let answer = lookup::fragment(sharding, shard, file, id, level, node);
     put_found(answer, start, length)
 }
 
@@ -71,7 +72,7 @@ pub extern "C" fn coronagamba_fragment(
 pub extern "C" fn coronagamba_check(sharding: Sharding, shard: u64, file: &[u8]) -> u64
     ensures answer { λ r. ⌜ r ≡ checkWord (checkAnswer sharding shard (now (file .entry))) ⌝ }
 {
-    let answer = shard::inspect::check(sharding, shard, file);
+    let answer = shard::check(sharding, shard, file);
     check_word(answer)
 }
 
@@ -89,7 +90,7 @@ pub extern "C" fn coronagamba_listed_count(
     ensures answer { λ r. ⌜ r ≡ countWord (countAnswer sharding shard (now (file .entry)) minishard) ⌝ }
     ensures chunks { λ _. ⌜ now (chunks .exit) ≡ countAfter (countAnswer sharding shard (now (file .entry)) minishard) (now (chunks .entry)) ⌝ }
 {
-    let answer = lookup::listing::listed_count(sharding, shard, file, minishard);
+    let answer = lookup::listed_count(sharding, shard, file, minishard);
     put_count(answer, chunks)
 }
 
@@ -111,7 +112,7 @@ pub extern "C" fn coronagamba_listing(
     ensures out { λ _. ⌜ now (out .exit) ≡ listingLeft sharding shard (now (file .entry)) minishard (now (out .entry)) ⌝ }
     ensures length { λ _. ⌜ now (length .exit) ≡ countAfter (listingAnswer sharding shard (now (file .entry)) minishard (now (out .entry))) (now (length .entry)) ⌝ }
 {
-    let answer = lookup::listing::listing(sharding, shard, file, minishard, out);
+    let answer = lookup::listing(sharding, shard, file, minishard, out);
     put_count(answer, length)
 }
 

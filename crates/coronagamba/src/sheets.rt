@@ -1,16 +1,17 @@
 // Measures of shards, and the yearly holdings sheet.
+
 ghost use mathlib.Core.Path.{_≡_};
 ghost use Prim.Native.Nat.{ℕ, _+_, _<_};
-ghost use Rattle.holdings.specs.declared.measure.MeasureAnswer.the-variants.{Faulty};
-ghost use Rattle.holdings.specs.measure.Answers.{measureAnswer, pairMeasure};
+ghost use Rattle.holdings.specs.declared.measures.MeasureAnswer.the-variants.{Faulty};
+ghost use Rattle.holdings.specs.measures.Answers.{measureAnswer, pairMeasure};
 ghost use Rattle.holdings.specs.Answers.{joinAnswer, addAnswer, pairAddAnswer};
-ghost use Rattle.holdings.specs.shardsheet.Sheet.{rows};
+ghost use Rattle.holdings.specs.one_shard.Sheet.{rows};
 ghost use Rattle.coronagamba.specs.Sheets.{measureWord, countsOf, countsAfter, sheetOf, sheetWord, rowsAfter};
-use crate::word::inner::fault_word;
+use crate::word::fault_word;
 use holdings::SheetAnswer;
-use holdings::measure::Counts;
-use holdings::measure::MeasureAnswer;
-use holdings::shardsheet::Sheet;
+use holdings::measures::Counts;
+use holdings::measures::MeasureAnswer;
+use holdings::one_shard::Sheet;
 use sharding::Sharding;
 
 fn counts_of(counts: Counts) -> [u64; 4]
@@ -117,7 +118,7 @@ pub extern "C" fn coronagamba_measure(
     ensures answer { λ r. ⌜ r ≡ measureWord (measureAnswer sharding shard (now (file .entry))) ⌝ }
     ensures counts { λ _. ⌜ now (counts .exit) ≡ countsAfter (measureAnswer sharding shard (now (file .entry))) (now (counts .entry)) ⌝ }
 {
-    let answer = holdings::measure::measure(sharding, shard, file);
+    let answer = holdings::measure(sharding, shard, file);
     put_counts(counts, answer)
 }
 
@@ -135,7 +136,7 @@ pub extern "C" fn coronagamba_pair_measure(
     ensures answer { λ r. ⌜ r ≡ measureWord (pairMeasure sharding shard (now (index .entry)) (now («data» .entry))) ⌝ }
     ensures counts { λ _. ⌜ now (counts .exit) ≡ countsAfter (pairMeasure sharding shard (now (index .entry)) (now («data» .entry))) (now (counts .entry)) ⌝ }
 {
-    let answer = holdings::measure::measure_pair(sharding, shard, index, data);
+    let answer = holdings::measure_pair(sharding, shard, index, data);
     put_counts(counts, answer)
 }
 

@@ -1,6 +1,7 @@
 // File names.
+
 ghost use mathlib.Core.Path.{_≡_};
-ghost use Rattle.names.specs.chunknames.Chunks.{chunkNameAnswer, chunkNameLeft};
+ghost use Rattle.names.specs.chunks.Chunks.{chunkNameAnswer, chunkNameLeft};
 ghost use Rattle.names.specs.Shards.{shardNameAnswer, shardNameLeft};
 ghost use Rattle.coronagamba.specs.word.Word.{writtenWord, lengthAfter};
 use crate::answers::put_length;
@@ -22,7 +23,7 @@ pub extern "C" fn coronagamba_chunk_name(
     ensures out { λ _. ⌜ now (out .exit) ≡ chunkNameLeft volume cell (now (out .entry)) ⌝ }
     ensures length { λ _. ⌜ now (length .exit) ≡ lengthAfter (chunkNameAnswer volume cell (now (out .entry))) (now (length .entry)) ⌝ }
 {
-    let answer = names::chunknames::chunk_name(volume, cell, out);
+    let answer = names::chunk_name(volume, cell, out);
     put_length(answer, length)
 }
 
@@ -40,6 +41,6 @@ pub extern "C" fn coronagamba_shard_name(
     ensures out { λ _. ⌜ now (out .exit) ≡ shardNameLeft sharding shard (now (out .entry)) ⌝ }
     ensures length { λ _. ⌜ now (length .exit) ≡ lengthAfter (shardNameAnswer sharding shard (now (out .entry))) (now (length .entry)) ⌝ }
 {
-    let answer = names::shardnames::shard_name(sharding, shard, out);
+    let answer = names::shard_name(sharding, shard, out);
     put_length(answer, length)
 }

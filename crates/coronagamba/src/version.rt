@@ -1,4 +1,5 @@
 // The library's version.
+
 ghost use mathlib.Core.Path.{_≡_};
 ghost use Rattle.coronagamba.specs.Version.{version};
 

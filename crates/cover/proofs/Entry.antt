@@ -21,7 +21,7 @@ use Rattle.morton.specs.Key.{keyBits, tooManyBits}
 use Rattle.morton.proofs.Laws.{few-bits-are, many-bits-are}
 use Rattle.cover.specs.declared.overlap.Part.{Part}
 use Rattle.cover.specs.overlap.Cover.{coverKeys, coverChecks, coverAnswer, coverLeft}
-use Rattle.cover.specs.overlap.Marked.{leftBits, partKeys, width, Framed, Whole}
+use Rattle.cover.specs.overlap.Marked.{leftBits, partKeys, markedWidth, Framed, Whole}
 use Rattle.cover.proofs.descent.Cuts.{markedCells, keys-count}
 
 module _ (v : Volume) (lower upper : Point) (d : List ℕ) where
@@ -47,7 +47,7 @@ module _ (v : Volume) (lower upper : Point) (d : List ℕ) {z : Bool} (ez : z �
       unfolding firstNumber coverChecks
       cover-3 l = rw (tested, many-bits-are (gridOf v) (omega arith))
 
-      module _ (l : b ≤ 64) {p : Part} (w : Whole v lower upper p) {face deep : ℕ} (ef : face ≡ width (p .x) * width (p .y)) (ed : deep ≡ width (p .z))
+      module _ (l : b ≤ 64) {p : Part} (w : Whole v lower upper p) {face deep : ℕ} (ef : face ≡ markedWidth (p .x) * markedWidth (p .y)) (ed : deep ≡ markedWidth (p .z))
           {t : Bool} (et : t ≡ ltb (length d) (face * deep)) where
         few : tooManyBits (gridOf v) ≡ false
         few = few-bits-are (gridOf v) (omega arith)

@@ -10,12 +10,12 @@ use borrow.Author.Tests.{le-ltb}
 use mir.Syntax.{w64}
 use mir.Val.{Fits}
 use Rattle.cover.specs.declared.overlap.Along.{Along}
-use Rattle.cover.specs.overlap.Marked.{width}
+use Rattle.cover.specs.overlap.Marked.{markedWidth}
 use Rattle.cover.proofs.overlap.Tests.{ltb-same}
 
 -- ---- marked cells
-pub width-is : (a : Along) {r : ℕ} → r ≡ a .to - a .from → r ≡ width a
-unfolding width
+pub width-is : (a : Along) {r : ℕ} → r ≡ a .to - a .from → r ≡ markedWidth a
+unfolding markedWidth
 width-is a e = e
 
 -- ---- numbers

@@ -1,11 +1,13 @@
 // The search by halves: the keys of a box of cells, and of the marked cells of a grid.
+mod parts;
+
 ghost use mathlib.Core.Path.{_≡_};
 ghost use Prim.Native.Nat.{_+_, _^_, _≤_};
 ghost use lib.ListN.{length};
 ghost use Rattle.endian.specs.Place.{paste};
 ghost use Rattle.morton.specs.Key.{keyBits};
 ghost use Rattle.cover.specs.overlap.Marked.{Sized, Framed, partKeys};
-ghost use Rattle.cover.specs.halves.Box.{counting, boxKeys, Corners};
+ghost use Rattle.cover.specs.halves.Box.{counting, boxKeys, BoxCorners};
 use crate::halves::first_above;
 use crate::halves::full;
 use crate::halves::last_below;
@@ -14,9 +16,7 @@ use crate::halves::split_bit;
 use crate::overlap::Part;
 use morton::grid::Cell;
 use morton::grid::Extents;
-use morton::inner::key;
-
-mod parts;
+use morton::steps::key;
 
 // n keys one after the other, and where they end.
 fn put_keys(out: &mut [u64], at: usize, first: u64, n: usize) -> usize
@@ -35,7 +35,7 @@ fn put_keys(out: &mut [u64], at: usize, first: u64, n: usize) -> usize
 // The keys of the box from low to high into `out` from `at` on, rising, and where they end. The highest bit in which the two differ
 // halves the box. Each higher bit halves the grid and leaves one half without a cell of the box: that half is skipped.
 fn descend(x: u64, y: u64, z: u64, low: u64, high: u64, out: &mut [u64], at: usize) -> usize
-    requires { ⌜ Corners x y z low high × (low ≤ high) × (at + length (boxKeys x y z low high) ≤ length (now out)) ⌝ }
+    requires { ⌜ BoxCorners x y z low high × (low ≤ high) × (at + length (boxKeys x y z low high) ≤ length (now out)) ⌝ }
     ensures next { λ r. ⌜ r ≡ at + length (boxKeys x y z low high) ⌝ }
     ensures out { λ _. ⌜ now (out .exit) ≡ paste at (boxKeys x y z low high) (now (out .entry)) ⌝ }
 {

@@ -1,5 +1,6 @@
 // A box of cells is given by the keys of its first and its last cell, and an axis by its key bits: a key is then compared along each
 // axis as it stands, without its cell. The highest bit in which the two keys differ halves the box.
+
 ghost use mathlib.Core.Path.{_≡_};
 ghost use Prim.Native.Nat.{suc, _+_, _-_, _/_, _%_, _^_, _<_, _≤_};
 ghost use lib.Dec.{eqb};

@@ -2,6 +2,7 @@
 pub mod descent;
 pub mod halves;
 pub mod overlap;
+mod parts;
 
 ghost use mathlib.Core.Path.{_≡_};
 ghost use Rattle.cover.specs.overlap.Cover.{coverAnswer, coverLeft};
@@ -10,8 +11,6 @@ use crate::overlap::spans;
 use morton::bounds::Point;
 use morton::grid::Volume;
 use refusal::Written;
-
-mod parts;
 
 // The keys of all cells that share a voxel with the box from `lower` up to `upper`, rising, into `out`, and how many:
 // 2 where an extent is 0, 3 where the grid needs more than 64 key bits, 13 where the keys do not fit.
@@ -22,7 +21,7 @@ pub fn cover(volume: Volume, lower: Point, upper: Point, out: &mut [u64]) -> Wri
     if morton::grid::inner::zero_extent(volume) {
         return Written::Refused(2);
     }
-    if 64 < morton::inner::volume_key_bits(volume) {
+    if 64 < morton::steps::volume_key_bits(volume) {
         return Written::Refused(3);
     }
     let whole = spans::whole(volume, lower, upper);

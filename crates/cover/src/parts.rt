@@ -1,8 +1,9 @@
 // How many cells of a grid are marked, and whether as many keys fit.
+
 ghost use mathlib.Core.Path.{_≡_};
 ghost use Prim.Native.Nat.{_-_, _*_, _^_, _<_};
 ghost use lib.Dec.{ltb};
-ghost use Rattle.cover.specs.overlap.Marked.{width};
+ghost use Rattle.cover.specs.overlap.Marked.{markedWidth};
 use crate::overlap::Along;
 use crate::overlap::Part;
 
@@ -14,20 +15,20 @@ fn less(a: u32, b: u32) -> u32
 
 // How many cells are marked along an axis.
 fn long(a: Along) -> u64
-    ensures { λ r. ⌜ (r ≡ width a) × (r < 2 ^ 32) ⌝ }
+    ensures { λ r. ⌜ (r ≡ markedWidth a) × (r < 2 ^ 32) ⌝ }
 {
     less(a.to, a.from) as u64
 }
 
 // How many cells are marked along x and y, and along z: their product is the number of keys.
 pub fn face(part: Part) -> u64
-    ensures { λ r. ⌜ r ≡ width (part .x) * width (part .y) ⌝ }
+    ensures { λ r. ⌜ r ≡ markedWidth (part .x) * markedWidth (part .y) ⌝ }
 {
     long(part.x) * long(part.y)
 }
 
 pub fn depth(part: Part) -> u64
-    ensures { λ r. ⌜ r ≡ width (part .z) ⌝ }
+    ensures { λ r. ⌜ r ≡ markedWidth (part .z) ⌝ }
 {
     long(part.z)
 }

@@ -7,7 +7,7 @@ use native.Mathlib.Nat.{add-zero, zero-add, add-assoc}
 use lib.ListN.{replicate, replicate-append-replicate}
 use Rattle.endian.specs.Little.{le, row}
 use Rattle.shard.specs.Items.{Item}
-use Rattle.settled_form.specs.form.Form.{chunksOf, chunksLength, idRow, startRow, sizeRow, indexOf, partOf, partLength, partsFrom, partsLength, entryBegin, entryFinish, entriesFrom, settled}
+use Rattle.settled_form.specs.Form.{chunksOf, chunksLength, idRow, startRow, sizeRow, indexOf, partOf, partLength, partsFrom, partsLength, entryBegin, entryFinish, shardIndexFrom, settled}
 use Rattle.intake.specs.waiting.Held.{pair}
 
 -- the entry in the shard index of a minishard at the place p
@@ -44,8 +44,8 @@ parts-append p [] b = rw (add-zero p)
 parts-append p (xs ∷ c) b =
     rw (parts-append (p + partLength xs) c b, add-assoc p (partLength xs) (partsLength c)) (sym (append-assoc (partOf p xs) _ _))
 
-pub entries-append : (p : ℕ) (a b : List (List Item)) → entriesFrom p (a ++ b) ≡ entriesFrom p a ++ entriesFrom (p + partsLength a) b
-unfolding entriesFrom partsLength
+pub entries-append : (p : ℕ) (a b : List (List Item)) → shardIndexFrom p (a ++ b) ≡ shardIndexFrom p a ++ shardIndexFrom (p + partsLength a) b
+unfolding shardIndexFrom partsLength
 entries-append p [] b = rw (add-zero p)
 entries-append p (xs ∷ c) b = rw (entries-append (p + partLength xs) c b, add-assoc p (partLength xs) (partsLength c))
 
@@ -64,8 +64,8 @@ unfolding partsFrom partOf chunksOf indexOf idRow startRow sizeRow row
 empties-parts p zero = refl
 empties-parts p (suc k) = empties-parts (p + partLength []) k
 
-pub empties-entries : (p k : ℕ) → row (entriesFrom p (empties k)) ≡ replicate (16 * k) 0
-unfolding entriesFrom entryBegin entryFinish row le
+pub empties-entries : (p k : ℕ) → row (shardIndexFrom p (empties k)) ≡ replicate (16 * k) 0
+unfolding shardIndexFrom entryBegin entryFinish row le
 empties-entries p zero = refl
 empties-entries p (suc k) =
     let e : 16 * suc k ≡ 16 + 16 * k = omega arith in
@@ -82,14 +82,14 @@ module _ (a : List (List Item)) (xs : List Item) (j : ℕ) where
   unfolding partsFrom
   among-parts = rw (parts-append 0 a (xs ∷ empties j), empties-parts (0 + partsLength a + partLength xs) j, append-nil (partOf (0 + partsLength a) xs), zero-add)
 
-  pub among-entries : row (entriesFrom 0 (a ++ (xs ∷ empties j))) ≡ row (entriesFrom 0 a) ++ (entryOf (partsLength a) xs ++ replicate (16 * j) 0)
-  unfolding entriesFrom row
+  pub among-entries : row (shardIndexFrom 0 (a ++ (xs ∷ empties j))) ≡ row (shardIndexFrom 0 a) ++ (entryOf (partsLength a) xs ++ replicate (16 * j) 0)
+  unfolding shardIndexFrom row
   among-entries =
-      rw (entries-append 0 a (xs ∷ empties j), row-append (entriesFrom 0 a) _, empties-entries (0 + partsLength a + partLength xs) j)
+      rw (entries-append 0 a (xs ∷ empties j), row-append (shardIndexFrom 0 a) _, empties-entries (0 + partsLength a + partLength xs) j)
       (simp (append-assoc, append-nil, zero-add))
 
   pub among-settled : settled (a ++ (xs ∷ empties j))
-      ≡ (row (entriesFrom 0 a) ++ (entryOf (partsLength a) xs ++ replicate (16 * j) 0)) ++ (partsFrom 0 a ++ partOf (partsLength a) xs)
+      ≡ (row (shardIndexFrom 0 a) ++ (entryOf (partsLength a) xs ++ replicate (16 * j) 0)) ++ (partsFrom 0 a ++ partOf (partsLength a) xs)
   unfolding settled
   among-settled = rw (among-entries, among-parts)
 

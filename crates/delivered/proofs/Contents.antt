@@ -13,11 +13,11 @@ use Rattle.sharding.specs.declared.Sharding.{Sharding}
 use Rattle.sharding.specs.Specification.{minishardCount}
 use Rattle.sharding.specs.placement.Place.{minishardOf}
 use Rattle.shard.specs.Items.{Item}
-use Rattle.settled_form.specs.form.Form.{chunksLength, partLength, partsLength, settled, settledLength}
-use Rattle.settled_form.specs.form.Sorted.{Rising}
-use Rattle.settled_form.specs.form.Content.{idOf}
-use Rattle.settled_form.proofs.form.Measures.{part-by-id, length-settled}
-use Rattle.settled_form.proofs.form.ReadBack.{by-id-rising}
+use Rattle.settled_form.specs.Form.{chunksLength, partLength, partsLength, settled, settledLength}
+use Rattle.settled_form.specs.Sorted.{Rising}
+use Rattle.settled_form.specs.Content.{idOf}
+use Rattle.settled_form.proofs.Measures.{part-by-id, length-settled}
+use Rattle.settled_form.proofs.ReadBack.{by-id-rising}
 use Rattle.delivered.specs.Delivered.{inMinishard, gatheredFrom, gathered}
 use Rattle.delivered.proofs.Appends.{chunks-length-append, empties}
 

@@ -17,13 +17,13 @@ use Rattle.shard.specs.File.{indexLength}
 use Rattle.intake.specs.waiting.Held.{pair, indexHeld}
 use Rattle.intake.proofs.waiting.Writing.{length-index}
 use Rattle.intake.proofs.waiting.Pairs.{pair-kept}
-use Rattle.intake.specs.declared.intakestate.Intake.{Intake}
-use Rattle.intake.specs.intakestate.State.{sane, Usable}
-use Rattle.intake.specs.intaketests.Tests.{otherLengths, unusable, countIn}
+use Rattle.intake.specs.declared.state.Intake.{Intake}
+use Rattle.intake.specs.state.State.{sane, Usable}
+use Rattle.intake.specs.tests.Tests.{otherLengths, unusable, countIn}
 use Rattle.intake.specs.admission.Refusals.{announceChecks}
 use Rattle.intake.proofs.admission.Passing.{opens, announces, hands}
 use Rattle.intake.specs.declared.IntakeAnswer.the-variants.{Next}
-use Rattle.intake.specs.intakesteps.Steps.{endedLeft, turnedLeft, announced}
+use Rattle.intake.specs.steps.Steps.{endedLeft, turnedLeft, announced}
 use Rattle.intake.specs.Calls.{announceAnswer, announceLeft, announceWaiting, partLeft}
 use Rattle.intake.proofs.Answered.{announce-left, announce-waiting, part-left}
 use Rattle.intake.proofs.Refused.{open-told, announce-told, part-told}

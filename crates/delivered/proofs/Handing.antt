@@ -8,13 +8,13 @@ use lib.ListN.{length, length-append}
 use Rattle.endian.specs.Place.{paste}
 use Rattle.endian.proofs.Paste.{paste-nil, paste-on}
 use Rattle.shard.specs.File.{indexLength}
-use Rattle.intake.specs.declared.intakestate.Intake.{Intake}
+use Rattle.intake.specs.declared.state.Intake.{Intake}
 use Rattle.intake.proofs.admission.Passing.{hands}
-use Rattle.intake.specs.intakesteps.Steps.{taken}
+use Rattle.intake.specs.steps.Steps.{taken}
 use Rattle.intake.specs.Calls.{partLeft}
 use Rattle.intake.proofs.Answered.{part-left}
 use Rattle.intake.proofs.Refused.{part-told}
-use Rattle.delivered.specs.Delivered.{joined}
+use Rattle.delivered.specs.Delivered.{concatParts}
 use Rattle.delivered.specs.Runs.{Desk, HandsOver, no-part, part}
 
 taken-none : (s : Intake) → s ≡ taken s 0
@@ -33,8 +33,8 @@ pub record Handed (d : Desk) (bytes : List ℕ) (e : Desk) : Type 0 where
   pub waiting : e .waiting ≡ d .waiting
   pub due : length bytes ≤ d .state .owed
 
-pub handed : {d e : Desk} {parts : List (List ℕ)} → HandsOver d parts e → Handed d (joined parts) e
-unfolding joined
+pub handed : {d e : Desk} {parts : List (List ℕ)} → HandsOver d parts e → Handed d (concatParts parts) e
+unfolding concatParts
 handed {d} no-part = record { state = taken-none (d .state); output = sym (paste-nil _ (d .output)); waiting = refl; due = omega arith }
 handed {d} {e} (part {bytes = bytes} {parts = parts} {s = s} q r) =
     let t = d .state in
@@ -43,7 +43,7 @@ handed {d} {e} (part {bytes = bytes} {parts = parts} {s = s} q r) =
     let at = indexLength (t .spec) + t .next in
     let v : partLeft t bytes (d .output) (d .waiting) ≡ paste at bytes (d .output) = sym (part-left t bytes (d .output) (d .waiting) refl (u .0) refl) in
     let i = handed r in
-    let k = joined parts in
+    let k = concatParts parts in
     let room = p .usual .room in
     let du = p .due in
     let ou = p .usual .outputs in

@@ -19,20 +19,20 @@ use Rattle.sharding.specs.placement.Place.{minishardOf}
 use Rattle.sharding.proofs.placement.Placed.{minishard-below}
 use Rattle.shard.specs.File.{indexLength}
 use Rattle.shard.specs.Items.{Item}
-use Rattle.settled_form.specs.form.Form.{chunksOf, chunksLength, partLength, partsLength, settled}
+use Rattle.settled_form.specs.Form.{chunksOf, chunksLength, partLength, partsLength, settled}
 use Rattle.intake.specs.waiting.Held.{pair}
-use Rattle.intake.specs.declared.intakestate.Intake.{Intake}
-use Rattle.intake.specs.intakestate.State.{announcedLength}
+use Rattle.intake.specs.declared.state.Intake.{Intake}
+use Rattle.intake.specs.state.State.{announcedLength}
 use Rattle.intake.proofs.admission.Passing.{opens, announces, closes}
-use Rattle.intake.proofs.intaketests.Passing.{not-below}
+use Rattle.intake.proofs.tests.Passing.{not-below}
 use Rattle.intake.specs.declared.IntakeAnswer.the-variants.{Next}
 use Rattle.intake.specs.declared.CloseAnswer.the-variants.{Closed}
-use Rattle.intake.specs.intakesteps.Steps.{endedLeft, opened, turned, turnedLeft, noted, announced, taken}
+use Rattle.intake.specs.steps.Steps.{endedLeft, opened, turned, turnedLeft, noted, announced, taken}
 use Rattle.intake.specs.Calls.{openLeft, announceAnswer, announceLeft, announceWaiting, closeAnswer, closeLeft}
-use Rattle.intake.proofs.intakesteps.Stepped.{turned-count}
+use Rattle.intake.proofs.steps.Stepped.{turned-count}
 use Rattle.intake.proofs.Answered.{open-left, announce-left, announce-waiting, close-left}
 use Rattle.intake.proofs.Refused.{open-told, announce-told, close-told}
-use Rattle.delivered.specs.Delivered.{Delivery, joined, asItem, asItems}
+use Rattle.delivered.specs.Delivered.{Delivery, concatParts, asItem, asItems}
 use Rattle.delivered.specs.Runs.{Desk, afterAnnounce, HandsOver, Delivers, no-chunk, chunk, Takes}
 use Rattle.delivered.proofs.Appends.{chunks-append, chunks-length-append, row-append, empties, empties-split, empties-settled, among-length}
 use Rattle.delivered.proofs.Contents.{arrived, putAt, arrived-snoc, arrived-nil, put-among}
@@ -198,7 +198,7 @@ module _ (spec : Sharding) {out : List ℕ} (items : List Item) {d e : Desk} (x 
       let k = h (p .paid) in
       let sp : minishardCount (t .spec) ≡ minishardCount spec = ap minishardCount (k .same) in
       let g = turned-keeps k m (omega (arith, minishard-below (t .spec) (x .id))) (not-below t (x .id) (p .order)) in
-      let b = joined (x .parts) in
+      let b = concatParts (x .parts) in
       let ol : announceLeft t (x .id) (x .size) o w ≡ turnedLeft t m o w = sym (announce-left t (x .id) (x .size) o w refl (u .0) refl) in
       let wl : announceWaiting t (x .id) (x .size) o w ≡ paste (16 * turned t m .count) (pair (x .id) (x .size)) w =
       rw (turned-count t m) (sym (announce-waiting t (x .id) (x .size) o w refl (u .0) refl)) in
@@ -236,7 +236,7 @@ pub takes-idle : {spec : Sharding} {shard : ℕ} {out waiting : List ℕ} {xs : 
 takes-idle {spec} {shard} {out} {waiting} t =
     let u = open-told spec shard out waiting (t .opens) in
     let i = handed (t .idles) in
-    let b = joined (t .idle) in
+    let b = concatParts (t .idle) in
     let owed : t .state .owed ≡ 0 = ap (λ (s : Intake). s .owed) (sym (u .1)) in
     let n : length b ≡ 0 = omega (arith, i .due) in
     let none : b ≡ [] = nothing b n in

@@ -15,21 +15,21 @@ use Rattle.sharding.specs.declared.Sharding.{Sharding}
 use Rattle.sharding.specs.Specification.{minishardCount, shardCount}
 use Rattle.shard.specs.Items.{Item, leadLength}
 use Rattle.shard.proofs.Leads.{volume-leads}
-use Rattle.settled_form.specs.form.Sorted.{Member}
-use Rattle.settled_form.specs.form.Form.{settled}
-use Rattle.settled_form.specs.form.Content.{idOf, formOf}
-use Rattle.settled_form.proofs.form.Sorting.{rising-distinct}
-use Rattle.settled_form.proofs.form.Measures.{length-settled}
-use Rattle.settled_form.proofs.form.Rows.{InForm}
-use Rattle.settled_form.proofs.form.ReadBack.{Readable, content-back}
-use Rattle.settled_form.proofs.form.SoundContent.{Listed}
-use Rattle.settled_form.proofs.form.FormSound.{settled-sound}
-use Rattle.intake.specs.intakestate.State.{announcedLength}
-use Rattle.intake.proofs.intakestate.Passing.{volume-allowed, volume-kind}
+use Rattle.settled_form.specs.Sorted.{Member}
+use Rattle.settled_form.specs.Form.{settled}
+use Rattle.settled_form.specs.Content.{idOf, formOf}
+use Rattle.settled_form.proofs.Sorting.{rising-distinct}
+use Rattle.settled_form.proofs.Measures.{length-settled}
+use Rattle.settled_form.proofs.Rows.{InForm}
+use Rattle.settled_form.proofs.ReadBack.{Readable, content-back}
+use Rattle.settled_form.proofs.SoundContent.{Listed}
+use Rattle.settled_form.proofs.FormSound.{settled-sound}
+use Rattle.intake.specs.state.State.{announcedLength}
+use Rattle.intake.proofs.state.Passing.{volume-allowed, volume-kind}
 use Rattle.intake.proofs.admission.Passing.{Opens, opens, closes}
-use Rattle.intake.specs.declared.intakestate.Intake.{Intake}
+use Rattle.intake.specs.declared.state.Intake.{Intake}
 use Rattle.intake.specs.declared.CloseAnswer.the-variants.{Closed}
-use Rattle.intake.specs.intakesteps.Steps.{closed}
+use Rattle.intake.specs.steps.Steps.{closed}
 use Rattle.intake.specs.Calls.{closeAnswer, closeLeft}
 use Rattle.intake.proofs.Answered.{close-closed}
 use Rattle.intake.proofs.Refused.{open-told, close-told}

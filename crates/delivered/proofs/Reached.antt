@@ -17,14 +17,14 @@ use Rattle.sharding.specs.placement.Place.{shardOf, minishardOf}
 use Rattle.shard.specs.File.{indexLength}
 use Rattle.intake.specs.waiting.Held.{pair, idHeld, sizeHeld}
 use Rattle.intake.proofs.waiting.Pairs.{pair-id, pair-size}
-use Rattle.intake.specs.declared.intakestate.Intake.{Intake}
-use Rattle.intake.specs.intakestate.State.{most, announcedLength, notVolume, fresh, placed, begun, spans, waits, going, sane}
-use Rattle.intake.specs.intaketests.Tests.{outOfOrder, countIn}
-use Rattle.intake.proofs.intakestate.Passing.{volume-allowed, Fresh, fresh-parts, going-parts, Sane, sane-parts}
-use Rattle.intake.proofs.intaketests.Passing.{unusable-parts, not-below, foreign-ours}
+use Rattle.intake.specs.declared.state.Intake.{Intake}
+use Rattle.intake.specs.state.State.{most, announcedLength, notVolume, fresh, placed, begun, spans, waits, going, sane}
+use Rattle.intake.specs.tests.Tests.{outOfOrder, countIn}
+use Rattle.intake.proofs.state.Passing.{volume-allowed, Fresh, fresh-parts, going-parts, Sane, sane-parts}
+use Rattle.intake.proofs.tests.Passing.{unusable-parts, not-below, foreign-ours}
 use Rattle.intake.proofs.admission.Passing.{Opens, Announces}
-use Rattle.intake.specs.intakesteps.Steps.{opened, turned, announced, taken}
-use Rattle.intake.proofs.intakesteps.Stepped.{turned-count}
+use Rattle.intake.specs.steps.Steps.{opened, turned, announced, taken}
+use Rattle.intake.proofs.steps.Stepped.{turned-count}
 use Rattle.delivered.proofs.Keeping.{turned-there}
 
 positive : (k : ℕ) → (k ≡ 0 → ⊥) → 0 < k

@@ -12,15 +12,15 @@ use Rattle.refusal.proofs.Tests.{neither}
 use Rattle.sharding.specs.declared.Sharding.{Sharding}
 use Rattle.sharding.specs.placement.Place.{shardOf, minishardOf}
 use Rattle.shard.specs.Items.{Item}
-use Rattle.settled_form.specs.form.Sorted.{Member, Rising}
-use Rattle.settled_form.specs.form.Content.{idOf}
-use Rattle.intake.specs.declared.intakestate.Intake.{Intake}
-use Rattle.intake.specs.intaketests.Tests.{outOfOrder}
+use Rattle.settled_form.specs.Sorted.{Member, Rising}
+use Rattle.settled_form.specs.Content.{idOf}
+use Rattle.intake.specs.declared.state.Intake.{Intake}
+use Rattle.intake.specs.tests.Tests.{outOfOrder}
 use Rattle.intake.proofs.admission.Passing.{announces}
-use Rattle.intake.proofs.intaketests.Passing.{not-below, foreign-ours}
-use Rattle.intake.specs.intakesteps.Steps.{turned, announced, taken}
+use Rattle.intake.proofs.tests.Passing.{not-below, foreign-ours}
+use Rattle.intake.specs.steps.Steps.{turned, announced, taken}
 use Rattle.intake.proofs.Refused.{announce-told}
-use Rattle.delivered.specs.Delivered.{Delivery, joined, asItem, asItems, inMinishard, Precedes, InOrder}
+use Rattle.delivered.specs.Delivered.{Delivery, concatParts, asItem, asItems, inMinishard, Precedes, InOrder}
 use Rattle.delivered.specs.Runs.{Desk, Takes, Delivers, no-chunk, chunk}
 use Rattle.delivered.proofs.Handing.{handed}
 use Rattle.delivered.proofs.Keeping.{turned-there}
@@ -137,7 +137,7 @@ delivers-risen {spec} {shard} {d = d} (chunk {e = e} {x = x} {xs = xs} {s = s} l
     let m = minishardOf (t .spec) (x .id) in
     let u = announce-told t (x .id) (x .size) (d .output) (d .waiting) q in
     let p = announces t (x .id) (x .size) (length (d .output)) (d .waiting) (u .0) in
-    let es : e .state ≡ taken (announced t (x .id) (x .size)) (length (joined (x .parts))) = rw (← u .1) at (handed r .state) in
+    let es : e .state ≡ taken (announced t (x .id) (x .size)) (length (concatParts (x .parts))) = rw (← u .1) at (handed r .state) in
     let so : shardOf spec (x .id) ≡ shard =
     ap (λ (y : Sharding). shardOf y (x .id)) (sym (h .of-spec)) ∙ foreign-ours t (x .id) (p .usual .permitted) (p .ours) ∙ h .of-shard in
     let a : After spec t (x .id) = rw (← h .of-spec) (in-order t (x .id) (p .order)) in

@@ -15,14 +15,14 @@ use Rattle.sharding.specs.placement.Place.{minishardOf}
 use Rattle.sharding.proofs.placement.Placed.{minishard-below}
 use Rattle.shard.specs.File.{indexLength}
 use Rattle.shard.specs.Items.{Item}
-use Rattle.settled_form.specs.form.Form.{partsLength, settled, settledLength}
-use Rattle.settled_form.proofs.form.Measures.{length-settled}
-use Rattle.intake.specs.declared.intakestate.Intake.{Intake}
-use Rattle.intake.specs.intakestate.State.{announcedLength}
-use Rattle.intake.specs.intaketests.Tests.{outOfOrder, countIn, noRoom}
+use Rattle.settled_form.specs.Form.{partsLength, settled, settledLength}
+use Rattle.settled_form.proofs.Measures.{length-settled}
+use Rattle.intake.specs.declared.state.Intake.{Intake}
+use Rattle.intake.specs.state.State.{announcedLength}
+use Rattle.intake.specs.tests.Tests.{outOfOrder, countIn, noRoom}
 use Rattle.intake.specs.admission.Refusals.{openChecks}
-use Rattle.intake.proofs.intaketests.Passing.{not-below}
-use Rattle.intake.proofs.intakesteps.Stepped.{turned-count}
+use Rattle.intake.proofs.tests.Passing.{not-below}
+use Rattle.intake.proofs.steps.Stepped.{turned-count}
 use Rattle.delivered.specs.Delivered.{Delivery, asItems, inMinishard, gathered}
 use Rattle.delivered.specs.Runs.{Desk, Takes}
 use Rattle.delivered.specs.Says.{tooLong, noPairLeft, openSays}

@@ -12,19 +12,19 @@ use Rattle.refusal.specs.Checks.{firstNumber, unless}
 use Rattle.sharding.specs.declared.Sharding.{Sharding}
 use Rattle.sharding.specs.placement.Place.{shardOf, minishardOf}
 use Rattle.shard.specs.Items.{Item}
-use Rattle.intake.specs.declared.intakestate.Intake.{Intake}
-use Rattle.intake.specs.intakestate.State.{sane}
-use Rattle.intake.specs.intaketests.Tests.{otherLengths, foreign, unusable, outOfOrder}
+use Rattle.intake.specs.declared.state.Intake.{Intake}
+use Rattle.intake.specs.state.State.{sane}
+use Rattle.intake.specs.tests.Tests.{otherLengths, foreign, unusable, outOfOrder}
 use Rattle.intake.specs.admission.Refusals.{announceChecks, partChecks, closeChecks}
-use Rattle.intake.proofs.intakestate.Passing.{volume-allowed, sane-parts}
+use Rattle.intake.proofs.state.Passing.{volume-allowed, sane-parts}
 use Rattle.intake.proofs.admission.Passing.{Closes, closes}
 use Rattle.intake.specs.declared.IntakeAnswer.the-variants.{Next, Refused}
 use Rattle.intake.specs.declared.CloseAnswer.the-variants.{Closed, Refused as NotClosed}
-use Rattle.intake.specs.intakesteps.Steps.{turned, announced, taken, closed}
+use Rattle.intake.specs.steps.Steps.{turned, announced, taken, closed}
 use Rattle.intake.specs.Calls.{announceAnswer, partAnswer, closeAnswer, closeLeft}
 use Rattle.intake.proofs.Answered.{close-left}
 use Rattle.intake.proofs.Refused.{announce-told, close-told}
-use Rattle.delivered.specs.Delivered.{Delivery, joined}
+use Rattle.delivered.specs.Delivered.{Delivery, concatParts}
 use Rattle.delivered.specs.Runs.{Desk, afterAnnounce, afterClose, HandsOver, Delivers, no-chunk, chunk, Takes, Over}
 use Rattle.delivered.specs.Says.{notAfter, owing, announceSays, partSays, closeSays}
 use Rattle.delivered.proofs.Handing.{handed}
@@ -48,7 +48,7 @@ record After (spec : Sharding) (x : Delivery) (s : Intake) : Type 0 where
   here : s .minishard ≡ minishardOf spec (x .id)
   some : 0 < s .count
   last : s .last ≡ x .id
-  left : s .owed ≡ x .size - length (joined (x .parts))
+  left : s .owed ≡ x .size - length (concatParts (x .parts))
 
 module _ {spec : Sharding} {shard output waiting : ℕ} where
   after-chunk : {d e : Desk} (x : Delivery) {s : Intake} → announceAnswer (d .state) (x .id) (x .size) (d .output) (d .waiting) ≡ Next s
@@ -57,7 +57,7 @@ module _ {spec : Sharding} {shard output waiting : ℕ} where
       let t = d .state in
       let m = minishardOf (t .spec) (x .id) in
       let u = announce-told t (x .id) (x .size) (d .output) (d .waiting) q in
-      let es : e .state ≡ taken (announced t (x .id) (x .size)) (length (joined (x .parts))) = rw (← u .1) at (handed r .state) in
+      let es : e .state ≡ taken (announced t (x .id) (x .size)) (length (concatParts (x .parts))) = rw (← u .1) at (handed r .state) in
       let c : e .state .count ≡ turned t m .count + 1 = ap (λ (y : Intake). y .count) es in
       record {
         here = ap (λ (y : Intake). y .minishard) es ∙ turned-there t m ∙ ap (λ (y : Sharding). minishardOf y (x .id)) (h .of-spec);

@@ -16,12 +16,12 @@ use Rattle.endian.proofs.Paste.{paste-skip, paste-front}
 use Rattle.sharding.specs.Specification.{minishardCount}
 use Rattle.shard.specs.File.{indexLength}
 use Rattle.shard.specs.Items.{Item}
-use Rattle.settled_form.specs.form.Form.{chunksOf, chunksLength, idRow, startRow, sizeRow, indexOf, partOf, partLength, partsFrom, partsLength, entryBegin, entryFinish, entriesFrom, settled, settledLength}
-use Rattle.settled_form.proofs.form.Measures.{length-chunks, length-shard-index, length-settled}
+use Rattle.settled_form.specs.Form.{chunksOf, chunksLength, idRow, startRow, sizeRow, indexOf, partOf, partLength, partsFrom, partsLength, entryBegin, entryFinish, shardIndexFrom, settled, settledLength}
+use Rattle.settled_form.proofs.Measures.{length-chunks, length-shard-index, length-settled}
 use Rattle.intake.specs.waiting.Held.{pair, idHeld, sizeHeld, stepsHeld, sizesHeld, startsFrom, indexHeld}
 use Rattle.intake.proofs.waiting.Pairs.{length-pair}
-use Rattle.intake.specs.declared.intakestate.Intake.{Intake}
-use Rattle.intake.specs.intakesteps.Steps.{endedLeft}
+use Rattle.intake.specs.declared.state.Intake.{Intake}
+use Rattle.intake.specs.steps.Steps.{endedLeft}
 use Rattle.delivered.proofs.Appends.{entryOf, empties, among-length, among-settled}
 
 -- ---- what a list begins with, and what stands behind that: what stood there in another list, its base
@@ -186,7 +186,7 @@ ended-some : {out : List ℕ} {a : List (List Item)} {x : Item} {xs : List Item}
     → Begins out (endedLeft s o w) (settled (a ++ ((x ∷ xs) ∷ empties k)))
 unfolding endedLeft
 ended-some {a = a} {x} {xs} {k} {s} {o} {w} h =
-    let A = row (entriesFrom 0 a) in
+    let A = row (shardIndexFrom 0 a) in
     let P = partsFrom 0 a in
     let p = partsLength a in
     let C = chunksOf (x ∷ xs) in

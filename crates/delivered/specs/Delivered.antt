@@ -8,9 +8,9 @@ use Rattle.sharding.specs.declared.Sharding.{Sharding}
 use Rattle.sharding.specs.Specification.{minishardCount}
 use Rattle.sharding.specs.placement.Place.{minishardOf}
 use Rattle.shard.specs.Items.{Item}
-use Rattle.settled_form.specs.form.Sorted.{Member}
-use Rattle.settled_form.specs.form.Form.{settled}
-use Rattle.settled_form.specs.form.Content.{byId}
+use Rattle.settled_form.specs.Sorted.{Member}
+use Rattle.settled_form.specs.Form.{settled}
+use Rattle.settled_form.specs.Content.{byId}
 
 -- a chunk as it is delivered: its id, the size that is announced, and its bytes "in successive parts of any lengths"
 pub record Delivery : Type 0 where
@@ -19,13 +19,13 @@ pub record Delivery : Type 0 where
   pub parts : List (List ℕ)
 
 -- the parts one after the other
-unfoldable pub joined : List (List ℕ) → List ℕ
-joined [] = []
-joined (part ∷ parts) = part ++ joined parts
+unfoldable pub concatParts : List (List ℕ) → List ℕ
+concatParts [] = []
+concatParts (part ∷ parts) = part ++ concatParts parts
 
 -- the item that it makes: in a volume no bytes go before a chunk
 abbrev pub asItem : Delivery → Item
-asItem x = record { id = x .id; lead = []; body = joined (x .parts) }
+asItem x = record { id = x .id; lead = []; body = concatParts (x .parts) }
 
 unfoldable pub asItems : List Delivery → List Item
 asItems [] = []

@@ -8,12 +8,12 @@ use Rattle.refusal.specs.Choice.{pick}
 use Rattle.sharding.specs.declared.Sharding.{Sharding}
 use Rattle.sharding.specs.placement.Place.{shardOf}
 use Rattle.shard.specs.Sound.{SoundShard}
-use Rattle.settled_form.specs.form.Content.{fileContent, fileForm}
-use Rattle.intake.specs.declared.intakestate.Intake.{Intake}
+use Rattle.settled_form.specs.Content.{fileContent, fileForm}
+use Rattle.intake.specs.declared.state.Intake.{Intake}
 use Rattle.intake.specs.declared.IntakeAnswer.the-variants.{Next, Refused}
 use Rattle.intake.specs.declared.CloseAnswer.the-variants.{Refused as NotClosed}
 use Rattle.intake.specs.Calls.{openAnswer, openLeft, announceAnswer, announceLeft, announceWaiting, partAnswer, partLeft, closeAnswer, closeLeft}
-use Rattle.intake.specs.intakesteps.Steps.{closed}
+use Rattle.intake.specs.steps.Steps.{closed}
 use Rattle.delivered.specs.Delivered.{Delivery, asItems, gathered}
 
 -- the state and the two buffers between calls

@@ -9,9 +9,9 @@ use Rattle.sharding.specs.declared.Sharding.{Sharding}
 use Rattle.sharding.specs.Specification.{noSuchShard}
 use Rattle.sharding.specs.placement.Place.{shardOf, minishardOf}
 use Rattle.shard.specs.Items.{Item}
-use Rattle.settled_form.specs.form.Form.{settled}
-use Rattle.intake.specs.intakestate.State.{most, notVolume}
-use Rattle.delivered.specs.Delivered.{Delivery, joined, asItems, inMinishard, gathered}
+use Rattle.settled_form.specs.Form.{settled}
+use Rattle.intake.specs.state.State.{most, notVolume}
+use Rattle.delivered.specs.Delivered.{Delivery, concatParts, asItems, inMinishard, gathered}
 
 -- 25: the id is not above the last one that came, by minishard and then by id
 unfoldable pub notAfter : Sharding → List Delivery → ℕ → Bool
@@ -23,7 +23,7 @@ notAfter spec (x ∷ y ∷ xs) id = notAfter spec (y ∷ xs) id
 -- 26: the bytes that are still owed
 unfoldable pub owing : List Delivery → ℕ
 owing [] = 0
-owing (x ∷ []) = x .size - length (joined (x .parts))
+owing (x ∷ []) = x .size - length (concatParts (x .parts))
 owing (x ∷ y ∷ xs) = owing (y ∷ xs)
 
 -- 13: "the settled form of all announced so far, this chunk included, would pass the output or 1 GiB"

@@ -1,6 +1,6 @@
--- A module for each idea.
+-- Ids as sums of steps, and which id stands twice.
 pub mod ids
 pub mod heapsort
 pub mod passes
-pub mod idfilter
-pub mod twice
+pub mod filter
+pub mod Twice

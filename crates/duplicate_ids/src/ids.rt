@@ -1,4 +1,5 @@
 // The ids of a minishard from their steps, ids that rise, and whether an earlier entry has an id.
+
 ghost use mathlib.Core.Path.{_≡_};
 ghost use mathlib.Core.Bool.{false, _&&_};
 ghost use Prim.Native.Nat.{_+_, _*_, _%_, _^_, _≤_};
@@ -7,7 +8,7 @@ ghost use lib.ListN.{length};
 ghost use Rattle.endian.specs.Little.{rowAt};
 ghost use Rattle.endian.specs.Range.{sumTo, anyBelow};
 ghost use Rattle.duplicate_ids.specs.ids.Ids.{idAt, repeats};
-use endian::inner::read_u64;
+use endian::read_u64;
 
 // The id of entry i, from that of the entry before it.
 pub fn next_id(data: &[u8], p: usize, i: usize, before: u64) -> u64

@@ -1,3 +1,4 @@
+-- Numbers as bytes, and bytes at a place.
 pub mod Range
 pub mod Little
 pub mod Place

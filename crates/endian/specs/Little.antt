@@ -18,6 +18,11 @@ unfoldable pub row : List ℕ → List ℕ
 row [] = []
 row (n ∷ ns) = le 8 n ++ row ns
 
+-- each as a u32
+unfoldable pub row32 : List ℕ → List ℕ
+row32 [] = []
+row32 (n ∷ ns) = le 4 n ++ row32 ns
+
 -- number i of the row of u64s that begins at p
 abbrev pub rowAt : List ℕ → ℕ → ℕ → ℕ
 rowAt s p i = leAt 8 s (p + 8 * i)

@@ -12,22 +12,22 @@ use Rattle.sharding.specs.declared.Sharding.{Sharding}
 use Rattle.shard.specs.declared.CheckAnswer.{CheckAnswer}
 use Rattle.shard.specs.declared.CheckAnswer.the-variants as C
 use Rattle.shard.specs.File.{indexPart, dataPart, checkAnswer}
-use Rattle.split_shard.specs.pair.Answers.{pairCheck}
-use Rattle.holdings.specs.declared.measure.Counts.{Counts}
-use Rattle.holdings.specs.declared.measure.MeasureAnswer.{MeasureAnswer}
-use Rattle.holdings.specs.declared.measure.MeasureAnswer.the-variants as M
-use Rattle.holdings.specs.measure.Measures.{chunkBytes, measureOf}
-use Rattle.holdings.specs.chunksums.Totals.{mostTotal, passes}
-use Rattle.holdings.specs.measure.Answers.{measuredIn, afterVerdict, measureAnswer, pairMeasure}
-use Rattle.holdings.proofs.measure.Answered.{measured-pick}
-use Rattle.holdings.specs.declared.shardsheet.Sheet.{Sheet}
+use Rattle.split_shard.specs.Answers.{pairCheck}
+use Rattle.holdings.specs.declared.measures.Counts.{Counts}
+use Rattle.holdings.specs.declared.measures.MeasureAnswer.{MeasureAnswer}
+use Rattle.holdings.specs.declared.measures.MeasureAnswer.the-variants as M
+use Rattle.holdings.specs.measures.Measures.{chunkBytes, measureOf}
+use Rattle.holdings.specs.chunk_sums.Totals.{mostTotal, passes}
+use Rattle.holdings.specs.measures.Answers.{measuredIn, afterVerdict, measureAnswer, pairMeasure}
+use Rattle.holdings.proofs.measures.Answered.{measured-pick}
+use Rattle.holdings.specs.declared.one_shard.Sheet.{Sheet}
 use Rattle.holdings.specs.declared.SheetAnswer.{SheetAnswer}
 use Rattle.holdings.specs.declared.SheetAnswer.the-variants.{Total, Refused}
-use Rattle.holdings.specs.shardsheet.Sheet.{rows, hasRow, soundSheet, refusedSheet, shardSheet}
-use Rattle.holdings.specs.sheettotals.Totals.{anyPasses, both}
+use Rattle.holdings.specs.one_shard.Sheet.{rows, hasRow, soundSheet, refusedSheet, shardSheet}
+use Rattle.holdings.specs.passing.Totals.{anyPasses, both}
 use Rattle.holdings.specs.Joining.{Joins}
 use Rattle.holdings.specs.Answers.{joinAnswer, sheetOf, addAnswer, pairSheet, pairAddAnswer, measuredAnswer}
-use Rattle.holdings.proofs.shardsheet.Numbers.{Told, check-told, pair-told}
+use Rattle.holdings.proofs.one_shard.Numbers.{Told, check-told, pair-told}
 
 -- ---- joining
 

@@ -7,15 +7,15 @@ use Rattle.refusal.specs.Choice.{pick}
 use Rattle.refusal.specs.Checks.{check, answered}
 use Rattle.sharding.specs.declared.Sharding.{Sharding}
 use Rattle.shard.specs.File.{checkAnswer}
-use Rattle.split_shard.specs.pair.Answers.{pairCheck}
-use Rattle.holdings.specs.declared.measure.MeasureAnswer.{MeasureAnswer}
-use Rattle.holdings.specs.declared.measure.MeasureAnswer.the-variants as M
-use Rattle.holdings.specs.measure.Measures.{measureOf, fileMeasure}
-use Rattle.holdings.specs.declared.shardsheet.Sheet.{Sheet}
+use Rattle.split_shard.specs.Answers.{pairCheck}
+use Rattle.holdings.specs.declared.measures.MeasureAnswer.{MeasureAnswer}
+use Rattle.holdings.specs.declared.measures.MeasureAnswer.the-variants as M
+use Rattle.holdings.specs.measures.Measures.{measureOf, fileMeasure}
+use Rattle.holdings.specs.declared.one_shard.Sheet.{Sheet}
 use Rattle.holdings.specs.declared.SheetAnswer.{SheetAnswer}
 use Rattle.holdings.specs.declared.SheetAnswer.the-variants.{Total, Refused}
-use Rattle.holdings.specs.shardsheet.Sheet.{rows, soundSheet, refusedSheet, shardSheet}
-use Rattle.holdings.specs.sheettotals.Totals.{anyPasses, both}
+use Rattle.holdings.specs.one_shard.Sheet.{rows, soundSheet, refusedSheet, shardSheet}
+use Rattle.holdings.specs.passing.Totals.{anyPasses, both}
 
 -- two sheets together (RULES H3)
 unfoldable pub joinAnswer : Sheet → Sheet → SheetAnswer

@@ -1,7 +1,7 @@
 -- The yearly holdings sheet (RULES H2, H3).
-pub mod chunksums
-pub mod measure
-pub mod shardsheet
-pub mod sheettotals
+pub mod chunk_sums
+pub mod measures
+pub mod one_shard
+pub mod passing
 pub mod Joining
 pub mod Answers

@@ -1,18 +1,18 @@
 // The yearly holdings sheet: shards sound, shards refused for each number, and what the sound ones hold.
-pub mod chunksums;
-pub mod measure;
+pub mod chunk_sums;
+pub mod measures;
+pub mod one_shard;
+pub mod passing;
 mod rows;
-pub mod shardsheet;
-pub mod sheettotals;
 
 ghost use mathlib.Core.Path.{_≡_};
 ghost use Rattle.holdings.specs.Answers.{joinAnswer, addAnswer, pairAddAnswer};
-use crate::measure::measure;
-use crate::measure::measure_pair;
+use crate::one_shard::Sheet;
+use crate::passing::passes;
 use crate::rows::add_measured;
 use crate::rows::together;
-use crate::shardsheet::Sheet;
-use crate::sheettotals::passes;
+pub use measures::measure;
+pub use measures::measure_pair;
 use sharding::Sharding;
 
 // The new sheet, or 27.

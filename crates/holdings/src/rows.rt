@@ -1,13 +1,14 @@
 // The rows of two sheets, added; a sheet with one shard more.
+
 ghost use mathlib.Core.Path.{_≡_};
 ghost use Rattle.holdings.specs.Joining.{Totals, Joins};
 ghost use Rattle.holdings.specs.Answers.{measuredAnswer};
 use crate::SheetAnswer;
 use crate::join;
-use crate::measure::MeasureAnswer;
-use crate::shardsheet::Sheet;
-use crate::shardsheet::refused_sheet;
-use crate::shardsheet::sound_sheet;
+use crate::measures::MeasureAnswer;
+use crate::one_shard::Sheet;
+use crate::one_shard::refused_sheet;
+use crate::one_shard::sound_sheet;
 
 // A row's total, where it does not pass.
 fn total(a: u64, b: u64) -> u64

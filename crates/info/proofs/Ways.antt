@@ -7,17 +7,17 @@ use borrow.Author.Needs.{needs}
 use borrow.Author.Tests.{not-true, not-false}
 use Rattle.refusal.specs.Choice.{pick}
 use Rattle.refusal.specs.Checks.{firstNumber, unless}
-use Rattle.json.specs.text.Parts.{ws}
+use Rattle.json.specs.tokens.Parts.{ws}
 use Rattle.json.specs.Grammar.{deepest, isJson}
 use Rattle.card.specs.declared.Card.{Card}
 use Rattle.card.specs.declared.CardAnswer.the-variants.{Says, Refused}
 use Rattle.card.specs.Answers.{fault}
-use Rattle.json.specs.declared.text.Found.{Found}
-use Rattle.json.specs.declared.text.Found.the-variants.{At, Nothing}
+use Rattle.json.specs.declared.tokens.Found.{Found}
+use Rattle.json.specs.declared.tokens.Found.the-variants.{At, Nothing}
 use Rattle.info.specs.declared.scale.Settings.{Settings}
 use Rattle.info.specs.declared.scale.Settings.the-variants.{Are as SettingsAre, Wrong as NoSettings}
-use Rattle.json.specs.places.Places.{needed, element}
-use Rattle.info.specs.members.Words.{scalesName}
+use Rattle.json.specs.members.Places.{needed, element}
+use Rattle.info.specs.sharding_members.Words.{scalesName}
 use Rattle.info.specs.scale.Scale.{settingsAt}
 use Rattle.info.specs.Settings.{scaleAt, settingsOf}
 use Rattle.info.specs.Answers.{noSettings, recordOf, infoChecks, infoAnswer}

@@ -1,6 +1,6 @@
 -- The info file: its settings by places in the text, and what reading answers.
-pub mod wholes
-pub mod members
+pub mod numbers
+pub mod sharding_members
 pub mod scale
 pub mod document
 pub mod Settings

@@ -1,9 +1,9 @@
 // Reading the settings of a volume from the text of its info file.
 pub mod document;
-pub mod members;
-mod parts;
+pub mod numbers;
 pub mod scale;
-pub mod wholes;
+mod settings;
+pub mod sharding_members;
 
 ghost use mathlib.Core.Path.{_≡_};
 ghost use Rattle.info.specs.Answers.{infoAnswer};
@@ -18,13 +18,13 @@ use card::CardAnswer;
 pub fn read_info(text: &[u8], scale: u64) -> CardAnswer
     ensures answer { λ r. ⌜ r ≡ infoAnswer (now (text .entry)) scale ⌝ }
 {
-    if !json::jsontext::is_json(text) {
+    if !json::is_json(text) {
         return CardAnswer::Refused(19);
     }
-    let Settings::Are(card) = parts::settings_of(text, scale) else {
+    let Settings::Are(card) = settings::settings_of(text, scale) else {
         return CardAnswer::Refused(20);
     };
-    let number = card::inner::judge(card);
+    let number = card::judge::judge(card);
     if number != 0 {
         return CardAnswer::Refused(number);
     }

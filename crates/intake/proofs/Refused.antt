@@ -7,12 +7,12 @@ use lib.ListN.{length}
 use Rattle.refusal.specs.Checks.{firstNumber, unless, Refuses}
 use Rattle.refusal.proofs.Refusing.{refuses, keeping}
 use Rattle.sharding.specs.declared.Sharding.{Sharding}
-use Rattle.intake.specs.declared.intakestate.Intake.{Intake}
-use Rattle.intake.specs.intakestate.State.{announcedLength}
+use Rattle.intake.specs.declared.state.Intake.{Intake}
+use Rattle.intake.specs.state.State.{announcedLength}
 use Rattle.intake.specs.admission.Refusals.{openChecks, announceChecks, partChecks, closeChecks}
 use Rattle.intake.specs.declared.IntakeAnswer.the-variants.{Next, Refused}
 use Rattle.intake.specs.declared.CloseAnswer.the-variants.{Closed, Refused as NotClosed}
-use Rattle.intake.specs.intakesteps.Steps.{opened, announced, taken, closed}
+use Rattle.intake.specs.steps.Steps.{opened, announced, taken, closed}
 use Rattle.intake.specs.Calls.{openAnswer, openLeft, announceAnswer, announceLeft, announceWaiting, partAnswer, partLeft, closeAnswer, closeLeft}
 
 -- ---- an answer that is no refusal

@@ -9,11 +9,11 @@ use Rattle.sharding.specs.declared.Sharding.{Sharding}
 use Rattle.sharding.specs.placement.Place.{minishardOf}
 use Rattle.shard.specs.File.{indexLength}
 use Rattle.intake.specs.waiting.Held.{pair}
-use Rattle.intake.specs.declared.intakestate.Intake.{Intake}
-use Rattle.intake.specs.intakestate.State.{announcedLength}
-use Rattle.intake.specs.intaketests.Tests.{countIn}
+use Rattle.intake.specs.declared.state.Intake.{Intake}
+use Rattle.intake.specs.state.State.{announcedLength}
+use Rattle.intake.specs.tests.Tests.{countIn}
 use Rattle.intake.specs.admission.Refusals.{openChecks, announceChecks, partChecks, closeChecks}
-use Rattle.intake.specs.intakesteps.Steps.{endedLeft, turnedLeft, opened, announced, taken, closed}
+use Rattle.intake.specs.steps.Steps.{endedLeft, turnedLeft, opened, announced, taken, closed}
 use Rattle.intake.specs.declared.IntakeAnswer.{IntakeAnswer}
 use Rattle.intake.specs.declared.IntakeAnswer.the-variants.{Next, Refused}
 use Rattle.intake.specs.declared.CloseAnswer.{CloseAnswer}

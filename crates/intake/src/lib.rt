@@ -1,23 +1,24 @@
 // Intake from the scanner: a new volume shard, written in its settled form while its chunks come in parts.
 pub mod admission;
-pub mod intakenumbers;
-pub mod intakeplaces;
-pub mod intakesanity;
-pub mod intakestate;
-pub mod intakesteps;
-pub mod intaketests;
+pub mod numbers;
+pub mod places;
+pub mod sanity;
+pub mod state;
+pub mod steps;
+pub mod tests;
 pub mod waiting;
 
 ghost use mathlib.Core.Path.{_≡_};
 ghost use Rattle.intake.specs.Calls.{openAnswer, openLeft, announceAnswer, announceLeft, announceWaiting, partAnswer, partLeft, closeAnswer, closeLeft};
-use crate::admission::inner::announce_refusal;
-use crate::admission::inner::close_refusal;
-use crate::admission::inner::open_refusal;
-use crate::admission::inner::part_refusal;
-use crate::intakeplaces::inner::put_entries;
-use crate::intakestate::Intake;
-use crate::intakesteps::inner;
-use crate::intaketests::inner::announced_length;
+use crate::admission::announce_refusal;
+use crate::admission::close_refusal;
+use crate::admission::open_refusal;
+use crate::admission::part_refusal;
+use crate::places::put_entries;
+use crate::state::Intake;
+use crate::tests::announced_length;
+pub use numbers::numbers_of;
+pub use numbers::state_of;
 use sharding::Sharding;
 
 // What a call answers: the state for the next one, or the refusal, which changes neither the state nor a buffer.
@@ -43,7 +44,7 @@ pub fn open(spec: Sharding, shard: u64, out: &mut [u8], waiting: &[u8]) -> Intak
         return IntakeAnswer::Refused(number);
     }
     put_entries(spec, out);
-    IntakeAnswer::Next(inner::first(spec, shard, output, waiting.len()))
+    IntakeAnswer::Next(steps::first(spec, shard, output, waiting.len()))
 }
 
 // Announces the next chunk and its size: by rising minishard, then rising id.
@@ -62,7 +63,7 @@ pub fn announce(
     if number != 0 {
         return IntakeAnswer::Refused(number);
     }
-    IntakeAnswer::Next(inner::admit(state, id, size, out, waiting))
+    IntakeAnswer::Next(steps::admit(state, id, size, out, waiting))
 }
 
 // Hands over the next bytes of the announced chunk.
@@ -74,7 +75,7 @@ pub fn part(state: Intake, bytes: &[u8], out: &mut [u8], waiting: &[u8]) -> Inta
     if number != 0 {
         return IntakeAnswer::Refused(number);
     }
-    IntakeAnswer::Next(inner::take(state, bytes, out))
+    IntakeAnswer::Next(steps::take(state, bytes, out))
 }
 
 // Closes the shard: the answer has the length of its settled form, with which `out` then begins.
@@ -86,10 +87,10 @@ pub fn close(state: Intake, out: &mut [u8], waiting: &[u8]) -> CloseAnswer
     if number != 0 {
         return CloseAnswer::Refused(number);
     }
-    inner::end_minishard(state, out, waiting);
+    steps::end_minishard(state, out, waiting);
     let length = announced_length(state);
     CloseAnswer::Closed {
-        state: inner::last(state),
+        state: steps::last(state),
         length,
     }
 }

@@ -8,12 +8,12 @@ use lib.Dec.{T, T-not, eqb, eqb-refl, leb}
 use lib.ListN.{length, List·getD-eq-default}
 use borrow.Author.Tests.{leb-true}
 use Rattle.refusal.proofs.Tests.{both}
-use Rattle.json.specs.text.Bytes.{same, inside, byteAt, isWs, isDigit}
-use Rattle.json.specs.text.Parts.{ws, markAt, closeAt, wordAt}
-use Rattle.json.specs.text.Numbers.{someDigits, intAt, unsignedAt, numberAt}
-use Rattle.json.specs.declared.text.Found.{Found}
-use Rattle.json.specs.declared.text.Found.the-variants.{At, Nothing}
-use Rattle.json.proofs.text.Laws.{if-no, if-eq, if-ne, if-case, then-at, then-case, follow-case, nowhere, is-same, not-same, to-same, to-not-same, span-on, span-stop, in-text, ws-zero}
+use Rattle.json.specs.tokens.Bytes.{same, inside, byteAt, isWs, isDigit}
+use Rattle.json.specs.tokens.Parts.{ws, markAt, closeAt, wordAt}
+use Rattle.json.specs.tokens.Numbers.{someDigits, intAt, unsignedAt, numberAt}
+use Rattle.json.specs.declared.tokens.Found.{Found}
+use Rattle.json.specs.declared.tokens.Found.the-variants.{At, Nothing}
+use Rattle.json.proofs.tokens.Laws.{if-no, if-eq, if-ne, if-case, then-at, then-case, follow-case, nowhere, is-same, not-same, to-same, to-not-same, span-on, span-stop, in-text, ws-zero}
 use Rattle.json.proofs.strings.Characters.{string-sound, string-complete, string-first}
 use Rattle.json.specs.Grammar.{scalarAt, itemsAt, listAt, memberAt, valueAt, endsAt, isJson}
 use Rattle.json.specs.Rfc.{Ws, Items, Listed, Member, ValueOf, Value, JsonText}

@@ -5,12 +5,12 @@ use mathlib.Core.List.{List}
 use mathlib.Core.Bool.{Bool, true, false}
 use native.Mathlib.Omega.{arith}
 use lib.ListN.{length, getD}
-use Rattle.json.specs.text.Bytes.{choose, isDigit, isWs}
-use Rattle.json.specs.text.Parts.{andThen, follow, ws, digits, markAt, closeAt, wordAt}
-use Rattle.json.specs.text.Numbers.{isSign, someDigits, intAt, fracAt, signAt, expAt, unsignedAt, numberAt}
-use Rattle.json.specs.declared.text.Found.{Found}
-use Rattle.json.specs.declared.text.Found.the-variants.{At, Nothing}
-use Rattle.json.proofs.text.Laws.{le-span, span-on, digit-zero}
+use Rattle.json.specs.tokens.Bytes.{choose, isDigit, isWs}
+use Rattle.json.specs.tokens.Parts.{andThen, follow, ws, digits, markAt, closeAt, wordAt}
+use Rattle.json.specs.tokens.Numbers.{isSign, someDigits, intAt, fracAt, signAt, expAt, unsignedAt, numberAt}
+use Rattle.json.specs.declared.tokens.Found.{Found}
+use Rattle.json.specs.declared.tokens.Found.the-variants.{At, Nothing}
+use Rattle.json.proofs.tokens.Laws.{le-span, span-on, digit-zero}
 use Rattle.json.specs.characters.Chars.{charLen}
 use Rattle.json.specs.strings.Chars.{charsAt, stringAt}
 use Rattle.json.specs.Grammar.{scalarAt, itemsAt, listAt, memberAt, valueAt}

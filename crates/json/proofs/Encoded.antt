@@ -8,12 +8,12 @@ use borrow.Author.Tests.{leb-true}
 use lib.Dec.{leb}
 use lib.ListN.{length, getD}
 use Rattle.refusal.proofs.Tests.{both}
-use Rattle.json.specs.text.Bytes.{choose, same, inside, isWs, isDigit, byteAt, span}
-use Rattle.json.specs.text.Parts.{andThen, digits, wordAt}
-use Rattle.json.specs.text.Numbers.{isSign, isE, someDigits, intAt, fracAt, signAt, expAt, unsignedAt, numberAt}
-use Rattle.json.specs.declared.text.Found.{Found}
-use Rattle.json.specs.declared.text.Found.the-variants.{At, Nothing}
-use Rattle.json.proofs.text.Laws.{if-yes, if-no, if-case, then-case, nowhere, is-same, in-text, span-on, span-stop, digit-zero}
+use Rattle.json.specs.tokens.Bytes.{choose, same, inside, isWs, isDigit, byteAt, span}
+use Rattle.json.specs.tokens.Parts.{andThen, digits, wordAt}
+use Rattle.json.specs.tokens.Numbers.{isSign, isE, someDigits, intAt, fracAt, signAt, expAt, unsignedAt, numberAt}
+use Rattle.json.specs.declared.tokens.Found.{Found}
+use Rattle.json.specs.declared.tokens.Found.the-variants.{At, Nothing}
+use Rattle.json.proofs.tokens.Laws.{if-yes, if-no, if-case, then-case, nowhere, is-same, in-text, span-on, span-stop, digit-zero}
 use Rattle.json.specs.characters.Chars.{Utf8}
 use Rattle.json.proofs.strings.Encoded.{encoded-both, encoded-low, encoded-step, or-case, same-low, inside-low, string-encoded}
 use Rattle.json.specs.Rfc.{Ws, Items, Listed, Member, ValueOf, Value, JsonText}

@@ -6,13 +6,13 @@ use native.Mathlib.Omega.{arith}
 use native.Mathlib.Numerals.{sub-one}
 use borrow.Author.Needs.{needs}
 use lib.ListN.{length, getD}
-use Rattle.json.specs.text.Bytes.{choose, same}
-use Rattle.json.specs.text.Parts.{ws, markAt, closeAt, wordAt}
-use Rattle.json.specs.text.Numbers.{numberAt}
-use Rattle.json.specs.declared.text.Found.{Found}
-use Rattle.json.specs.declared.text.Found.the-variants.{At, Nothing}
-use Rattle.json.proofs.text.Laws.{if-eq, if-ne, then-at, then-nothing, at-byte}
-use Rattle.json.proofs.text.Steps.{mark-room}
+use Rattle.json.specs.tokens.Bytes.{choose, same}
+use Rattle.json.specs.tokens.Parts.{ws, markAt, closeAt, wordAt}
+use Rattle.json.specs.tokens.Numbers.{numberAt}
+use Rattle.json.specs.declared.tokens.Found.{Found}
+use Rattle.json.specs.declared.tokens.Found.the-variants.{At, Nothing}
+use Rattle.json.proofs.tokens.Laws.{if-eq, if-ne, then-at, then-nothing, at-byte}
+use Rattle.json.proofs.tokens.Steps.{mark-room}
 use Rattle.json.specs.strings.Chars.{stringAt}
 use Rattle.json.specs.Grammar.{endOf, scalarAt, itemsAt, listAt, memberAt, valueAt}
 use Rattle.json.proofs.Ahead.{Ahead, value-ahead, member-ahead, mark-ahead}

@@ -4,11 +4,11 @@ use mathlib.Core.Path.{_≡_, refl, sym, _∙_}
 use mathlib.Core.List.{List}
 use native.Mathlib.Omega.{arith}
 use lib.ListN.{length}
-use Rattle.json.specs.text.Bytes.{isWs}
-use Rattle.json.specs.text.Parts.{ws, markAt, closeAt}
-use Rattle.json.specs.declared.text.Found.{Found}
-use Rattle.json.specs.declared.text.Found.the-variants.{At, Nothing}
-use Rattle.json.proofs.text.Laws.{if-ne, if-case, nowhere, is-same, then-at, then-nothing, follow-at, follow-nothing, at-byte, le-span, ws-most}
+use Rattle.json.specs.tokens.Bytes.{isWs}
+use Rattle.json.specs.tokens.Parts.{ws, markAt, closeAt}
+use Rattle.json.specs.declared.tokens.Found.{Found}
+use Rattle.json.specs.declared.tokens.Found.the-variants.{At, Nothing}
+use Rattle.json.proofs.tokens.Laws.{if-ne, if-case, nowhere, is-same, then-at, then-nothing, follow-at, follow-nothing, at-byte, le-span, ws-most}
 use Rattle.json.specs.Grammar.{itemsAt}
 use Rattle.json.proofs.Ahead.{Ahead}
 

@@ -3,11 +3,11 @@ use Prim.Native.Nat.{ℕ, zero, suc, _+_}
 use mathlib.Core.List.{List}
 use mathlib.Core.Bool.{Bool, false}
 use lib.ListN.{length}
-use Rattle.json.specs.text.Bytes.{choose, byteAt, same}
-use Rattle.json.specs.text.Parts.{andThen, follow, ws, markAt, closeAt, wordAt}
-use Rattle.json.specs.text.Numbers.{numberAt}
-use Rattle.json.specs.declared.text.Found.{Found}
-use Rattle.json.specs.declared.text.Found.the-variants.{At, Nothing}
+use Rattle.json.specs.tokens.Bytes.{choose, byteAt, same}
+use Rattle.json.specs.tokens.Parts.{andThen, follow, ws, markAt, closeAt, wordAt}
+use Rattle.json.specs.tokens.Numbers.{numberAt}
+use Rattle.json.specs.declared.tokens.Found.{Found}
+use Rattle.json.specs.declared.tokens.Found.the-variants.{At, Nothing}
 use Rattle.json.specs.strings.Chars.{stringAt}
 
 -- "to a depth of 32" (order 1) (RULES I2)

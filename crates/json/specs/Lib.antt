@@ -1,7 +1,7 @@
 -- JSON text: the grammar as it is computed, and by the rules of RFC 8259.
-pub mod text
+pub mod tokens
 pub mod characters
 pub mod strings
-pub mod places
+pub mod members
 pub mod Grammar
 pub mod Rfc

@@ -5,10 +5,10 @@ use mathlib.Core.Path.{_≡_}
 use mathlib.Core.Bool.{true}
 use mathlib.Core.List.{List, [], _∷_}
 use lib.ListN.{length}
-use Rattle.json.specs.text.Bytes.{byteAt, isWs}
-use Rattle.json.specs.text.Parts.{wordAt}
-use Rattle.json.specs.text.Numbers.{numberAt}
-use Rattle.json.specs.declared.text.Found.the-variants.{At}
+use Rattle.json.specs.tokens.Bytes.{byteAt, isWs}
+use Rattle.json.specs.tokens.Parts.{wordAt}
+use Rattle.json.specs.tokens.Numbers.{numberAt}
+use Rattle.json.specs.declared.tokens.Found.the-variants.{At}
 use Rattle.json.specs.strings.Chars.{String}
 
 -- ws = *( space / tab / line feed / carriage return )

@@ -1,31 +1,32 @@
 // JSON text (RFC 8259): where its values end, to a depth.
 pub mod characters;
-pub mod jsontext;
-pub mod places;
+pub mod members;
 pub mod strings;
 pub mod text;
+pub mod tokens;
 
 ghost use mathlib.Core.Path.{_≡_};
 ghost use Rattle.json.specs.Grammar.{endOf, scalarAt, listAt, memberAt, valueAt};
-use crate::text::Found;
+use crate::tokens::Found;
+pub use text::is_json;
 
 fn skip_scalar(s: &[u8], at: usize) -> Found
     ensures { λ r. ⌜ r ≡ scalarAt (now (s .entry)) at ⌝ }
 {
-    let b = crate::text::byte(s, at);
+    let b = crate::tokens::byte(s, at);
     if b == b'"' {
         return crate::strings::skip_string(s, at);
     }
     if b == b't' {
-        return crate::text::skip_word(s, at, 116, 114, 117, 101);
+        return crate::tokens::skip_word(s, at, 116, 114, 117, 101);
     }
     if b == b'n' {
-        return crate::text::skip_word(s, at, 110, 117, 108, 108);
+        return crate::tokens::skip_word(s, at, 110, 117, 108, 108);
     }
     if b == b'f' {
-        return crate::text::skip_word(s, at + 1, 97, 108, 115, 101);
+        return crate::tokens::skip_word(s, at + 1, 97, 108, 115, 101);
     }
-    crate::text::skip_number(s, at)
+    crate::tokens::skip_number(s, at)
 }
 
 // A position as one number, which calls hand back in a register.
@@ -45,7 +46,7 @@ pub fn skip_value(s: &[u8], at: usize, depth: usize) -> usize
     if depth == 0 {
         return 0;
     }
-    let b = crate::text::byte(s, at);
+    let b = crate::tokens::byte(s, at);
     if b == b'{' {
         return skip_object(s, at + 1, depth - 1);
     }
@@ -58,8 +59,8 @@ pub fn skip_value(s: &[u8], at: usize, depth: usize) -> usize
 fn skip_array(s: &[u8], at: usize, depth: usize) -> usize
     ensures { λ r. ⌜ r ≡ endOf (listAt (valueAt depth (now (s .entry))) 93 (now (s .entry)) at) ⌝ }
 {
-    let mut i = crate::text::skip_ws(s, at);
-    if crate::text::byte(s, i) == b']' {
+    let mut i = crate::tokens::skip_ws(s, at);
+    if crate::tokens::byte(s, i) == b']' {
         return i + 1;
     }
     loop {
@@ -67,8 +68,8 @@ fn skip_array(s: &[u8], at: usize, depth: usize) -> usize
         if e == 0 {
             return 0;
         }
-        let Found::At(j) = crate::text::skip_mark(s, e, b',') else {
-            return end_of(crate::text::skip_close(s, e, b']'));
+        let Found::At(j) = crate::tokens::skip_mark(s, e, b',') else {
+            return end_of(crate::tokens::skip_close(s, e, b']'));
         };
         i = j;
     }
@@ -77,8 +78,8 @@ fn skip_array(s: &[u8], at: usize, depth: usize) -> usize
 fn skip_object(s: &[u8], at: usize, depth: usize) -> usize
     ensures { λ r. ⌜ r ≡ endOf (listAt (memberAt (valueAt depth (now (s .entry))) (now (s .entry))) 125 (now (s .entry)) at) ⌝ }
 {
-    let mut i = crate::text::skip_ws(s, at);
-    if crate::text::byte(s, i) == b'}' {
+    let mut i = crate::tokens::skip_ws(s, at);
+    if crate::tokens::byte(s, i) == b'}' {
         return i + 1;
     }
     loop {
@@ -86,8 +87,8 @@ fn skip_object(s: &[u8], at: usize, depth: usize) -> usize
         if e == 0 {
             return 0;
         }
-        let Found::At(j) = crate::text::skip_mark(s, e, b',') else {
-            return end_of(crate::text::skip_close(s, e, b'}'));
+        let Found::At(j) = crate::tokens::skip_mark(s, e, b',') else {
+            return end_of(crate::tokens::skip_close(s, e, b'}'));
         };
         i = j;
     }
@@ -99,7 +100,7 @@ fn skip_member(s: &[u8], at: usize, depth: usize) -> usize
     let Found::At(e) = crate::strings::skip_string(s, at) else {
         return 0;
     };
-    let Found::At(j) = crate::text::skip_mark(s, e, b':') else {
+    let Found::At(j) = crate::tokens::skip_mark(s, e, b':') else {
         return 0;
     };
     skip_value(s, j, depth)

@@ -7,22 +7,22 @@ ghost use Prim.Native.Nat.{_+_};
 ghost use lib.ListN.{length};
 ghost use Rattle.json.specs.strings.Chars.{stringAt};
 ghost use Rattle.json.specs.strings.Names.{unescaped, eqList, ascii};
-use crate::characters::chars;
-use crate::text::Found;
+use crate::characters;
+use crate::tokens::Found;
 
 pub fn skip_string(s: &[u8], at: usize) -> Found
     ensures { λ r. ⌜ r ≡ stringAt (now (s .entry)) at ⌝ }
 {
-    if crate::text::byte(s, at) != b'"' {
+    if crate::tokens::byte(s, at) != b'"' {
         return Found::Nothing;
     }
     let mut i = at + 1;
     loop {
-        let e = chars::skip_plain(s, i);
-        if crate::text::byte(s, e) == b'"' {
+        let e = characters::skip_plain(s, i);
+        if crate::tokens::byte(s, e) == b'"' {
             return Found::At(e + 1);
         }
-        let n = chars::char_len(s, e);
+        let n = characters::char_len(s, e);
         if n == 0 {
             return Found::Nothing;
         }
@@ -50,7 +50,7 @@ pub fn says(s: &[u8], at: usize, name: &[u8]) -> bool
     let mut i = at;
     let mut k = 0;
     loop {
-        let n = chars::char_len(s, i);
+        let n = characters::char_len(s, i);
         if n == 0 {
             return k == name.len();
         }

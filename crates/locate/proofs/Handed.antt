@@ -20,8 +20,8 @@ use Rattle.card.specs.declared.CardAnswer.the-variants.{Says, Refused}
 use Rattle.card.specs.Answers.{fault, readAnswer}
 use Rattle.card.proofs.Meaning.{read-faultless}
 use Rattle.locate.specs.declared.Block.{Block}
-use Rattle.locate.specs.locatetext.Output.{cellsText, framed}
-use Rattle.locate.specs.locatetext.Blocks.{cardLength, blockBytes}
+use Rattle.locate.specs.text.Output.{cellsText, framed}
+use Rattle.locate.specs.text.Blocks.{cardLength, blockBytes}
 use Rattle.locate.specs.Reading.{Located, Printed, Said, Started}
 
 -- ---- a text at the front of a buffer, and the part of the buffer that it fills

@@ -1,4 +1,4 @@
 -- What the program `locate` reads and prints, part by part.
-pub mod locatelines
-pub mod locatetext
+pub mod lines
+pub mod text
 pub mod Reading

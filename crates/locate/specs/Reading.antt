@@ -7,8 +7,8 @@ use lib.ListN.{length, take}
 use Rattle.refusal.specs.Buffer.{over}
 use Rattle.card.specs.declared.Card.{Card}
 use Rattle.card.specs.declared.CardAnswer.{CardAnswer}
-use Rattle.locate.specs.locatetext.Output.{cellsText, framed}
-use Rattle.locate.specs.locatetext.Blocks.{cardLength, blockBytes}
+use Rattle.locate.specs.text.Output.{cellsText, framed}
+use Rattle.locate.specs.text.Blocks.{cardLength, blockBytes}
 use Rattle.locate.specs.declared.Block.{Block}
 
 -- of a block: how many bytes of `cells` were read, how many of `text` are their lines, and that these stand there

@@ -1,19 +1,19 @@
 // Reads a deposit card and then cells from standard input, and prints where each cell's chunk is stored: its key, the
 // shard's file and the minishard.
-pub mod locatelines;
-pub mod locatetext;
+pub mod lines;
+pub mod text;
 
 ghost use mathlib.Core.Path.{_≡_};
 ghost use lib.ListN.{length};
 ghost use Rattle.refusal.specs.Buffer.{over};
 ghost use Rattle.morton.specs.grid.Grid.{gridOf};
 ghost use Rattle.card.specs.Answers.{fault};
-ghost use Rattle.locate.specs.locatelines.Lines.{refusedLine};
-ghost use Rattle.locate.specs.locatetext.Blocks.{blockBytes};
+ghost use Rattle.locate.specs.lines.Lines.{refusedLine};
+ghost use Rattle.locate.specs.text.Blocks.{blockBytes};
 ghost use Rattle.locate.specs.Reading.{Located, Printed, Said, Started};
-use crate::locatelines::lines;
-use crate::locatetext::blocks;
-use crate::locatetext::frame;
+use crate::lines::line;
+use crate::text::blocks;
+use crate::text::frame;
 use card::Card;
 use card::CardAnswer;
 use libc::STDIN_FILENO;
@@ -30,7 +30,7 @@ fn refuse(line: &mut [u8], number: u8)
     requires { ⌜ length (now line) ≡ 64 ⌝ }
     ensures { λ _. ⌜ now (line .exit) ≡ over (refusedLine number) (now (line .entry)) ⌝ }
 {
-    let n = lines::put_refused(line, 0, number);
+    let n = line::put_refused(line, 0, number);
     io::write_all(STDOUT_FILENO, &line[..n]);
 }
 

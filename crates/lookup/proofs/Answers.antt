@@ -17,9 +17,9 @@ use Rattle.shard.specs.index.Index.{mostShardBytes}
 use Rattle.shard.specs.File.{indexLength, indexPart, dataPart, badFileLength, fileChecks}
 use Rattle.shard.proofs.Numbers.{file-in, file-picks, file-answer}
 use Rattle.shard.proofs.Split.{restOf, rest-whole, length-short, length-long, length-good}
-use Rattle.lookup.specs.declared.idsearch.LookupAnswer.{LookupAnswer}
-use Rattle.lookup.specs.declared.idsearch.LookupAnswer.the-variants.{Refused, Faulty}
-use Rattle.lookup.specs.chosen.Chosen.{chosenChecks, chosenChunk, lookupIn}
+use Rattle.lookup.specs.declared.id_search.LookupAnswer.{LookupAnswer}
+use Rattle.lookup.specs.declared.id_search.LookupAnswer.the-variants.{Refused, Faulty}
+use Rattle.lookup.specs.chosen_minishard.Chosen.{chosenChecks, chosenChunk, lookupIn}
 use Rattle.lookup.specs.Find.{lookupChecks, lookupAnswer}
 
 -- a file by its two parts, as the code takes them

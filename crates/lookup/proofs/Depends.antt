@@ -8,7 +8,7 @@ use native.Mathlib.Omega.{arith}
 use lib.ListN.{length, take, drop, length-take, length-drop}
 use Rattle.refusal.specs.Choice.{pick}
 use lib.Dec.{eqb}
-use Rattle.duplicate_ids.specs.twice.Twice.{repeats}
+use Rattle.duplicate_ids.specs.Twice.{repeats}
 use Rattle.endian.specs.Little.{leAt}
 use Rattle.endian.specs.Range.{sumTo, anyBelow, first}
 use Rattle.endian.proofs.Ranges.{first-lt}
@@ -19,17 +19,17 @@ use Rattle.sharding.specs.placement.Place.{minishardOf}
 use Rattle.sharding.proofs.placement.Placed.{minishard-below}
 use Rattle.shard.specs.index.Index.{entryStart, entryEnd, entryCount, idSteps, startSteps, sizes, idAt, startAt, chunkAt}
 use Rattle.shard.specs.manifests.Mesh.{wrongLength, badReal, unorderedNodes, fragmentsOutside, manifestTests}
-use Rattle.shard.specs.Faults.{badEntry, badId, foreignAt, outside, meshTests, entryTests, faultAt, faultOf}
+use Rattle.shard.specs.Faults.{badEntry, badId, foreignAt, endsPast, meshTests, entryTests, faultAt, faultOf}
 use Rattle.shard.specs.File.{indexLength, indexPart, dataPart, fileChecks}
 use Rattle.shard.proofs.index.Tests.{Agree, same-any, same-first, same-tests}
-use Rattle.lookup.specs.declared.idsearch.LookupAnswer.{LookupAnswer}
-use Rattle.lookup.specs.declared.idsearch.LookupAnswer.the-variants.{Found, Refused, Faulty}
-use Rattle.lookup.specs.idsearch.Search.{isId, chunkOf, foundIn}
-use Rattle.lookup.specs.chosen.Chosen.{lookupIn}
+use Rattle.lookup.specs.declared.id_search.LookupAnswer.{LookupAnswer}
+use Rattle.lookup.specs.declared.id_search.LookupAnswer.the-variants.{Found, Refused, Faulty}
+use Rattle.lookup.specs.id_search.Search.{isId, chunkOf, foundIn}
+use Rattle.lookup.specs.chosen_minishard.Chosen.{lookupIn}
 use Rattle.lookup.specs.Find.{lookupAnswer, partBytes}
 use Rattle.lookup.specs.Lookups.{chunkBytes, indexBytes, AgreeFor, AgreeInChunk, SameAnswer}
-use Rattle.lookup.proofs.idsearch.Seek.{found-picks}
-use Rattle.lookup.proofs.chosen.InParts.{in-parts}
+use Rattle.lookup.proofs.id_search.Seek.{found-picks}
+use Rattle.lookup.proofs.chosen_minishard.InParts.{in-parts}
 use Rattle.lookup.proofs.Answers.{answer-files}
 use Rattle.lookup.proofs.Handed.{found-file, chosenEntry, found-bytes}
 
@@ -65,8 +65,8 @@ module _ (f g h k : ℕ → ℕ) (n : ℕ) (p : Alike n f g) (q : Alike n h k) w
   unfolding startAt
   same-start i l = rw (same-sum f g (suc i) (λ j t. p j (omega arith)), same-sum h k i (λ j t. q j (omega arith)))
 
-  pub same-outside : {len len′ : ℕ} → len ≡ len′ → (i : ℕ) → i < n → outside len f h i ≡ outside len′ g k i
-  unfolding outside
+  pub same-outside : {len len′ : ℕ} → len ≡ len′ → (i : ℕ) → i < n → endsPast len f h i ≡ endsPast len′ g k i
+  unfolding endsPast
   same-outside o i l = rw (o, same-start i l, q i l)
 
 -- ---- data that agree in a minishard index and, of a mesh, in the manifests that it lists

@@ -19,13 +19,13 @@ use Rattle.shard.specs.File.{indexLength, indexPart, dataPart}
 use Rattle.shard.specs.Sound.{SoundMinishard}
 use Rattle.shard.proofs.Judged.{passes-minishard}
 use Rattle.shard.proofs.Numbers.{file-called}
-use Rattle.lookup.specs.declared.idsearch.LookupAnswer.{LookupAnswer}
-use Rattle.lookup.specs.declared.idsearch.LookupAnswer.the-variants.{Found, Refused, Faulty}
-use Rattle.lookup.specs.chosen.Chosen.{lookupIn}
+use Rattle.lookup.specs.declared.id_search.LookupAnswer.{LookupAnswer}
+use Rattle.lookup.specs.declared.id_search.LookupAnswer.the-variants.{Found, Refused, Faulty}
+use Rattle.lookup.specs.chosen_minishard.Chosen.{lookupIn}
 use Rattle.lookup.specs.Find.{lookupAnswer, partStart, partEnd, partBytes}
 use Rattle.lookup.specs.Lookups.{chunkCount, chunkBytes}
-use Rattle.lookup.proofs.idsearch.Seek.{entryOf, FoundAt, found-entry}
-use Rattle.lookup.proofs.chosen.InParts.{in-parts}
+use Rattle.lookup.proofs.id_search.Seek.{entryOf, FoundAt, found-entry}
+use Rattle.lookup.proofs.chosen_minishard.InParts.{in-parts}
 use Rattle.lookup.proofs.Answers.{answer-files}
 
 -- what is found is no refusal r

@@ -13,9 +13,9 @@ use Rattle.sharding.specs.placement.Place.{shardOf, minishardOf}
 use Rattle.shard.specs.Checks.{minishardChecks}
 use Rattle.shard.specs.File.{indexPart, dataPart, fileChecks}
 use Rattle.shard.proofs.Numbers.{minishard-in, file-in}
-use Rattle.lookup.specs.declared.idsearch.LookupAnswer.the-variants.{Refused, Faulty}
-use Rattle.lookup.specs.idsearch.Search.{chunkOf}
-use Rattle.lookup.specs.chosen.Chosen.{chosenChecks, chosenChunk}
+use Rattle.lookup.specs.declared.id_search.LookupAnswer.the-variants.{Refused, Faulty}
+use Rattle.lookup.specs.id_search.Search.{chunkOf}
+use Rattle.lookup.specs.chosen_minishard.Chosen.{chosenChecks, chosenChunk}
 use Rattle.lookup.specs.Find.{lookupChecks, lookupAnswer}
 
 chosen-in : (spec : Sharding) (shard : ℕ) (x d : List ℕ) (id : ℕ) → AllIn (chosenChecks spec shard x d id)

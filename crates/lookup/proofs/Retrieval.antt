@@ -23,14 +23,14 @@ use Rattle.shard.specs.Sound.{SoundMinishard}
 use Rattle.shard.specs.Lists.{ListsAt, ListsIn}
 use Rattle.shard.proofs.Judged.{passes-minishard, minishard-passes}
 use Rattle.shard.proofs.Numbers.{unless-none, Called, called-file}
-use Rattle.lookup.specs.declared.idsearch.LookupAnswer.{LookupAnswer}
-use Rattle.lookup.specs.declared.idsearch.LookupAnswer.the-variants.{Found, Refused, Faulty}
-use Rattle.lookup.specs.idsearch.Search.{isId, foundIn}
-use Rattle.lookup.specs.chosen.Chosen.{lookupIn}
+use Rattle.lookup.specs.declared.id_search.LookupAnswer.{LookupAnswer}
+use Rattle.lookup.specs.declared.id_search.LookupAnswer.the-variants.{Found, Refused, Faulty}
+use Rattle.lookup.specs.id_search.Search.{isId, foundIn}
+use Rattle.lookup.specs.chosen_minishard.Chosen.{lookupIn}
 use Rattle.lookup.specs.Find.{lookupAnswer, partBytes}
 use Rattle.lookup.specs.Lookups.{Asked, chunkStart, HandsOut}
-use Rattle.lookup.proofs.idsearch.Seek.{found-first, found-none, none-found}
-use Rattle.lookup.proofs.chosen.InParts.{in-parts}
+use Rattle.lookup.proofs.id_search.Seek.{found-first, found-none, none-found}
+use Rattle.lookup.proofs.chosen_minishard.InParts.{in-parts}
 use Rattle.lookup.proofs.Answers.{answer-files}
 use Rattle.lookup.proofs.Handed.{found-inside}
 

@@ -10,9 +10,9 @@ use Rattle.sharding.specs.declared.Sharding.{Sharding}
 use Rattle.sharding.specs.Specification.{noSuchShard}
 use Rattle.sharding.specs.placement.Place.{shardOf}
 use Rattle.shard.specs.File.{indexPart, dataPart, fileChecks}
-use Rattle.lookup.specs.declared.idsearch.LookupAnswer.{LookupAnswer}
-use Rattle.lookup.specs.declared.idsearch.LookupAnswer.the-variants.{Found, Refused, Faulty}
-use Rattle.lookup.specs.chosen.Chosen.{chosenChecks, chosenChunk}
+use Rattle.lookup.specs.declared.id_search.LookupAnswer.{LookupAnswer}
+use Rattle.lookup.specs.declared.id_search.LookupAnswer.the-variants.{Found, Refused, Faulty}
+use Rattle.lookup.specs.chosen_minishard.Chosen.{chosenChecks, chosenChunk}
 
 -- ---- in a file
 

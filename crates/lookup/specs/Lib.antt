@@ -1,10 +1,10 @@
 -- Lookup in a shard (RULES L1 to L4).
-pub mod idsearch
-pub mod chosen
-pub mod rowjudge
-pub mod lookupranges
+pub mod id_search
+pub mod chosen_minishard
+pub mod row_judge
+pub mod ranges
 pub mod entries
-pub mod listing
-pub mod fragment
+pub mod listings
+pub mod fragments
 pub mod Find
 pub mod Lookups

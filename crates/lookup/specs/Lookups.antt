@@ -9,7 +9,7 @@ use Rattle.sharding.specs.Specification.{isMesh, allowed}
 use Rattle.sharding.specs.placement.Place.{shardOf, minishardOf}
 use Rattle.shard.specs.index.Index.{entryStart, entryEnd, entryCount, startSteps, sizes, startAt, chunkAt, mostShardBytes}
 use Rattle.shard.specs.File.{indexLength, indexPart, dataPart}
-use Rattle.lookup.specs.declared.idsearch.LookupAnswer.the-variants.{Found}
+use Rattle.lookup.specs.declared.id_search.LookupAnswer.the-variants.{Found}
 use Rattle.lookup.specs.Find.{lookupAnswer, partBytes}
 
 -- an allowed specification, an id of the shard that is given, a file of allowed length

@@ -1,22 +1,30 @@
-// Lookup: the chunk of an id in a shard, its place and length, or the part of the file that it is.
-pub mod chosen;
+// One question of a judged minishard: the chunk of an id, a node's fragment, a listing; also by ranges of a file that is not in memory.
+pub mod chosen_minishard;
 pub mod entries;
-pub mod fragment;
-pub mod idsearch;
-pub mod inner;
-pub mod listing;
-pub mod lookupranges;
-pub mod rowjudge;
+pub mod fragments;
+pub mod id_search;
+pub mod in_file;
+pub mod listings;
+pub mod ranges;
+pub mod row_judge;
 
 ghost use mathlib.Core.Path.{_≡_};
 ghost use Prim.Native.Nat.{_+_};
 ghost use Rattle.lookup.specs.Find.{lookupAnswer, partStart, partBytes};
-use crate::idsearch::LookupAnswer;
-use shard::inner::MOST_SHARD_BYTES;
-use shard::inner::index_length;
+pub use fragments::fragment;
+pub use fragments::fragment_part;
+pub use id_search::LookupAnswer;
+pub use listings::CountAnswer;
+pub use listings::listed_count;
+pub use listings::listing;
+pub use ranges::chunk_range;
+pub use ranges::entry_range;
+pub use ranges::index_range;
+use shard::lengths::MOST_SHARD_BYTES;
+use shard::lengths::index_length;
 use sharding::Sharding;
-use sharding::inner::is_allowed;
-use sharding::inner::shard_count;
+use sharding::limits::is_allowed;
+use sharding::limits::shard_count;
 use sharding::placement::inner::shard_of;
 
 // The place and length of the chunk of an id, or the refusal.
@@ -38,7 +46,7 @@ pub fn lookup(spec: Sharding, shard: u64, file: &[u8], id: u64) -> LookupAnswer
     if MOST_SHARD_BYTES < file.len() {
         return LookupAnswer::Refused(6);
     }
-    inner::lookup_file(spec, shard, file, id)
+    in_file::lookup_file(spec, shard, file, id)
 }
 
 // The chunk of an id as a part of the file, uncopied; refused, the empty part at its start.
@@ -46,5 +54,5 @@ pub fn part(spec: Sharding, shard: u64, file: &[u8], id: u64) -> &[u8]
     ensures answer { λ r. ⌜ now r ≡ partBytes (lookupAnswer spec shard (now (file .entry)) id) (now (file .entry)) ⌝ }
     ensures place { λ r. ⌜ (r .ptr .0 ≡ file .entry .ptr .0) × (r .ptr .1 ≡ file .entry .ptr .1 + partStart (lookupAnswer spec shard (now (file .entry)) id)) ⌝ }
 {
-    inner::part_of(file, lookup(spec, shard, file, id))
+    in_file::part_of(file, lookup(spec, shard, file, id))
 }

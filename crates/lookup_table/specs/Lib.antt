@@ -1,4 +1,6 @@
--- A module for each idea.
-pub mod tablesort
-pub mod tablefind
-pub mod lookuptable
+-- A minishard index judged once: the table, and what is found in it.
+pub mod sorting
+pub mod finding
+pub mod Fill
+pub mod Says
+pub mod Once

@@ -1,11 +1,11 @@
--- A module for each idea.
+-- The mesh manifest: its layout, what a sound one is, fields, nodes, corners.
 pub mod zorder
 pub mod layout
-pub mod manifest
-pub mod manifestread
-pub mod fragmentsums
+pub mod sound
+pub mod Fields
+pub mod fragment_sums
 pub mod nodes
-pub mod nodenumbers
-pub mod levelnodes
+pub mod node_numbers
+pub mod level
 pub mod reals
 pub mod corners

@@ -24,7 +24,7 @@ pub enum CornersAnswer {
 pub fn corners_of(bytes: &[u8], level: u32, node: u32) -> CornersAnswer
     ensures answer { λ r. ⌜ r ≡ cornersAnswer (now (bytes .entry)) level node ⌝ }
 {
-    let verdict = crate::manifestread::inner::judge(bytes);
+    let verdict = crate::judge::judge(bytes);
     if verdict != 0 {
         return CornersAnswer::Refused(verdict);
     }
@@ -32,5 +32,5 @@ pub fn corners_of(bytes: &[u8], level: u32, node: u32) -> CornersAnswer
         return CornersAnswer::Refused(18);
     }
     let at = crate::nodes::inner::node(bytes, level as usize, node as usize);
-    boxes::corners_in(crate::manifestread::inner::header(bytes), level, at)
+    boxes::corners_in(crate::judge::header(bytes), level, at)
 }

@@ -22,7 +22,7 @@ pub enum NodeAnswer {
 pub fn node_of(bytes: &[u8], level: u32, node: u32) -> NodeAnswer
     ensures answer { λ r. ⌜ r ≡ nodeAnswer (now (bytes .entry)) level node ⌝ }
 {
-    let verdict = crate::manifestread::inner::judge(bytes);
+    let verdict = crate::judge::judge(bytes);
     if verdict != 0 {
         return NodeAnswer::Refused(verdict);
     }

@@ -1,4 +1,5 @@
 // Z-curve order, without branches: scattered positions make branches hard to foresee.
+
 ghost use mathlib.Core.Path.{_≡_};
 ghost use lib.Dec.{ltb};
 ghost use lib.Count.{leadingZeros};

@@ -14,7 +14,7 @@ use Rattle.morton.specs.declared.KeyAnswer.the-variants.{Refused as KeyR
 use Rattle.morton.specs.declared.CellAnswer.{CellAnswer}
 use Rattle.morton.specs.declared.CellAnswer.the-variants.{Refused as CellRefused}
 use Rattle.morton.specs.grid.Grid.{gridSize, gridOf, hasZero, zeroExtent, inGrid}
-use Rattle.morton.specs.axisbits.Axis.{used}
+use Rattle.morton.specs.axis.Axis.{used}
 use Rattle.morton.specs.Key.{step, steps, keyBits, tooManyBits}
 use Rattle.morton.specs.grid.Answers.{noCell, gridChecks, gridAnswer}
 use Rattle.morton.specs.Answers.{keyChecks, keyAnswer, cellChecks, cellAnswer}

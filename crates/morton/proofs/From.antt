@@ -8,9 +8,9 @@ use lib.Pow.{pow-add}
 use borrow.Author.Tests.{ltb-false}
 use Rattle.morton.specs.declared.grid.Extents.{Extents}
 use Rattle.morton.specs.declared.grid.Cell.{Cell}
-use Rattle.morton.specs.axisbits.Axis.{bitOf, used, count, put, low, rest}
+use Rattle.morton.specs.axis.Axis.{bitOf, used, count, put, low, rest}
 use Rattle.morton.specs.Key.{Output, step, steps, keyOf, keyBits, Input, into, stepBack, stepsBack, cellOf}
-use Rattle.morton.proofs.axisbits.Used.{unused}
+use Rattle.morton.proofs.axis.Used.{unused}
 
 -- ---- n turns from turn i on
 unfoldable pub bitsFrom : ℕ → ℕ → Extents → ℕ

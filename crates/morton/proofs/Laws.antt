@@ -14,7 +14,7 @@ use Rattle.morton.specs.declared.grid.Volume.{Volume}
 use Rattle.morton.specs.declared.KeyAnswer.the-variants.{Key, Refused as KeyRefused}
 use Rattle.morton.specs.declared.CellAnswer.the-variants.{At, Refused as CellRefused}
 use Rattle.morton.specs.grid.Grid.{gridOf, zeroExtent, inGrid, InU32}
-use Rattle.morton.specs.axisbits.Axis.{bitOf, used, count}
+use Rattle.morton.specs.axis.Axis.{bitOf, used, count}
 use Rattle.morton.specs.Key.{step, steps, keyBits, tooManyBits, keyOf, into, stepBack, stepsBack, cellOf, isKey}
 use Rattle.morton.specs.grid.Answers.{noCell}
 use Rattle.morton.specs.Answers.{keyAnswer, cellAnswer}

@@ -5,7 +5,7 @@ use native.Mathlib.Omega.{arith}
 use native.Mathlib.Nat.{le-trans}
 use lib.Pow.{pow-mono}
 use Rattle.morton.specs.declared.grid.Extents.{Extents}
-use Rattle.morton.specs.axisbits.Axis.{usedTurns, AxisBits}
+use Rattle.morton.specs.axis.Axis.{usedTurns, AxisBits}
 use Rattle.morton.specs.Key.{keyBits}
 use Rattle.morton.specs.Turn.{Top}
 use Rattle.morton.proofs.From.{bitsFrom, bits-is}

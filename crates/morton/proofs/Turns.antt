@@ -10,7 +10,7 @@ use mir.Syntax.{w32}
 use mir.Val.{Fits}
 use Rattle.morton.specs.declared.grid.Extents.{Extents}
 use Rattle.morton.specs.declared.grid.Cell.{Cell}
-use Rattle.morton.specs.axisbits.Axis.{bitOf, used, put, low, rest}
+use Rattle.morton.specs.axis.Axis.{bitOf, used, put, low, rest}
 use Rattle.morton.specs.Key.{keyBits, keyOf, cellOf}
 use Rattle.morton.specs.Turn.{Top}
 use Rattle.morton.proofs.From.{keyFrom, cellFrom, afterTurn, key-is, key-below, low-lt, cell-is, key-from-none, cell-from-none}

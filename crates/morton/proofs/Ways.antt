@@ -12,7 +12,7 @@ use Rattle.morton.specs.declared.grid.Cell.{Cell}
 use Rattle.morton.specs.declared.grid.Volume.{Volume}
 use Rattle.morton.specs.grid.Grid.{gridOf, zeroExtent, inGrid}
 use Rattle.morton.proofs.grid.Ways.{tested, none-2, outside-2, a-cell}
-use Rattle.morton.proofs.axisbits.Used.{one-shl}
+use Rattle.morton.proofs.axis.Used.{one-shl}
 use Rattle.morton.specs.declared.KeyAnswer.the-variants.{Key, Refused as KeyRefused}
 use Rattle.morton.specs.declared.CellAnswer.the-variants.{At, Refused as CellRefused}
 use Rattle.morton.specs.Key.{keyBits, tooManyBits, keyOf, cellOf, isKey}

@@ -5,7 +5,7 @@ use lib.Dec.{ltb}
 use Rattle.morton.specs.declared.grid.Extents.{Extents}
 use Rattle.morton.specs.declared.grid.Cell.{Cell}
 use Rattle.morton.specs.grid.Grid.{inGrid}
-use Rattle.morton.specs.axisbits.Axis.{bitOf, used, count}
+use Rattle.morton.specs.axis.Axis.{bitOf, used, count}
 
 -- ---- the key of a cell
 -- the state of the steps: j, the next output bit, and the key so far

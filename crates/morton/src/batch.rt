@@ -1,4 +1,5 @@
 // The keys of many cells in one call, where a call for each would cost more than the work.
+
 ghost use mathlib.Core.Path.{_≡_};
 ghost use mathlib.Core.List.{map};
 ghost use Prim.Native.Nat.{_+_, _/_, _≤_};
@@ -46,7 +47,7 @@ fn fill_keys(grid: Extents, cells: &[u32], keys: &mut [u64])
     let n = cells.len() / 3;
     let mut i = 0;
     while i < n {
-        keys[i] = crate::inner::key(grid, cell_at(cells, 3 * i));
+        keys[i] = crate::steps::key(grid, cell_at(cells, 3 * i));
         i += 1;
     }
 }
@@ -64,7 +65,7 @@ pub fn keys_of(volume: Volume, cells: &[u32], keys: &mut [u64]) -> Written
     if !all_inside(grid, cells) {
         return Written::Refused(2);
     }
-    if crate::inner::too_many_bits(grid) {
+    if crate::steps::too_many_bits(grid) {
         return Written::Refused(3);
     }
     if keys.len() < cells.len() / 3 {

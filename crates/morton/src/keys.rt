@@ -1,4 +1,5 @@
 // The key of a cell, and the cell of a key.
+
 ghost use mathlib.Core.Path.{_≡_};
 ghost use Prim.Native.Nat.{_^_, _≤_};
 ghost use lib.Dec.{leb};
@@ -7,7 +8,7 @@ use crate::CellAnswer;
 use crate::KeyAnswer;
 use crate::grid::Cell;
 use crate::grid::Volume;
-use crate::inner;
+use crate::steps;
 
 // The key of a cell: 2 where there is no such cell, 3 where the grid needs more than 64 key bits.
 pub fn key_of(volume: Volume, cell: Cell) -> KeyAnswer
@@ -20,10 +21,10 @@ pub fn key_of(volume: Volume, cell: Cell) -> KeyAnswer
     if !crate::grid::inner::inside(grid, cell) {
         return KeyAnswer::Refused(2);
     }
-    if inner::too_many_bits(grid) {
+    if steps::too_many_bits(grid) {
         return KeyAnswer::Refused(3);
     }
-    KeyAnswer::Key(inner::key(grid, cell))
+    KeyAnswer::Key(steps::key(grid, cell))
 }
 
 // The key has a bit above its first `bits`.
@@ -45,13 +46,13 @@ pub fn cell_of(volume: Volume, key: u64) -> CellAnswer
         return CellAnswer::Refused(2);
     }
     let grid = crate::grid::inner::grid(volume);
-    if inner::too_many_bits(grid) {
+    if steps::too_many_bits(grid) {
         return CellAnswer::Refused(3);
     }
-    if reaches_past(key, inner::key_bits(grid)) {
+    if reaches_past(key, steps::key_bits(grid)) {
         return CellAnswer::Refused(4);
     }
-    let cell = inner::cell(grid, key);
+    let cell = steps::cell(grid, key);
     if !crate::grid::inner::inside(grid, cell) {
         return CellAnswer::Refused(4);
     }

@@ -1,4 +1,6 @@
 // Keys for a whole scan, by the table of spread bytes, which is made once for all of them.
+pub mod row;
+
 ghost use mathlib.Core.Path.{_≡_};
 ghost use mathlib.Core.List.{map};
 ghost use Prim.Native.Nat.{_+_, _/_, _≤_};
@@ -7,17 +9,14 @@ ghost use Rattle.endian.specs.Place.{paste};
 ghost use Rattle.morton.specs.Key.{keyBits, keyOf};
 ghost use Rattle.morton.specs.batch.Batch.{cellAt, cellsOf, keysAnswer, keysLeft};
 ghost use Rattle.morton.specs.spread.Spread.{Spreads};
-ghost use Rattle.morton.specs.keyplan.Parts.{Planned};
-
-pub mod row;
-
+ghost use Rattle.morton.specs.plan.Parts.{Planned};
 use crate::grid::Cell;
 use crate::grid::Extents;
 use crate::grid::Volume;
-use crate::keyplan::Plan;
-use crate::keyplan::inner::plan;
+use crate::plan::Plan;
+use crate::plan::inner::plan;
 use crate::spread::table::spread_bytes;
-use crate::tablekeys::inner::key_by_table;
+use crate::table::key_by_table;
 use refusal::Written;
 
 // The cell whose three numbers begin at `at`.
@@ -68,7 +67,7 @@ pub fn keys_of(volume: Volume, cells: &[u32], keys: &mut [u64]) -> Written
     if !crate::batch::all_inside(grid, cells) {
         return Written::Refused(2);
     }
-    if crate::inner::too_many_bits(grid) {
+    if crate::steps::too_many_bits(grid) {
         return Written::Refused(3);
     }
     if keys.len() < cells.len() / 3 {

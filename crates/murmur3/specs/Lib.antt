@@ -1,1 +1,2 @@
+-- MurmurHash3_x86_128 of 8 bytes, seed 0.
 pub mod Murmur

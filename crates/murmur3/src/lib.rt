@@ -1,4 +1,5 @@
 // MurmurHash3_x86_128 of 8 bytes with seed 0, of which the first 8 result bytes are kept.
+
 ghost use mathlib.Core.Path.{_≡_};
 ghost use Prim.Native.Nat.{_+_, _*_, _^_, _<_};
 ghost use Rattle.endian.specs.Little.{leAt};

@@ -1,3 +1,4 @@
+-- Numbers as text, the names of chunks and of shard files.
 pub mod digits
-pub mod chunknames
+pub mod chunks
 pub mod Shards

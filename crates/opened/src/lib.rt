@@ -1,11 +1,11 @@
 // The reading room's opened shard: the borrowed bytes with the specification and the shard number, opened once and asked many times.
-pub mod openpair;
+pub mod pair;
 
 ghost use mathlib.Core.Path.{_≡_};
 ghost use Prim.Native.Nat.{_+_};
 ghost use Rattle.lookup.specs.Find.{lookupAnswer, partStart, partBytes};
-ghost use Rattle.lookup.specs.fragment.Fragment.{fragmentAnswer};
-use lookup::idsearch::LookupAnswer;
+ghost use Rattle.lookup.specs.fragments.Fragment.{fragmentAnswer};
+use lookup::LookupAnswer;
 use sharding::Sharding;
 
 pub struct Opened<'a> {
@@ -63,14 +63,14 @@ pub struct MeshNode {
 fn fragment_at(spec: Sharding, number: u64, file: &[u8], at: MeshNode) -> LookupAnswer
     ensures { λ r. ⌜ r ≡ fragmentAnswer spec number (now (file .entry)) (at .id) (at .level) (at .node) ⌝ }
 {
-    lookup::fragment::fragment(spec, number, file, at.id, at.level, at.node)
+    lookup::fragment(spec, number, file, at.id, at.level, at.node)
 }
 
 fn fragment_part_at(spec: Sharding, number: u64, file: &[u8], at: MeshNode) -> &[u8]
     ensures answer { λ r. ⌜ now r ≡ partBytes (fragmentAnswer spec number (now (file .entry)) (at .id) (at .level) (at .node)) (now (file .entry)) ⌝ }
     ensures place { λ r. ⌜ (r .ptr .0 ≡ file .entry .ptr .0) × (r .ptr .1 ≡ file .entry .ptr .1 + partStart (fragmentAnswer spec number (now (file .entry)) (at .id) (at .level) (at .node))) ⌝ }
 {
-    lookup::fragment::fragment_part(spec, number, file, at.id, at.level, at.node)
+    lookup::fragment_part(spec, number, file, at.id, at.level, at.node)
 }
 
 // The answer of the plain call.

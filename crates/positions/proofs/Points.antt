@@ -29,30 +29,30 @@ use Rattle.shard.specs.declared.CheckAnswer.the-variants.{Sound, Faulty, Refuse
 use Rattle.shard.specs.index.Index.{entryStart, entryEnd, entryCount, idSteps, startSteps, sizes, mostShardBytes}
 use Rattle.shard.specs.index.Tests.{EntryTest, entryTest, testPlace}
 use Rattle.shard.specs.manifests.Mesh.{wrongLength, badReal, unorderedNodes, fragmentsOutside, manifestTests}
-use Rattle.shard.specs.Faults.{badEntry, badLength, badId, foreignAt, outside, meshTests, entryTests}
+use Rattle.shard.specs.Faults.{badEntry, badLength, badId, foreignAt, endsPast, meshTests, entryTests}
 use Rattle.shard.specs.Checks.{entryChecks, minishardChecks}
 use Rattle.shard.specs.File.{indexLength, indexPart, dataPart, fileChecks, checkAnswer}
 use Rattle.shard.proofs.Judged.{entry-within}
 use Rattle.shard.proofs.Numbers.{file-called}
 use Rattle.shard.proofs.Whole.{check-names}
 use Rattle.shard.proofs.AfterCheck.{afterCheck}
-use Rattle.lookup.specs.declared.idsearch.LookupAnswer.the-variants as L
-use Rattle.lookup.specs.idsearch.Search.{unlisted}
-use Rattle.lookup.specs.chosen.Chosen.{chosenChecks}
+use Rattle.lookup.specs.declared.id_search.LookupAnswer.the-variants as L
+use Rattle.lookup.specs.id_search.Search.{notListed}
+use Rattle.lookup.specs.chosen_minishard.Chosen.{chosenChecks}
 use Rattle.lookup.specs.Find.{lookupChecks, lookupAnswer}
 use Rattle.lookup.proofs.Refused.{lookup-refuses}
-use Rattle.lookup.specs.fragment.Fragment.{fragmentAnswer}
-use Rattle.lookup.proofs.fragment.Handed.{fragment-faulty}
-use Rattle.lookup.specs.declared.listing.CountAnswer.the-variants as N
-use Rattle.lookup.specs.listing.Listing.{listingOf, countChecks, countAnswer, listingChecks, listingAnswer}
-use Rattle.lookup.proofs.listing.Refused.{count-refuses, listing-refuses}
+use Rattle.lookup.specs.fragments.Fragment.{fragmentAnswer}
+use Rattle.lookup.proofs.fragments.Handed.{fragment-faulty}
+use Rattle.lookup.specs.declared.listings.CountAnswer.the-variants as N
+use Rattle.lookup.specs.listings.Listing.{listingOf, countChecks, countAnswer, listingChecks, listingAnswer}
+use Rattle.lookup.proofs.listings.Refused.{count-refuses, listing-refuses}
 use Rattle.unlisted.specs.ranges.Covered.{fileUnlisted}
 use Rattle.unlisted.specs.declared.UnlistedAnswer.the-variants as U
 use Rattle.unlisted.specs.Answers.{unlistedAnswer}
 use Rattle.unlisted.proofs.Counted.{unlisted-by-check}
-use Rattle.settle.specs.declared.settleanswers.SettleAnswer.the-variants as S
-use Rattle.settle.specs.settleanswers.Answers.{answerOf, lengthIn, settleIn, lengthAnswer, settleAnswer}
-use Rattle.settle.proofs.settleanswers.Answered.{length-by-check, settle-by-check}
+use Rattle.settle.specs.declared.answers.SettleAnswer.the-variants as S
+use Rattle.settle.specs.answers.Answers.{answerOf, lengthIn, settleIn, lengthAnswer, settleAnswer}
+use Rattle.settle.proofs.answers.Answered.{length-by-check, settle-by-check}
 use Rattle.positions.specs.Points.{AtEntry, AtFirst, AtIdStep, AtStartStep, Offending, seven, eight, nine, ten, eleven, fifteen, sixteen, seventeen, twentyone, PointsAt, Named}
 
 -- ---- which check a position is of
@@ -206,7 +206,7 @@ module _ (spec : Sharding) (shard : ℕ) (file : List ℕ) (m : ℕ) (held : ind
         in-ids 9 (badId (idSteps d s)) nine,
         (
           in-ids 10 (foreignAt spec shard m (idSteps d s)) ten,
-          (in-starts 11 (outside (length d) (startSteps d s n) (sizes d s n)) eleven, in-mesh mesh-cases),
+          (in-starts 11 (endsPast (length d) (startSteps d s n) (sizes d s n)) eleven, in-mesh mesh-cases),
         ),
       )
 
@@ -248,7 +248,7 @@ lookup-points spec shard file id k p e =
     let m = minishardOf spec id in
     let five = noSuchShard spec shard || not (eqb (shardOf spec id) shard) in
     let s = entryStart (indexPart spec file) m in
-    let last = unlisted (dataPart spec file) s (entryCount s (entryEnd (indexPart spec file) m)) id in
+    let last = notListed (dataPart spec file) s (entryCount s (entryEnd (indexPart spec file) m)) id in
     let a = after-plain (fileChecks spec five file) (chosenChecks spec shard (indexPart spec file) (dataPart spec file) id) (file-plain spec five file) (g .1) in
     let b = before-last (minishardChecks spec shard (indexPart spec file) (dataPart spec file) m) last refl (a .2) in
     let c = file-called spec five file (a .0) in

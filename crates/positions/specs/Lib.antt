@@ -1,1 +1,2 @@
+-- What the position of a refusal points at.
 pub mod Points

@@ -11,7 +11,7 @@ use Rattle.sharding.specs.Specification.{isMesh}
 use Rattle.shard.specs.declared.CheckAnswer.the-variants.{Faulty}
 use Rattle.shard.specs.index.Index.{entryStart, entryEnd, entryCount, idSteps, startSteps, sizes, mostShardBytes}
 use Rattle.shard.specs.manifests.Mesh.{wrongLength, badReal, unorderedNodes, fragmentsOutside}
-use Rattle.shard.specs.Faults.{badEntry, badLength, badId, foreignAt, outside}
+use Rattle.shard.specs.Faults.{badEntry, badLength, badId, foreignAt, endsPast}
 use Rattle.shard.specs.File.{indexLength, indexPart, dataPart, checkAnswer}
 
 -- the 16 bytes of the file from p on are the index entry of minishard m: its start s and its end e
@@ -47,7 +47,7 @@ pub data Offending (spec : Sharding) (shard : ℕ) (file d : List ℕ) (m s e n 
   nine : k ≡ 9 → AtIdStep spec file d s n (badId (idSteps d s)) p → Offending spec shard file d m s e n k p
   ten : k ≡ 10 → AtIdStep spec file d s n (foreignAt spec shard m (idSteps d s)) p → Offending spec shard file d m s e n k p
   -- the start step of the first entry whose chunk ends past the file,
-  eleven : k ≡ 11 → AtStartStep spec file d s n (outside (length d) (startSteps d s n) (sizes d s n)) p → Offending spec shard file d m s e n k p
+  eleven : k ≡ 11 → AtStartStep spec file d s n (endsPast (length d) (startSteps d s n) (sizes d s n)) p → Offending spec shard file d m s e n k p
   -- in a mesh that of the first entry whose chunk fails a manifest's test, or whose fragments would start before the index end
   fifteen : isMesh spec ≡ true → k ≡ 15 → AtStartStep spec file d s n (wrongLength d s n) p → Offending spec shard file d m s e n k p
   sixteen : isMesh spec ≡ true → k ≡ 16 → AtStartStep spec file d s n (badReal d s n) p → Offending spec shard file d m s e n k p

@@ -1,3 +1,4 @@
+-- The table's numbers, checks in their order, and what they decide.
 pub mod Choice
 pub mod Table
 pub mod Checks

@@ -17,10 +17,10 @@ use Rattle.settle.specs.minishard.Writing.{capped}
 use Rattle.shard.specs.declared.ShardFault.{ShardFault}
 use Rattle.shard.specs.Faults.{firstFault}
 use Rattle.shard.proofs.Numbers.{unless-some, unless-none}
-use Rattle.settle.specs.settleanswers.Answers.{tooLong}
-use Rattle.settle.proofs.settleanswers.Answered.{long-out, long-file, not-long}
-use Rattle.repair.specs.repairform.Chosen.{repairedForm, repairedLength}
-use Rattle.repair.specs.repairform.Choosing.{Pair, SoundInOne, SoundInOneEach}
+use Rattle.settle.specs.answers.Answers.{tooLong}
+use Rattle.settle.proofs.answers.Answered.{long-out, long-file, not-long}
+use Rattle.repair.specs.form.Chosen.{repairedForm, repairedLength}
+use Rattle.repair.specs.form.Choosing.{Pair, SoundInOne, SoundInOneEach}
 use Rattle.repair.specs.declared.RepairAnswer.{RepairAnswer}
 use Rattle.repair.specs.declared.RepairAnswer.the-variants.{Length, Refused, Faulty}
 use Rattle.repair.specs.Trouble.{troubleOf, firstTrouble}

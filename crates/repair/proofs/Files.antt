@@ -17,7 +17,7 @@ use Rattle.sharding.specs.Specification.{allowed, shardCount, noSuchShard}
 use Rattle.shard.specs.index.Index.{mostShardBytes}
 use Rattle.shard.specs.File.{indexLength, indexPart, dataPart, badFileLength}
 use Rattle.shard.proofs.Split.{restOf, rest-whole, length-short, front-count, front-index, rest-short}
-use Rattle.repair.specs.repairform.Choosing.{Pair}
+use Rattle.repair.specs.form.Choosing.{Pair}
 use Rattle.repair.specs.declared.RepairAnswer.{RepairAnswer}
 use Rattle.repair.specs.declared.RepairAnswer.the-variants.{Length, Refused, Faulty}
 use Rattle.repair.specs.Repair.{repairIn, leftIn, repairChecks, orOther, firstIndex, firstData, repairAnswer, repairLeft}

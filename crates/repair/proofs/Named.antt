@@ -17,13 +17,13 @@ use Rattle.shard.specs.File.{badFileLength}
 use Rattle.shard.specs.Items.{Item}
 use Rattle.shard.specs.Faults.{faultOf, firstFault}
 use Rattle.shard.proofs.Whole.{FirstFaulty, first-faulty}
-use Rattle.settled_form.specs.form.Form.{settled, settledLength}
-use Rattle.settle.specs.settleanswers.Answers.{tooLong}
-use Rattle.settle.proofs.settleanswers.Answered.{not-long}
-use Rattle.repair.specs.alike.Alike.{alike}
-use Rattle.repair.proofs.alike.Minishards.{alike-same, same-alike}
-use Rattle.repair.specs.repairform.Chosen.{soundIn, listed, chosen, contentBy, chosenContent, repairedForm, repairedLength}
-use Rattle.repair.proofs.repairform.OneMinishard.{chosen-first, chosen-second}
+use Rattle.settled_form.specs.Form.{settled, settledLength}
+use Rattle.settle.specs.answers.Answers.{tooLong}
+use Rattle.settle.proofs.answers.Answered.{not-long}
+use Rattle.repair.specs.same_listing.Alike.{alike}
+use Rattle.repair.proofs.same_listing.Minishards.{alike-same, same-alike}
+use Rattle.repair.specs.form.Chosen.{soundIn, listed, chosen, contentBy, chosenContent, repairedForm, repairedLength}
+use Rattle.repair.proofs.form.OneMinishard.{chosen-first, chosen-second}
 use Rattle.repair.specs.declared.RepairAnswer.{RepairAnswer}
 use Rattle.repair.specs.declared.RepairAnswer.the-variants.{Length, Refused, Faulty}
 use Rattle.repair.specs.Trouble.{troubleOf, firstTrouble}

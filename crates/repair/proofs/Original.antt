@@ -21,19 +21,19 @@ use Rattle.shard.specs.File.{indexLength, indexPart, dataPart, badFileLength}
 use Rattle.shard.specs.Lists.{ListsItem}
 use Rattle.shard.specs.Sound.{SoundMinishard, SoundShard}
 use Rattle.shard.proofs.Split.{length-good}
-use Rattle.settled_form.specs.form.Form.{settled, settledLength}
-use Rattle.settled_form.specs.form.Sorted.{Member}
-use Rattle.settled_form.specs.form.Content.{idOf, itemsOf, byId, contentFrom, contentOf, formOf, formLength, fileContent, fileForm, fileFormLength}
-use Rattle.settled_form.proofs.form.Sorting.{sort-same}
-use Rattle.settled_form.proofs.form.Stored.{item-member, member-item}
-use Rattle.settled_form.proofs.form.SoundContent.{sound-listed}
-use Rattle.settled_form.proofs.form.Demand3.{file-form-length}
-use Rattle.settle.specs.settleanswers.Answers.{tooLong}
-use Rattle.settle.proofs.settleanswers.Answered.{long-out, long-file, not-long}
-use Rattle.repair.specs.alike.Alike.{alike}
-use Rattle.repair.proofs.alike.Minishards.{same-alike}
-use Rattle.repair.specs.repairform.Chosen.{soundIn, listed, chosen, contentBy, chosenContent, repairedForm, repairedLength}
-use Rattle.repair.proofs.repairform.OneMinishard.{sound-if, sound-only, chosen-first, chosen-second}
+use Rattle.settled_form.specs.Form.{settled, settledLength}
+use Rattle.settled_form.specs.Sorted.{Member}
+use Rattle.settled_form.specs.Content.{idOf, itemsOf, byId, contentFrom, contentOf, formOf, formLength, fileContent, fileForm, fileFormLength}
+use Rattle.settled_form.proofs.Sorting.{sort-same}
+use Rattle.settled_form.proofs.Stored.{item-member, member-item}
+use Rattle.settled_form.proofs.SoundContent.{sound-listed}
+use Rattle.settled_form.proofs.Demand3.{file-form-length}
+use Rattle.settle.specs.answers.Answers.{tooLong}
+use Rattle.settle.proofs.answers.Answered.{long-out, long-file, not-long}
+use Rattle.repair.specs.same_listing.Alike.{alike}
+use Rattle.repair.proofs.same_listing.Minishards.{same-alike}
+use Rattle.repair.specs.form.Chosen.{soundIn, listed, chosen, contentBy, chosenContent, repairedForm, repairedLength}
+use Rattle.repair.proofs.form.OneMinishard.{sound-if, sound-only, chosen-first, chosen-second}
 use Rattle.repair.specs.declared.RepairAnswer.the-variants.{Length, Refused, Faulty}
 use Rattle.repair.specs.Trouble.{troubleOf, firstTrouble}
 use Rattle.repair.specs.Repair.{repairIn, leftIn, orOther, firstIndex, firstData, repairAnswer, repairLeft}

@@ -12,7 +12,7 @@ use Rattle.sharding.specs.Specification.{minishardCount}
 use Rattle.shard.specs.declared.CheckAnswer.the-variants.{Sound}
 use Rattle.shard.specs.File.{indexPart, dataPart, checkAnswer}
 use Rattle.shard.proofs.Whole.{sound-passes-check}
-use Rattle.repair.specs.repairform.Chosen.{listed, chosen, repairedForm, repairedLength}
+use Rattle.repair.specs.form.Chosen.{listed, chosen, repairedForm, repairedLength}
 use Rattle.repair.specs.declared.RepairAnswer.the-variants.{Length, Refused, Faulty}
 use Rattle.repair.specs.Repair.{firstIndex, firstData, repairAnswer, repairLeft}
 use Rattle.repair.specs.Statement.{written, Repairs}

@@ -16,19 +16,19 @@ use Rattle.shard.specs.index.Index.{mostShardBytes}
 use Rattle.shard.specs.Items.{Item}
 use Rattle.shard.specs.File.{indexPart, dataPart}
 use Rattle.shard.specs.Sound.{SoundMinishard, SoundShard}
-use Rattle.settled_form.specs.form.Form.{settled, settledLength}
-use Rattle.settled_form.specs.form.Sorted.{Member}
-use Rattle.settled_form.specs.form.Content.{idOf, itemsOf, byId, fileContent}
-use Rattle.settled_form.proofs.form.Sorting.{sort-mem, rising-sort, distinct-sort}
-use Rattle.settled_form.proofs.form.Measures.{length-settled}
-use Rattle.settled_form.proofs.form.Rows.{InForm}
-use Rattle.settled_form.proofs.form.ReadBack.{Readable, content-back}
-use Rattle.settled_form.proofs.form.SoundContent.{Listed, sound-listed, items-at}
-use Rattle.settled_form.proofs.form.FormSound.{settled-sound}
-use Rattle.repair.specs.repairform.Chosen.{soundIn, listed, chosen, contentBy, chosenContent, repairedForm, repairedLength}
-use Rattle.repair.specs.repairform.Choosing.{SoundInOne, SoundInOneEach}
-use Rattle.repair.proofs.repairform.OneMinishard.{sound-if, chosen-first, chosen-second}
-use Rattle.repair.proofs.repairform.AllMinishards.{length-content-by}
+use Rattle.settled_form.specs.Form.{settled, settledLength}
+use Rattle.settled_form.specs.Sorted.{Member}
+use Rattle.settled_form.specs.Content.{idOf, itemsOf, byId, fileContent}
+use Rattle.settled_form.proofs.Sorting.{sort-mem, rising-sort, distinct-sort}
+use Rattle.settled_form.proofs.Measures.{length-settled}
+use Rattle.settled_form.proofs.Rows.{InForm}
+use Rattle.settled_form.proofs.ReadBack.{Readable, content-back}
+use Rattle.settled_form.proofs.SoundContent.{Listed, sound-listed, items-at}
+use Rattle.settled_form.proofs.FormSound.{settled-sound}
+use Rattle.repair.specs.form.Chosen.{soundIn, listed, chosen, contentBy, chosenContent, repairedForm, repairedLength}
+use Rattle.repair.specs.form.Choosing.{SoundInOne, SoundInOneEach}
+use Rattle.repair.proofs.form.OneMinishard.{sound-if, chosen-first, chosen-second}
+use Rattle.repair.proofs.form.AllMinishards.{length-content-by}
 
 -- ---- sorted
 

@@ -20,11 +20,11 @@ use Rattle.shard.specs.index.Tests.{fault, entryPlace}
 use Rattle.shard.specs.declared.ShardFault.{ShardFault}
 use Rattle.shard.specs.Faults.{faultOf, noFault, orLater, firstFault}
 use Rattle.shard.specs.File.{indexLength}
-use Rattle.settle.specs.formlength.Settleable.{SettleableIn}
-use Rattle.repair.specs.alike.Alike.{alike}
-use Rattle.repair.specs.repairform.Chosen.{soundIn}
-use Rattle.repair.specs.repairform.Choosing.{Pair, SoundInOne, SoundInOneEach}
-use Rattle.repair.proofs.repairform.OneMinishard.{sound-if, settleable}
+use Rattle.settle.specs.length.Settleable.{SettleableIn}
+use Rattle.repair.specs.same_listing.Alike.{alike}
+use Rattle.repair.specs.form.Chosen.{soundIn}
+use Rattle.repair.specs.form.Choosing.{Pair, SoundInOne, SoundInOneEach}
+use Rattle.repair.proofs.form.OneMinishard.{sound-if, settleable}
 use Rattle.repair.specs.Trouble.{troubleOf, firstTrouble}
 
 -- ---- one minishard

@@ -1,6 +1,6 @@
 -- Repair of a shard from two damaged copies.
-pub mod alike
-pub mod repairform
+pub mod same_listing
+pub mod form
 pub mod Repair
 pub mod Trouble
 pub mod Statement

@@ -15,8 +15,8 @@ use Rattle.shard.specs.Faults.{faultOf}
 use Rattle.shard.specs.Sound.{SoundMinishard, SoundShard}
 use Rattle.shard.specs.Lists.{ListsItem}
 use Rattle.shard.specs.Items.{Item}
-use Rattle.settled_form.specs.form.Content.{fileForm}
-use Rattle.repair.specs.repairform.Chosen.{soundIn, listed, chosen}
+use Rattle.settled_form.specs.Content.{fileForm}
+use Rattle.repair.specs.form.Chosen.{soundIn, listed, chosen}
 use Rattle.repair.specs.declared.RepairAnswer.the-variants.{Length, Refused, Faulty}
 use Rattle.repair.specs.Repair.{firstIndex, firstData, repairAnswer, repairLeft}
 

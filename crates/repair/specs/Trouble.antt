@@ -9,8 +9,8 @@ use Rattle.shard.specs.declared.index.Fault.{Fault}
 use Rattle.shard.specs.index.Tests.{fault, entryPlace}
 use Rattle.shard.specs.declared.ShardFault.{ShardFault}
 use Rattle.shard.specs.Faults.{faultOf, firstFault}
-use Rattle.repair.specs.alike.Alike.{alike}
-use Rattle.repair.specs.repairform.Chosen.{soundIn}
+use Rattle.repair.specs.same_listing.Alike.{alike}
+use Rattle.repair.specs.form.Chosen.{soundIn}
 
 -- minishard m: the fault of copy a where it is sound in neither; 32 where it is sound in both and they list different ids or bytes, at its entry in
 -- the shard index; else none

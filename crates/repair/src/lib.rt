@@ -1,16 +1,15 @@
 // Repair of a shard from two damaged copies.
-pub mod alike;
-pub mod repairform;
+pub mod copies;
+pub mod form;
+pub mod same_listing;
 
 ghost use mathlib.Core.Path.{_≡_};
 ghost use Rattle.repair.specs.Repair.{repairAnswer, repairLeft};
-use inner::is_bad;
-use inner::repair_files;
+use copies::is_bad;
+use copies::repair_files;
 use sharding::Sharding;
-use sharding::inner::is_allowed;
-use sharding::inner::shard_count;
-
-pub mod inner;
+use sharding::limits::is_allowed;
+use sharding::limits::shard_count;
 
 // What repair answers: the length of the settled form, or the refusal. What cannot be taken comes with the minishard, and with the byte position of
 // what is wrong there in the first copy, counted from the beginning of the shard; 32 is that both copies are sound and list different ids or bytes.

@@ -1,4 +1,4 @@
--- Demand 3 as far as it speaks of settling; what it says of the settled form itself is in `form`.
+-- Demand 3 as far as it speaks of settling; what it says of the settled form itself is in `settled_form`.
 use Prim.Native.Nat.{ℕ, _≤_, _<_}
 use mathlib.Core.Path.{_≡_}
 use mathlib.Core.Bool.{Bool}
@@ -11,12 +11,12 @@ use Rattle.refusal.specs.Checks.{refusal}
 use Rattle.sharding.specs.declared.Sharding.{Sharding}
 use Rattle.shard.specs.index.Index.{mostShardBytes}
 use Rattle.shard.specs.Sound.{SoundShard}
-use Rattle.settled_form.specs.form.Content.{fileForm}
-use Rattle.settled_form.proofs.form.Demand3.{Short, demand-3-form-sound, demand-3-form-same}
+use Rattle.settled_form.specs.Content.{fileForm}
+use Rattle.settled_form.proofs.Demand3.{Short, demand-3-form-sound, demand-3-form-same}
 use Rattle.settled_form.proofs.shortest.Listed.{form-listed}
-use Rattle.settle.specs.declared.settleanswers.SettleAnswer.the-variants.{Length, Refused, Faulty}
-use Rattle.settle.specs.settleanswers.Answers.{lengthAnswer, settleAnswer, settleLeft}
-use Rattle.settle.proofs.settleanswers.Answered.{Ready, length-long, length-fits, answer-long, left-long, answer-fits, left-fits, refused-long}
+use Rattle.settle.specs.declared.answers.SettleAnswer.the-variants.{Length, Refused, Faulty}
+use Rattle.settle.specs.answers.Answers.{lengthAnswer, settleAnswer, settleLeft}
+use Rattle.settle.proofs.answers.Answered.{Ready, length-long, length-fits, answer-long, left-long, answer-fits, left-fits, refused-long}
 
 -- the settled form is longer than the output or than 1 GiB
 abbrev pub Longer : Sharding → List ℕ → List ℕ → Type 0

@@ -11,17 +11,17 @@ use Rattle.refusal.proofs.Positions.{refusing-at, keeping-at}
 use Rattle.sharding.specs.declared.Sharding.{Sharding}
 use Rattle.shard.specs.File.{shardChecks}
 use Rattle.shard.proofs.Numbers.{shard-in}
-use Rattle.settle.specs.declared.settleanswers.SettleAnswer.the-variants.{Refused, Faulty}
-use Rattle.settle.specs.settleanswers.Answers.{unlistedCheck, lengthCheck, settleCheck, lengthChecks, lengthAnswer, settleChecks, settleAnswer, settleLeft}
+use Rattle.settle.specs.declared.answers.SettleAnswer.the-variants.{Refused, Faulty}
+use Rattle.settle.specs.answers.Answers.{unlistedCheck, lengthCheck, settleCheck, settledLengthChecks, lengthAnswer, settleChecks, settleAnswer, settleLeft}
 
 module _ (spec : Sharding) (shard : ℕ) (file : List ℕ) (dropping : Bool) where
-  lengths-in : AllIn (lengthChecks spec shard file dropping)
-  unfolding lengthChecks unlistedCheck lengthCheck
+  lengths-in : AllIn (settledLengthChecks spec shard file dropping)
+  unfolding settledLengthChecks unlistedCheck lengthCheck
   lengths-in = all-in-both (shardChecks spec shard file) _ (shard-in spec shard file) ((omega arith, omega arith), ((omega arith, omega arith), tt))
 
-  pub length-refuses : RefusesAt (lengthAnswer spec shard file dropping) Refused Faulty (lengthChecks spec shard file dropping)
+  pub length-refuses : RefusesAt (lengthAnswer spec shard file dropping) Refused Faulty (settledLengthChecks spec shard file dropping)
   unfolding lengthAnswer
-  length-refuses = refusing-at Refused Faulty (λ j k e. cc) (λ j k p q e. (cc, cc)) (λ j k p e. cc) (lengthChecks spec shard file dropping) _ (λ k e. cc) (λ k p e. cc) lengths-in
+  length-refuses = refusing-at Refused Faulty (λ j k e. cc) (λ j k p q e. (cc, cc)) (λ j k p e. cc) (settledLengthChecks spec shard file dropping) _ (λ k e. cc) (λ k p e. cc) lengths-in
 
   module _ (out : List ℕ) where
     settles-in : AllIn (settleChecks spec shard file dropping out)

@@ -1,7 +1,7 @@
--- A module for each idea.
+-- Settling: what it answers, what it leaves, and the parts of its writers.
 pub mod minishard
-pub mod itemruns
+pub mod item_runs
 pub mod sorted
-pub mod formlength
-pub mod formwriting
-pub mod settleanswers
+pub mod length
+pub mod writing
+pub mod answers

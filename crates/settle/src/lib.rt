@@ -1,23 +1,22 @@
 // Settling a shard: writing it in its settled form.
-pub mod chunkruns;
-pub mod formlength;
-pub mod formwriting;
-pub mod itemruns;
+pub mod answers;
+pub mod as_it_stands;
+pub mod chunk_runs;
+pub mod item_runs;
+pub mod length;
 pub mod minishard;
-pub mod settleanswers;
-pub mod settleparts;
+pub mod parts;
 pub mod sorted;
-pub mod standing;
 pub mod stored;
+pub mod writing;
 
 ghost use mathlib.Core.Path.{_≡_};
-ghost use Rattle.settle.specs.settleanswers.Answers.{lengthAnswer, settleAnswer, settleLeft};
-use crate::settleanswers::SettleAnswer;
-use crate::settleanswers::answer_of;
-use crate::settleparts::inner;
+ghost use Rattle.settle.specs.answers.Answers.{lengthAnswer, settleAnswer, settleLeft};
+use crate::answers::SettleAnswer;
+use crate::answers::answer_of;
 use shard::CheckAnswer;
-use shard::inner::index_length;
-use shard::inspect::check;
+use shard::check;
+use shard::lengths::index_length;
 use sharding::Sharding;
 
 // The length of the settled form of a sound shard, or the refusal. Unlisted bytes are refused unless the caller asks for `dropping` them.
@@ -27,7 +26,7 @@ pub fn settled_length(spec: Sharding, shard: u64, file: &[u8], dropping: bool) -
     match check(spec, shard, file) {
         CheckAnswer::Sound => {
             let n = index_length(spec);
-            answer_of(inner::length_answer(spec, &file[..n], &file[n..], dropping))
+            answer_of(parts::length_answer(spec, &file[..n], &file[n..], dropping))
         }
         CheckAnswer::Refused(number) => SettleAnswer::Refused(number),
         CheckAnswer::Faulty {
@@ -53,7 +52,7 @@ pub fn settle(
     match check(spec, shard, file) {
         CheckAnswer::Sound => {
             let n = index_length(spec);
-            answer_of(inner::settle_answer(spec, &file[..n], &file[n..], dropping, out))
+            answer_of(parts::settle_answer(spec, &file[..n], &file[n..], dropping, out))
         }
         CheckAnswer::Refused(number) => SettleAnswer::Refused(number),
         CheckAnswer::Faulty {

@@ -1,3 +1,2 @@
-// A module for each idea.
-pub mod form;
+// The settled form: definitions in specs/, laws in proofs/. No code of its own.
 pub mod shortest;

@@ -11,18 +11,18 @@ use lib.ListN.{length}
 use borrow.Author.Tests.{ltb-false, lt-ltb, le-ltb, eqb-true, eq-eqb, not-false}
 use Rattle.refusal.specs.Checks.{firstNumber}
 use Rattle.refusal.proofs.Tests.{neither}
-use Rattle.duplicate_ids.proofs.twice.Ids.{repeats-no, repeats-miss}
+use Rattle.duplicate_ids.proofs.RowIds.{repeats-no, repeats-miss}
 use Rattle.sharding.specs.declared.Sharding.{Sharding}
 use Rattle.sharding.specs.Specification.{isMesh}
 use Rattle.sharding.specs.placement.Place.{shardOf, minishardOf}
-use Rattle.mesh_manifest.specs.manifest.Verdict.{rightLength, realsFit, nodesRise, manifestChecks, verdict}
-use Rattle.mesh_manifest.specs.manifest.Soundness.{Sound}
-use Rattle.mesh_manifest.proofs.manifest.Sounds.{sound-if, sound-only}
+use Rattle.mesh_manifest.specs.sound.Verdict.{rightLength, realsFit, nodesRise, manifestChecks, manifestVerdict}
+use Rattle.mesh_manifest.specs.sound.Soundness.{Sound}
+use Rattle.mesh_manifest.proofs.sound.Sounds.{sound-if, sound-only}
 use Rattle.mesh_manifest.specs.nodes.Nodes.{fragmentsLength}
 use Rattle.shard.specs.index.Index.{entryStart, entryEnd, entryCount, idSteps, startSteps, sizes, idAt, startAt, chunkAt}
 use Rattle.shard.specs.index.Tests.{fault, entryPlace, firstOf}
 use Rattle.shard.specs.manifests.Mesh.{manifestTests, wrongLength, badReal, unorderedNodes, fragmentsOutside}
-use Rattle.shard.specs.Faults.{badEntry, badLength, badId, foreign, foreignAt, outside, idTest, placeTest, endTest, meshTests, entryTests, faultAt, faultOf}
+use Rattle.shard.specs.Faults.{badEntry, badLength, badId, foreign, foreignAt, endsPast, idTest, placeTest, endTest, meshTests, entryTests, faultAt, faultOf}
 use Rattle.shard.specs.Sound.{SoundFrom, SoundMinishard}
 use Rattle.shard.proofs.index.Tests.{Passes, AllPass, pick-none, none-fails, all-pass}
 use Rattle.shard.proofs.Meshes.{mesh-passed, mesh-pass, tests-numbered}
@@ -67,10 +67,10 @@ not-foreign spec shard m id p q = rw (eq-eqb _ _ p, eq-eqb _ _ q)
 
 -- a chunk that passes 15, 16 and 17 is a sound manifest
 manifest-sound : (s : List ℕ) → not (rightLength s) ≡ false → not (realsFit s) ≡ false → not (nodesRise s) ≡ false → Sound s
-manifest-sound s a b c = sound-if s (unfold verdict manifestChecks firstNumber in rw (a, b, c))
+manifest-sound s a b c = sound-if s (unfold manifestVerdict manifestChecks firstNumber in rw (a, b, c))
 
 sound-manifest : (s : List ℕ) → Sound s → (not (rightLength s) ≡ false) × (not (realsFit s) ≡ false) × (not (nodesRise s) ≡ false)
-unfolding verdict manifestChecks firstNumber
+unfolding manifestVerdict manifestChecks firstNumber
 sound-manifest s h =
     let q15 = pick-zero (not (rightLength s)) 14 _ (sound-only s h) in
     let q16 = pick-zero (not (realsFit s)) 15 _ (q15 .1) in
@@ -98,7 +98,7 @@ module _ (d : List ℕ) (s n : ℕ) where
 
 module _ (spec : Sharding) (shard m : ℕ) (d : List ℕ) (s e : ℕ) where
   passes-sound : (base : ℕ) → faultAt spec shard m base d s e .number ≡ 0 → SoundFrom spec shard m d s e
-  unfolding faultAt badLength foreignAt outside entryTests
+  unfolding faultAt badLength foreignAt endsPast entryTests
   passes-sound base p =
       let n = entryCount s e in
       let tests = entryTests spec shard m d s n in
@@ -132,8 +132,8 @@ module _ {spec : Sharding} {shard m : ℕ} {d : List ℕ} {s e : ℕ} (g : Sound
   unfolding foreignAt
   places-pass i l = not-foreign spec shard m _ (g .ours i l) (g .here i l)
 
-  ends-pass : (i : ℕ) → i < entryCount s e → outside (length d) (startSteps d s (entryCount s e)) (sizes d s (entryCount s e)) i ≡ false
-  unfolding outside
+  ends-pass : (i : ℕ) → i < entryCount s e → endsPast (length d) (startSteps d s (entryCount s e)) (sizes d s (entryCount s e)) i ≡ false
+  unfolding endsPast
   ends-pass i l = le-ltb _ _ (g .inside i l)
 
   mesh-tests-pass : AllPass (entryCount s e) (meshTests spec d s (entryCount s e))

@@ -8,9 +8,9 @@ use lib.ListN.{take, drop}
 use Rattle.refusal.proofs.Tests.{told-no, told-yes}
 use Rattle.sharding.specs.declared.Sharding.{Sharding}
 use Rattle.sharding.specs.Specification.{isMesh}
-use Rattle.mesh_manifest.specs.manifest.Verdict.{verdict}
-use Rattle.mesh_manifest.specs.manifest.Soundness.{Sound}
-use Rattle.mesh_manifest.proofs.manifest.Sounds.{sound-only}
+use Rattle.mesh_manifest.specs.sound.Verdict.{manifestVerdict}
+use Rattle.mesh_manifest.specs.sound.Soundness.{Sound}
+use Rattle.mesh_manifest.proofs.sound.Sounds.{sound-only}
 use Rattle.mesh_manifest.specs.nodes.Nodes.{fragmentsLength}
 use Rattle.shard.specs.index.Index.{entryCount, startSteps, sizes, startAt}
 use Rattle.shard.specs.Items.{leadLength, Led, NoLeads, MayLead}
@@ -38,7 +38,7 @@ module _ (spec : Sharding) {b : Bool} (e : b ≡ isMesh spec) where
     part : take (start + size - start) (drop start d) ≡ take size (drop start d)
     part = let k : start + size - start ≡ size = omega arith in ap (λ (n : ℕ). take n (drop start d)) k
 
-    pub lead-sound : Led spec d start size → verdict (take (start + size - start) (drop start d)) ≡ 0
+    pub lead-sound : Led spec d start size → manifestVerdict (take (start + size - start) (drop start d)) ≡ 0
     lead-sound l = rw part (sound-only (take size (drop start d)) (l .told (told-yes e v)))
 
     pub lead-is : {r : ℕ} → r ≡ fragmentsLength (take (start + size - start) (drop start d)) → r ≡ leadLength spec (take size (drop start d))

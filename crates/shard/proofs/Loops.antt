@@ -9,13 +9,13 @@ use lib.ListN.{length}
 use borrow.Author.Tests.{ne-eqb}
 use Rattle.endian.specs.Little.{leAt}
 use Rattle.endian.specs.Range.{first}
-use Rattle.duplicate_ids.specs.twice.Twice.{firstTwice}
+use Rattle.duplicate_ids.specs.Twice.{firstTwice}
 use Rattle.sharding.specs.declared.Sharding.{Sharding}
 use Rattle.shard.specs.declared.index.Fault.{Fault}
 use Rattle.shard.specs.declared.ShardFault.{ShardFault}
 use Rattle.shard.specs.index.Index.{entryStart, entryEnd, entryCount, idSteps, startSteps, sizes}
 use Rattle.shard.specs.index.Tests.{EntryTest, entryTest, entryPlace, rowPlace, firstOf, fault}
-use Rattle.shard.specs.Faults.{foreign, foreignAt, outside, idTest, placeTest, endTest, meshTests, entryTests, faultOf, faultAt, noFault, orLater, firstFault}
+use Rattle.shard.specs.Faults.{foreign, foreignAt, endsPast, idTest, placeTest, endTest, meshTests, entryTests, faultOf, faultAt, noFault, orLater, firstFault}
 use Rattle.shard.proofs.index.Tests.{test-passed, test-failed}
 use Rattle.shard.proofs.Walks.{twice-first, twice-none, Walk, ours-hit, Span, span-end, span-start-past, span-past}
 use Rattle.shard.proofs.Faulted.{fault-before, fault-empty, fault-past, fault-ragged, fault-entries, fault-entry}
@@ -75,7 +75,7 @@ module _ {f : ℕ → Fault} {from to m p n : ℕ} where
       hit k (rowPlace p n row i) (record { left = rw (test-failed p n (entryTest (suc k) row test) ts e l) at (r .reached .left) }) (u ∙ ap (faultIn (suc k) m) o)
 
   -- all pass 11, and x is what the tests behind it find
-  module _ {k row : ℕ} {g h : ℕ → ℕ} {len i sum : ℕ} {ts : List EntryTest} (r : Testing f from to m p n (entryTest k row (outside len g h) ∷ ts)) (w : Span g h len n i sum) (l : n ≤ i)
+  module _ {k row : ℕ} {g h : ℕ → ℕ} {len i sum : ℕ} {ts : List EntryTest} (r : Testing f from to m p n (entryTest k row (endsPast len g h) ∷ ts)) (w : Span g h len n i sum) (l : n ≤ i)
       {x : Fault} (q : x ≡ firstOf p n ts) where
     found : Reached f from to m x
     found = rw q (test-next r (span-end w l) .reached)

@@ -12,10 +12,10 @@ use Rattle.endian.proofs.Ranges.{sum-none, sum-step, any-none, any-more, any-mi
 use Rattle.sharding.specs.declared.Sharding.{Sharding}
 use Rattle.sharding.specs.declared.placement.Place.{Place}
 use Rattle.sharding.specs.placement.Place.{placeOf}
-use Rattle.duplicate_ids.specs.twice.Twice.{firstTwice}
+use Rattle.duplicate_ids.specs.Twice.{firstTwice}
 use Rattle.shard.specs.index.Index.{startSteps, sizes, idAt, startAt, endAt, mostShardBytes}
 use Rattle.shard.specs.index.Reading.{Readable}
-use Rattle.shard.specs.Faults.{badId, foreign, foreignAt, outside}
+use Rattle.shard.specs.Faults.{badId, foreign, foreignAt, endsPast}
 
 -- ---- test 9: the first entry that has the id of an earlier one
 
@@ -68,19 +68,19 @@ module _ {f : ℕ → ℕ} (spec : Sharding) (shard m : ℕ) {n i id x own : ℕ
 pub record Span (starts size : ℕ → ℕ) (len n i end : ℕ) : Type 0 where
   pub within : i ≤ n
   pub total : end ≡ (sumTo starts i + sumTo size i) % 2 ^ 64
-  pub none : anyBelow i (outside len starts size) ≡ false
+  pub none : anyBelow i (endsPast len starts size) ≡ false
 
 pub span-start : (g h : ℕ → ℕ) (len n : ℕ) → Span g h len n 0 0
 span-start g h len n =
     record { within = omega arith; total = omega (arith, sum-none g, sum-none h); none = any-none _ }
 
 module _ {g h : ℕ → ℕ} {len n i end : ℕ} (r : Span g h len n i end) where
-  pub span-end : n ≤ i → n ≡ first (outside len g h) n
-  span-end l = let e : i ≡ n = omega arith in sym (first-none (outside len g h) n (rw e at (r .none)))
+  pub span-end : n ≤ i → n ≡ first (endsPast len g h) n
+  span-end l = let e : i ≡ n = omega arith in sym (first-none (endsPast len g h) n (rw e at (r .none)))
 
   pub span-inside : n ≤ i → (j : ℕ) → j < n → endAt g h j ≤ len
-  unfolding outside
-  span-inside l j k = let e : i ≡ n = omega arith in ltb-false _ _ (any-miss (outside len g h) n j (rw e at (r .none)) k)
+  unfolding endsPast
+  span-inside l j k = let e : i ≡ n = omega arith in ltb-false _ _ (any-miss (endsPast len g h) n j (rw e at (r .none)) k)
 
   -- the start of the next chunk is u
   module _ (l : i < n) {x u y : ℕ} (e : x ≡ g i) (w : u ≡ (end + x) % 2 ^ 64) (d : y ≡ h i) where
@@ -88,16 +88,16 @@ module _ {g h : ℕ → ℕ} {len n i end : ℕ} (r : Span g h len n i end) wher
     unfolding startAt sumTo
     start-is = let t = r .total in omega arith
 
-    pub span-start-past : len < u → i ≡ first (outside len g h) n
-    unfolding outside
-    span-start-past p = sym (first-hit (outside len g h) n i (r .none) l (lt-ltb len (startAt g h i + h i) (omega (arith, start-is))))
+    pub span-start-past : len < u → i ≡ first (endsPast len g h) n
+    unfolding endsPast
+    span-start-past p = sym (first-hit (endsPast len g h) n i (r .none) l (lt-ltb len (startAt g h i + h i) (omega (arith, start-is))))
 
-    pub span-past : u ≤ len → len - u < y → i ≡ first (outside len g h) n
-    unfolding outside
-    span-past p q = sym (first-hit (outside len g h) n i (r .none) l (lt-ltb len (startAt g h i + h i) (omega (arith, start-is))))
+    pub span-past : u ≤ len → len - u < y → i ≡ first (endsPast len g h) n
+    unfolding endsPast
+    span-past p q = sym (first-hit (endsPast len g h) n i (r .none) l (lt-ltb len (startAt g h i + h i) (omega (arith, start-is))))
 
-    not-outside : u + y ≤ len → outside len g h i ≡ false
-    unfolding outside
+    not-outside : u + y ≤ len → endsPast len g h i ≡ false
+    unfolding endsPast
     not-outside p = le-ltb len (startAt g h i + h i) (omega (arith, start-is))
 
     pub span-turn : u ≤ len → y ≤ len - u → len ≤ mostShardBytes → Span g h len n (i + 1) (u + y)
@@ -105,7 +105,7 @@ module _ {g h : ℕ → ℕ} {len n i end : ℕ} (r : Span g h len n i end) wher
         let t = r .total in
         let a = sum-step g i in
         let b = sum-step h i in
-        record { within = omega arith; total = omega arith; none = any-more (outside len g h) i (r .none) (not-outside (omega arith)) }
+        record { within = omega arith; total = omega arith; none = any-more (endsPast len g h) i (r .none) (not-outside (omega arith)) }
 
 -- chunks that passed can be read
 pub span-readable : {base : ℕ} {d : List ℕ} (s n : ℕ) {i end : ℕ} → base ≤ mostShardBytes → length d ≤ mostShardBytes → s + 24 * n ≤ length d

@@ -16,7 +16,7 @@ use Rattle.shard.specs.declared.ShardFault.{ShardFault}
 use Rattle.shard.specs.declared.CheckAnswer.the-variants.{Sound, Refused, Faulty}
 use Rattle.shard.specs.Faults.{faultOf, noFault, orLater, firstFault, shardFault}
 use Rattle.shard.specs.Checks.{minishardsChecks}
-use Rattle.shard.specs.File.{indexPart, dataPart, fileChecks, shardChecks, verdict, checkAnswer, checkNumber}
+use Rattle.shard.specs.File.{indexPart, dataPart, fileChecks, shardChecks, checkVerdict, checkAnswer, checkNumber}
 use Rattle.shard.specs.Sound.{SoundShard, FirstFaultIs}
 use Rattle.shard.proofs.Judged.{passes-minishard, minishard-passes}
 use Rattle.shard.proofs.Numbers.{unless-some, Called, file-called, called-file, file-in, minishard-number, minishard-position, minishards-number}
@@ -117,7 +117,7 @@ own-fault spec shard x d m e =
 
 -- ---- its answer: a refusal of the call, with the number a, or else the first fault
 
-check-of : (a : ℕ) (f : ShardFault) → checkNumber (unless Refused a (verdict f)) ≡ orElse a (f .number)
+check-of : (a : ℕ) (f : ShardFault) → checkNumber (unless Refused a (checkVerdict f)) ≡ orElse a (f .number)
 check-of a f = go a (f .number)
   where
     go : (a n : ℕ) → checkNumber (unless Refused a (unless (λ k. Faulty k (f .minishard) (f .position)) n Sound)) ≡ orElse a n
@@ -204,7 +204,7 @@ module _ (spec : Sharding) (shard : ℕ) (file : List ℕ) where
   unfolding checkAnswer shardFault unless
   check-names k m p = ((λ e. told e), (λ g. tells g))
     where
-      told : unless Refused (firstNumber (fileChecks spec (noSuchShard spec shard) file)) (verdict (firstFault f 0 (minishardCount spec))) ≡ Faulty k m p → FirstFaultIs spec shard file k m p
+      told : unless Refused (firstNumber (fileChecks spec (noSuchShard spec shard) file)) (checkVerdict (firstFault f 0 (minishardCount spec))) ≡ Faulty k m p → FirstFaultIs spec shard file k m p
       told t =
           let v = given-faulty _ _ _ _ k m p t in
           let h = first-faulty f 0 (minishardCount spec) (v .1) in
@@ -218,7 +218,7 @@ module _ (spec : Sharding) (shard : ℕ) (file : List ℕ) where
             faulty = λ z. v .1 (v .2 ∙ z);
           }
 
-      tells : FirstFaultIs spec shard file k m p → unless Refused (firstNumber (fileChecks spec (noSuchShard spec shard) file)) (verdict (firstFault f 0 (minishardCount spec))) ≡ Faulty k m p
+      tells : FirstFaultIs spec shard file k m p → unless Refused (firstNumber (fileChecks spec (noSuchShard spec shard) file)) (checkVerdict (firstFault f 0 (minishardCount spec))) ≡ Faulty k m p
       tells g =
           let number : f m .number ≡ k = sym (minishard-number spec shard index d m) ∙ g .number in
           let same = sym (minishard-position spec shard index d m (λ z. g .faulty (sym number ∙ z))) ∙ g .position in

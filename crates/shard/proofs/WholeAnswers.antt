@@ -14,7 +14,7 @@ use Rattle.shard.specs.declared.ShardFault.{ShardFault}
 use Rattle.shard.specs.declared.CheckAnswer.the-variants.{Sound, Refused, Faulty}
 use Rattle.shard.specs.Faults.{faultOf, firstFault, shardFault}
 use Rattle.shard.specs.index.Index.{mostShardBytes}
-use Rattle.shard.specs.File.{indexLength, indexPart, dataPart, badFileLength, verdict, checkAnswer}
+use Rattle.shard.specs.File.{indexLength, indexPart, dataPart, badFileLength, checkVerdict, checkAnswer}
 use Rattle.shard.proofs.Numbers.{unless-some, unless-none, file-picks}
 use Rattle.shard.proofs.Split.{restOf, rest-whole, length-short, length-long, length-good}
 
@@ -28,7 +28,7 @@ parts-fault spec file shard {n} e {k} c r = let all : k - 0 ≡ minishardCount s
 check-picks : (spec : Sharding) (shard : ℕ) (file : List ℕ) → checkAnswer spec shard file
     ≡ pick (not (allowed spec)) (Refused 1)
     (pick (noSuchShard spec shard) (Refused 5)
-    (pick (badFileLength spec (length file)) (Refused 6) (verdict (shardFault spec shard (indexPart spec file) (dataPart spec file)))))
+    (pick (badFileLength spec (length file)) (Refused 6) (checkVerdict (shardFault spec shard (indexPart spec file) (dataPart spec file)))))
 unfolding checkAnswer
 check-picks spec shard file = file-picks spec (noSuchShard spec shard) file Refused _
 

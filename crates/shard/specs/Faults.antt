@@ -5,7 +5,7 @@ use mathlib.Core.List.{List, [], _∷_}
 use lib.Dec.{ltb, eqb}
 use lib.ListN.{length}
 use Rattle.refusal.specs.Choice.{pick}
-use Rattle.duplicate_ids.specs.twice.Twice.{repeats}
+use Rattle.duplicate_ids.specs.Twice.{repeats}
 use Rattle.sharding.specs.declared.Sharding.{Sharding}
 use Rattle.sharding.specs.Specification.{isMesh, minishardCount}
 use Rattle.sharding.specs.placement.Place.{shardOf, minishardOf}
@@ -37,8 +37,8 @@ unfoldable pub foreignAt : Sharding → ℕ → ℕ → (ℕ → ℕ) → ℕ �
 foreignAt spec shard m steps i = foreign spec shard m (idAt steps i)
 
 -- test 11 of entry i: its chunk ends, counted exactly, past the file, which has n bytes behind the shard index (RULES F11)
-unfoldable pub outside : ℕ → (ℕ → ℕ) → (ℕ → ℕ) → ℕ → Bool
-outside n starts size i = ltb n (endAt starts size i)
+unfoldable pub endsPast : ℕ → (ℕ → ℕ) → (ℕ → ℕ) → ℕ → Bool
+endsPast n starts size i = ltb n (endAt starts size i)
 
 -- ---- the tests over entries, as a list
 
@@ -50,7 +50,7 @@ abbrev pub placeTest : Sharding → ℕ → ℕ → List ℕ → ℕ → EntryTe
 placeTest spec shard m d s = entryTest 10 0 (foreignAt spec shard m (idSteps d s))
 
 abbrev pub endTest : List ℕ → ℕ → ℕ → EntryTest
-endTest d s n = entryTest 11 1 (outside (length d) (startSteps d s n) (sizes d s n))
+endTest d s n = entryTest 11 1 (endsPast (length d) (startSteps d s n) (sizes d s n))
 
 -- in a mesh the chunks are manifests: "15 to 17 of a listed manifest follow 11 within a minishard, then 21" (RULES M10)
 abbrev pub meshTests : Sharding → List ℕ → ℕ → ℕ → List EntryTest

@@ -1,4 +1,4 @@
--- A shard as one file, and the verdict of the whole-shard check (RULES F13: 1, 5, 6, then by minishards 7 to 11, for a
+-- A shard as one file, and the checkVerdict of the whole-shard check (RULES F13: 1, 5, 6, then by minishards 7 to 11, for a
 -- mesh also 15 to 17 and 21).
 use Prim.Native.Nat.{ℕ, _*_}
 use mathlib.Core.Bool.{Bool, not, _||_}
@@ -45,14 +45,14 @@ shardChecks spec shard file =
 -- ---- the whole-shard check
 
 -- what it says of the first fault: 7 to 11, for a mesh also 15 to 17 and 21, come with the minishard and the position (RULES R3)
-abbrev pub verdict : ShardFault → CheckAnswer
-verdict f = unless (λ k. Faulty k (f .minishard) (f .position)) (f .number) Sound
+abbrev pub checkVerdict : ShardFault → CheckAnswer
+checkVerdict f = unless (λ k. Faulty k (f .minishard) (f .position)) (f .number) Sound
 
 -- RULES F13
 unfoldable pub checkAnswer : Sharding → ℕ → List ℕ → CheckAnswer
 checkAnswer spec shard file =
     answered Refused (fileChecks spec (noSuchShard spec shard) file)
-    (verdict (shardFault spec shard (indexPart spec file) (dataPart spec file)))
+    (checkVerdict (shardFault spec shard (indexPart spec file) (dataPart spec file)))
 
 -- the number in its answer; 0 where it passes
 abbrev pub checkNumber : CheckAnswer → ℕ

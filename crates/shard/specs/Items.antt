@@ -7,7 +7,7 @@ use lib.ListN.{take, drop}
 use Rattle.refusal.specs.Choice.{pick}
 use Rattle.sharding.specs.declared.Sharding.{Sharding}
 use Rattle.sharding.specs.Specification.{isMesh}
-use Rattle.mesh_manifest.specs.manifest.Soundness.{Sound}
+use Rattle.mesh_manifest.specs.sound.Soundness.{Sound}
 use Rattle.mesh_manifest.specs.nodes.Nodes.{fragmentsLength}
 use Rattle.shard.specs.index.Index.{idSteps, startSteps, sizes, idAt, startAt, chunkAt}
 

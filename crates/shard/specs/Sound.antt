@@ -11,7 +11,7 @@ use Rattle.sharding.specs.declared.Sharding.{Sharding}
 use Rattle.sharding.specs.Specification.{isMesh, allowed, minishardCount, shardCount, noSuchShard}
 use Rattle.sharding.specs.placement.Place.{shardOf, minishardOf}
 use Rattle.shard.specs.index.Index.{entryStart, entryEnd, entryCount, idSteps, startSteps, sizes, idAt, startAt, endAt, chunkAt, mostShardBytes}
-use Rattle.mesh_manifest.specs.manifest.Soundness.{Sound}
+use Rattle.mesh_manifest.specs.sound.Soundness.{Sound}
 use Rattle.mesh_manifest.specs.nodes.Nodes.{fragmentsLength}
 use Rattle.shard.specs.Checks.{minishardChecks}
 use Rattle.shard.specs.File.{indexLength, indexPart, dataPart, fileChecks}

@@ -1,4 +1,5 @@
 // The parts of the judge: tests of one entry, of one id and of a mesh, and the faults that they tell.
+
 ghost use mathlib.Core.Path.{_≡_};
 ghost use mathlib.Core.Bool.{true};
 ghost use Prim.Native.Nat.{_+_, _*_, _<_};
@@ -10,7 +11,7 @@ use crate::ShardFault;
 use crate::index::Fault;
 use crate::manifests::manifest_fault;
 use sharding::Sharding;
-use sharding::inner::is_mesh;
+use sharding::limits::is_mesh;
 use sharding::placement::inner::place;
 
 // Test 10 of one id.

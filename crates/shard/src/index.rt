@@ -1,9 +1,10 @@
 // The entries of the shard index, and what a fault of a minishard is.
+
 ghost use mathlib.Core.Path.{_≡_};
 ghost use Prim.Native.Nat.{_+_, _*_, _<_, _≤_};
 ghost use lib.ListN.{length};
 ghost use Rattle.shard.specs.index.Index.{entryStart, entryEnd};
-use endian::inner::read_u64;
+use endian::read_u64;
 
 // The first test that a minishard fails, with the byte position, counted from the beginning of the shard, of what fails it;
 // number 0 where it is sound.

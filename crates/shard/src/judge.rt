@@ -1,4 +1,5 @@
 // The judge: tests 7 to 11, for a mesh also 15 to 17 and 21, of minishards in number order, up to the first fault.
+
 ghost use mathlib.Core.Path.{_≡_};
 ghost use mathlib.Core.Bool.{true};
 ghost use Prim.Native.Nat.{_-_, _<_, _≤_};
@@ -16,8 +17,8 @@ use crate::faults::row_fault;
 use crate::index::Fault;
 use crate::index::entry_end;
 use crate::index::entry_start;
-use duplicate_ids::twice::inner::first_twice;
-use endian::inner::read_u64;
+use duplicate_ids::first_twice;
+use endian::read_u64;
 use sharding::Sharding;
 
 // Of the minishards from `from` up to `to`, end excluded, the first with a fault. A minishard's tests 9, 10 and 11 run over

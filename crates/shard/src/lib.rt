@@ -1,10 +1,12 @@
-// A shard: its layout, the leads of its chunks, its faults, what the whole-shard check answers.
+// A shard: its layout, the leads of its chunks, the judge of its minishards, the whole-shard check.
+pub mod checking;
 pub mod faults;
 pub mod index;
-pub mod inner;
-pub mod inspect;
 pub mod judge;
+pub mod lengths;
 pub mod manifests;
+
+pub use checking::check;
 
 // The fault of several minishards: of the first that has one.
 pub struct ShardFault {

@@ -1,4 +1,5 @@
 // The manifests that a mesh minishard lists: 15, 16 and 17 of each, and 21 where its fragments would start before the index end.
+
 ghost use mathlib.Core.Path.{_≡_};
 ghost use Prim.Native.Nat.{_+_, _≤_};
 ghost use lib.ListN.{length, take, drop};
@@ -8,8 +9,8 @@ ghost use Rattle.shard.specs.index.Reading.{Readable};
 ghost use Rattle.shard.specs.manifests.Each.{leastOf, lesser};
 ghost use Rattle.shard.specs.manifests.Mesh.{manifestTests, manifestNumber};
 use crate::index::Fault;
-use endian::inner::read_u64;
-use mesh_manifest::manifestread::inner::judge;
+use endian::read_u64;
+use mesh_manifest::judge::judge;
 use mesh_manifest::nodes::inner::fragments_length;
 
 // The first test that an entry fails, and the first entry that fails it; number 0 where all pass.

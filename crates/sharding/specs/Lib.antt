@@ -1,5 +1,5 @@
 -- The sharding specification.
 pub mod placement
-pub mod manyplaces
+pub mod batch
 pub mod Specification
 pub mod Before

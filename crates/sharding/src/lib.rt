@@ -1,7 +1,10 @@
-// The sharding specification, its limits, and the numbers that it gives.
-pub mod inner;
-pub mod manyplaces;
+// The sharding specification, its limits, and the place that it gives to an id: shard and minishard.
+pub mod batch;
+pub mod limits;
 pub mod placement;
+
+pub use batch::places_of;
+pub use placement::place_of;
 
 // The numbers as they stand in a card: hash 0 is identity, 1 is murmur; kind 1 is mesh, and 0 is volume, for which a card has
 // no field. Any values; the entry points judge them.

@@ -4,7 +4,7 @@ pub mod inner;
 ghost use mathlib.Core.Path.{_≡_};
 ghost use Rattle.sharding.specs.placement.Place.{placeAnswer};
 use crate::Sharding;
-use crate::inner::is_allowed;
+use crate::limits::is_allowed;
 
 pub struct Place {
     pub shard: u64,

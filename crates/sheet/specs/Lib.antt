@@ -1,3 +1,3 @@
--- A module for each idea.
-pub mod inputend
-pub mod turns
+-- What the program `sheet` makes of what it reads.
+pub mod input_end
+pub mod one_shard

@@ -1,14 +1,14 @@
 // Reads shards from standard input and prints the holdings sheet over them: docs/SHEET.md fixes the input and the lines.
-pub mod inputend;
-pub mod turns;
+pub mod input_end;
+pub mod one_shard;
 
 ghost use mathlib.Core.Path.{_≡_};
 ghost use Prim.Native.Nat.{_≤_};
 ghost use lib.ListN.{length};
-ghost use Rattle.holdings.specs.shardsheet.Sheet.{empty};
-ghost use Rattle.sheet.specs.turns.Turns.{headerBytes, mostBytes, TurnedBy, Turned, Told, Next, Finished};
-use crate::turns::Turn;
-use holdings::shardsheet::Sheet;
+ghost use Rattle.holdings.specs.one_shard.Sheet.{empty};
+ghost use Rattle.sheet.specs.one_shard.Turns.{headerBytes, mostBytes, TurnedBy, Turned, Told, Next, Finished};
+use crate::one_shard::Turn;
+use holdings::one_shard::Sheet;
 use libc::STDIN_FILENO;
 use libc::STDOUT_FILENO;
 
@@ -20,7 +20,7 @@ fn read_body(sheet: Sheet, head: &[u8], body: &mut [u8]) -> Turn
     ensures { λ r. ⌜ TurnedBy sheet (now (head .entry)) (now (body .exit)) r ⌝ }
 {
     let got = io::read_full(STDIN_FILENO, body);
-    crate::turns::turned(sheet, head, &body[..got])
+    crate::one_shard::turned(sheet, head, &body[..got])
 }
 
 // The next shard: its header, and as many bytes as that says.
@@ -29,7 +29,7 @@ fn read_next(sheet: Sheet, head: &mut [u8], body: &mut [u8]) -> Turn
     ensures { λ r. ⌜ Turned sheet (now (head .exit)) (now (body .entry)) (now (body .exit)) r ⌝ }
 {
     let got = io::read_full(STDIN_FILENO, head);
-    let n = crate::turns::body_length(&head[..got]);
+    let n = crate::one_shard::body_length(&head[..got]);
     read_body(sheet, &head[..got], &mut body[..n])
 }
 
@@ -37,11 +37,11 @@ fn read_next(sheet: Sheet, head: &mut [u8], body: &mut [u8]) -> Turn
 fn tell(turn: Turn) -> Turn
     ensures { λ r. ⌜ Told turn r ⌝ }
 {
-    if !crate::turns::stops_short(turn) {
+    if !crate::one_shard::stops_short(turn) {
         return turn;
     }
     let mut one = [0u8; 1];
-    crate::turns::told(turn, libc::read(STDIN_FILENO, &mut one))
+    crate::one_shard::told(turn, libc::read(STDIN_FILENO, &mut one))
 }
 
 fn next(sheet: Sheet, head: &mut [u8; 17], body: &mut [u8; 65536]) -> Turn
@@ -83,10 +83,10 @@ fn add_all() -> Turn
     let mut body = [0u8; 65536];
     let mut at = Turn {
         sheet: empty(),
-        ending: crate::turns::MORE,
+        ending: crate::one_shard::MORE,
     };
     let mut left = u64::MAX;
-    while left > 0 && at.ending == crate::turns::MORE {
+    while left > 0 && at.ending == crate::one_shard::MORE {
         at = next(at.sheet, &mut head, &mut body);
         left -= 1;
     }
@@ -123,16 +123,16 @@ fn print_sheet(sheet: Sheet) {
 
 // Why the reading stopped, where that was not the input's end.
 fn print_ending(ending: u8) {
-    if ending == crate::turns::CUT {
+    if ending == crate::one_shard::CUT {
         io::write_all(STDOUT_FILENO, b"cut\n");
     }
-    if ending == crate::turns::LONG {
+    if ending == crate::one_shard::LONG {
         io::write_all(STDOUT_FILENO, b"too long\n");
     }
-    if ending == crate::turns::FULL {
+    if ending == crate::one_shard::FULL {
         io::write_all(STDOUT_FILENO, b"refused 27\n");
     }
-    if ending == crate::turns::UNREADABLE {
+    if ending == crate::one_shard::UNREADABLE {
         io::write_all(STDOUT_FILENO, b"unreadable\n");
     }
 }

@@ -1,5 +1,5 @@
--- A module for each idea.
-pub mod heldrange
+-- The two-file edition: answers as of the joined file, with 23 before them; byte ranges.
+pub mod held_range
 pub mod seam
-pub mod pair
-pub mod pairform
+pub mod Answers
+pub mod form

@@ -3,13 +3,13 @@ pub mod inner;
 
 ghost use mathlib.Core.Path.{_≡_};
 ghost use Prim.Native.Nat.{_+_};
-ghost use Rattle.split_shard.specs.heldrange.Held.{either, rangeStart, rangeBytes};
+ghost use Rattle.split_shard.specs.held_range.Held.{either, rangeStart, rangeBytes};
 ghost use Rattle.split_shard.specs.seam.Range.{rangeAnswer};
-use crate::heldrange::RangeAnswer;
-use crate::heldrange::inner::held;
-use crate::heldrange::inner::held_part;
+use crate::held_range::RangeAnswer;
+use crate::held_range::inner::held;
+use crate::held_range::inner::held_part;
 use sharding::Sharding;
-use sharding::inner::is_allowed;
+use sharding::limits::is_allowed;
 
 // Where the bytes of the joined file from `start` up to `end`, end excluded, are, or the refusal.
 pub fn range(spec: Sharding, index: &[u8], data: &[u8], start: u64, end: u64) -> RangeAnswer

@@ -22,29 +22,29 @@ use Rattle.cover.specs.overlap.Cover.{coverChecks, coverAnswer, coverLeft}
 use Rattle.sharding.specs.declared.Sharding.{Sharding}
 use Rattle.sharding.specs.declared.placement.PlaceAnswer.the-variants as P
 use Rattle.sharding.specs.placement.Place.{placeChecks, placeAnswer}
-use Rattle.sharding.specs.manyplaces.Batch.{placesChecks, placesAnswer, shardsLeft, minishardsLeft}
-use Rattle.names.specs.chunknames.Chunks.{chunkNameChecks, chunkNameAnswer, chunkNameLeft}
+use Rattle.sharding.specs.batch.Batch.{placesChecks, placesAnswer, shardsLeft, minishardsLeft}
+use Rattle.names.specs.chunks.Chunks.{chunkNameChecks, chunkNameAnswer, chunkNameLeft}
 use Rattle.names.specs.Shards.{fileNameChecks, fileNameAnswer, fileNameLeft}
 use Rattle.names.specs.declared.FileKind.{FileKind}
 use Rattle.card.specs.declared.Card.{Card}
 use Rattle.card.specs.declared.CardAnswer.the-variants as D
 use Rattle.card.specs.Answers.{recordChecks, readChecks, readAnswer, writeChecks, writeAnswer, writeLeft}
-use Rattle.mesh_manifest.specs.declared.manifest.ManifestAnswer.the-variants as M
-use Rattle.mesh_manifest.specs.declared.manifestread.HeaderAnswer.the-variants as H
-use Rattle.mesh_manifest.specs.declared.manifestread.Field.the-variants as F
-use Rattle.mesh_manifest.specs.layout.Layout.{levelsOf, isReal, itemAt}
+use Rattle.mesh_manifest.specs.declared.sound.ManifestAnswer.the-variants as M
+use Rattle.mesh_manifest.specs.declared.HeaderAnswer.the-variants as H
+use Rattle.mesh_manifest.specs.declared.Field.the-variants as F
+use Rattle.mesh_manifest.specs.layout.Layout.{levelsOf, isReal, manifestItem}
 use Rattle.mesh_manifest.specs.layout.Bits.{realAt}
-use Rattle.mesh_manifest.specs.manifest.Verdict.{manifestChecks, manifestAnswer}
-use Rattle.mesh_manifest.specs.manifestread.Fields.{headerAnswer, fieldAt, fieldChecks, fieldAnswer}
+use Rattle.mesh_manifest.specs.sound.Verdict.{manifestChecks, manifestAnswer}
+use Rattle.mesh_manifest.specs.Fields.{headerAnswer, fieldAt, fieldChecks, fieldAnswer}
 use Rattle.mesh_manifest.specs.declared.nodes.NodeAnswer.the-variants as O
 use Rattle.mesh_manifest.specs.nodes.Nodes.{nodeChecks, nodeAnswer}
-use Rattle.mesh_manifest.specs.levelnodes.Level.{nodesChecks, nodesAnswer, nodesLeft}
+use Rattle.mesh_manifest.specs.level.Level.{nodesChecks, nodesAnswer, nodesLeft}
 use Rattle.mesh_manifest.specs.declared.corners.CornersAnswer.the-variants as Cs
 use Rattle.mesh_manifest.specs.corners.Boxes.{boxChecks, cornersChecks, cornersAnswer}
-use Rattle.compressed_segmentation.specs.declared.segmentation.Shape.{Shape}
-use Rattle.compressed_segmentation.specs.declared.segmentation.LabelAnswer.the-variants as E
-use Rattle.compressed_segmentation.specs.segmentation.Labels.{labelChecks, labelAnswer}
-use Rattle.compressed_segmentation.specs.rawform.Raw.{unpackChecks, unpackAnswer, unpackLeft, lengthChecks, lengthAnswer}
+use Rattle.compressed_segmentation.specs.declared.Shape.{Shape}
+use Rattle.compressed_segmentation.specs.declared.LabelAnswer.the-variants as E
+use Rattle.compressed_segmentation.specs.Labels.{labelChecks, labelAnswer}
+use Rattle.compressed_segmentation.specs.raw_form.Raw.{unpackChecks, unpackAnswer, unpackLeft, unpackedLengthChecks, lengthAnswer}
 
 -- ---- grids, places and names
 
@@ -134,7 +134,7 @@ field-given : (s : List ℕ) (i k : ℕ) → fieldAt s i ≡ F.Refused k → _�
 unfolding fieldAt
 field-given s i k = go (isReal (levelsOf s) i)
   where
-    go : (b : Bool) → pick b (F.Real (realAt s i)) (F.Whole (itemAt s i)) ≡ F.Refused k → _≡_ {A = ℕ} 0 1
+    go : (b : Bool) → pick b (F.Real (realAt s i)) (F.Whole (manifestItem s i)) ≡ F.Refused k → _≡_ {A = ℕ} 0 1
     go true e = cc
     go false e = cc
 
@@ -177,9 +177,9 @@ pub unpack-refuses : (s : List ℕ) (sh : Shape) (out : List ℕ) → Refuses (u
 unfolding unpackAnswer unpackChecks
 unpack-refuses s sh out = refuses Refused (λ j k e. cc) (unpackChecks s sh out) _ refl (λ k e. cc)
 
-pub unpacked-length-refuses : (sh : Shape) → Refuses (lengthAnswer sh) Refused (lengthChecks sh)
-unfolding lengthAnswer lengthChecks
-unpacked-length-refuses sh = refuses Refused (λ j k e. cc) (lengthChecks sh) _ refl (λ k e. cc)
+pub unpacked-length-refuses : (sh : Shape) → Refuses (lengthAnswer sh) Refused (unpackedLengthChecks sh)
+unfolding lengthAnswer unpackedLengthChecks
+unpacked-length-refuses sh = refuses Refused (λ j k e. cc) (unpackedLengthChecks sh) _ refl (λ k e. cc)
 
 pub unpack-kept : (s : List ℕ) (sh : Shape) (out : List ℕ) (k : ℕ) → unpackAnswer s sh out ≡ Refused k → unpackLeft s sh out ≡ out
 unfolding unpackAnswer unpackLeft

@@ -22,26 +22,26 @@ use Rattle.shard.proofs.Whole.{check-refuses, check-names}
 use Rattle.unlisted.specs.declared.UnlistedAnswer.the-variants as U
 use Rattle.unlisted.specs.Answers.{unlistedAnswer}
 use Rattle.unlisted.proofs.Counted.{unlisted-refuses}
-use Rattle.lookup.specs.declared.idsearch.LookupAnswer.the-variants as L
-use Rattle.lookup.specs.idsearch.Search.{unlisted}
-use Rattle.lookup.specs.chosen.Chosen.{chosenChecks}
+use Rattle.lookup.specs.declared.id_search.LookupAnswer.the-variants as L
+use Rattle.lookup.specs.id_search.Search.{notListed}
+use Rattle.lookup.specs.chosen_minishard.Chosen.{chosenChecks}
 use Rattle.lookup.specs.Find.{lookupChecks, lookupAnswer}
 use Rattle.lookup.proofs.Refused.{lookup-refuses}
-use Rattle.lookup.specs.fragment.Fragment.{fragmentChecks, fragmentAnswer}
-use Rattle.lookup.proofs.fragment.Refused.{fragment-refuses}
-use Rattle.lookup.specs.declared.listing.CountAnswer.the-variants as N
-use Rattle.lookup.specs.listing.Listing.{countChecks, countAnswer, listingChecks, listingAnswer}
-use Rattle.lookup.proofs.listing.Refused.{count-refuses, listing-refuses}
-use Rattle.settle.specs.declared.settleanswers.SettleAnswer.the-variants as S
-use Rattle.settle.specs.settleanswers.Answers.{unlistedCheck, lengthCheck, lengthChecks, lengthAnswer, settleCheck, settleChecks, settleAnswer}
+use Rattle.lookup.specs.fragments.Fragment.{fragmentChecks, fragmentAnswer}
+use Rattle.lookup.proofs.fragments.Refused.{fragment-refuses}
+use Rattle.lookup.specs.declared.listings.CountAnswer.the-variants as N
+use Rattle.lookup.specs.listings.Listing.{countChecks, countAnswer, listingChecks, listingAnswer}
+use Rattle.lookup.proofs.listings.Refused.{count-refuses, listing-refuses}
+use Rattle.settle.specs.declared.answers.SettleAnswer.the-variants as S
+use Rattle.settle.specs.answers.Answers.{unlistedCheck, lengthCheck, settledLengthChecks, lengthAnswer, settleCheck, settleChecks, settleAnswer}
 use Rattle.settle.proofs.Refused.{length-refuses, settle-refuses}
 use Rattle.split_shard.specs.seam.Pair.{pairChecks}
-use Rattle.split_shard.specs.pair.Answers.{otherShard, pairCheck, pairLookup, pairFragment}
-use Rattle.split_shard.proofs.pair.Laws.{check-refuses-pair, lookup-refuses-pair, fragment-refuses-pair}
-use Rattle.split_shard.specs.pairform.Answers.{noMinishard, pairCount, pairListing, pairUnlisted, pairLength, pairSettle}
-use Rattle.split_shard.proofs.pairform.Laws.{count-refuses-pair, listing-refuses-pair, unlisted-refuses-pair, length-refuses-pair, settle-refuses-pair}
-use Rattle.holdings.specs.declared.measure.MeasureAnswer.the-variants as Ms
-use Rattle.holdings.specs.measure.Answers.{measureAnswer, pairMeasure}
+use Rattle.split_shard.specs.Answers.{otherShard, pairCheck, pairLookup, pairFragment}
+use Rattle.split_shard.proofs.Laws.{check-refuses-pair, lookup-refuses-pair, fragment-refuses-pair}
+use Rattle.split_shard.specs.form.Answers.{noMinishard, pairCount, pairListing, pairUnlisted, pairLength, pairSettle}
+use Rattle.split_shard.proofs.form.Laws.{count-refuses-pair, listing-refuses-pair, unlisted-refuses-pair, length-refuses-pair, settle-refuses-pair}
+use Rattle.holdings.specs.declared.measures.MeasureAnswer.the-variants as Ms
+use Rattle.holdings.specs.measures.Answers.{measureAnswer, pairMeasure}
 use Rattle.theorems.specs.Demands.{measureChecks}
 use Rattle.theorems.specs.Orders.{isPlaced, Carries}
 use Rattle.theorems.proofs.Measures.{measure-refuses, measure-names, check-names-pair, measure-names-pair, measure-refuses-pair}
@@ -128,7 +128,7 @@ module _ (spec : Sharding) (shard : ℕ) (file : List ℕ) where
   marked-lookup id =
       let index = indexPart spec file in
       let m = minishardOf spec id in
-      let last = unlisted (dataPart spec file) (entryStart index m) (entryCount (entryStart index m) (entryEnd index m)) id ∷ [] in
+      let last = notListed (dataPart spec file) (entryStart index m) (entryCount (entryStart index m) (entryEnd index m)) id ∷ [] in
       let g : Marked last = unfold Marked in (refl, tt) in
       marked-both (fileChecks spec (otherShard spec shard id) file) _ (marked-file spec (otherShard spec shard id) file)
       (marked-both (minishardChecks spec shard index (dataPart spec file) m) last (marked-minishard spec shard index (dataPart spec file) m) g)
@@ -145,8 +145,8 @@ module _ (spec : Sharding) (shard : ℕ) (file : List ℕ) where
   unfolding listingChecks
   marked-listing m out = marked-both (countChecks spec shard file m) _ (marked-count m) (unfold Marked in (refl, tt))
 
-  marked-length : (dropping : Bool) → Marked (lengthChecks spec shard file dropping)
-  unfolding lengthChecks unlistedCheck lengthCheck
+  marked-length : (dropping : Bool) → Marked (settledLengthChecks spec shard file dropping)
+  unfolding settledLengthChecks unlistedCheck lengthCheck
   marked-length dropping = marked-both (shardChecks spec shard file) _ marked-shard (unfold Marked in (refl, (refl, tt)))
 
   marked-settle : (dropping : Bool) (out : List ℕ) → Marked (settleChecks spec shard file dropping out)
@@ -205,7 +205,7 @@ module _ (spec : Sharding) (shard : ℕ) (file : List ℕ) where
   unlisted-carries = carried (shardChecks spec shard file) (marked-shard spec shard file) (unlisted-refuses spec shard file)
 
   pub length-carries : (dropping : Bool) → Carries (lengthAnswer spec shard file dropping) S.Refused S.Faulty
-  length-carries dropping = carried (lengthChecks spec shard file dropping) (marked-length spec shard file dropping) (length-refuses spec shard file dropping)
+  length-carries dropping = carried (settledLengthChecks spec shard file dropping) (marked-length spec shard file dropping) (length-refuses spec shard file dropping)
 
   pub settle-carries : (dropping : Bool) (out : List ℕ) → Carries (settleAnswer spec shard file dropping out) S.Refused S.Faulty
   settle-carries dropping out = carried (settleChecks spec shard file dropping out) (marked-settle spec shard file dropping out) (settle-refuses spec shard file dropping out)
@@ -244,7 +244,7 @@ module _ (spec : Sharding) (shard : ℕ) (index d : List ℕ) where
   unlisted-pair-carries = seamed (noSuchShard spec shard) (shardChecks spec shard (index ++ d)) (marked-shard spec shard (index ++ d)) (unlisted-refuses-pair spec shard index d)
 
   pub length-pair-carries : (dropping : Bool) → Carries (pairLength spec shard index d dropping) S.Refused S.Faulty
-  length-pair-carries dropping = seamed (noSuchShard spec shard) (lengthChecks spec shard (index ++ d) dropping) (marked-length spec shard (index ++ d) dropping) (length-refuses-pair spec shard index d dropping)
+  length-pair-carries dropping = seamed (noSuchShard spec shard) (settledLengthChecks spec shard (index ++ d) dropping) (marked-length spec shard (index ++ d) dropping) (length-refuses-pair spec shard index d dropping)
 
   pub settle-pair-carries : (dropping : Bool) (out : List ℕ) → Carries (pairSettle spec shard index d dropping out) S.Refused S.Faulty
   settle-pair-carries dropping out = seamed (noSuchShard spec shard) (settleChecks spec shard (index ++ d) dropping out) (marked-settle spec shard (index ++ d) dropping out) (settle-refuses-pair spec shard index d dropping out)

@@ -19,14 +19,14 @@ use Rattle.shard.specs.Items.{Item, itemOf, itemAt}
 use Rattle.shard.specs.Lists.{ListsItem}
 use Rattle.shard.specs.Sound.{SoundMinishard, SoundShard}
 use Rattle.unlisted.specs.ranges.Ranges.{countIn}
-use Rattle.settled_form.specs.form.Sorted.{notAbove, insertBy, sortBy, Member, Distinct}
-use Rattle.settled_form.specs.form.Content.{itemsFrom, itemsAt, itemsOf, idOf}
-use Rattle.settled_form.proofs.form.Sorting.{length-sort, sort-same}
-use Rattle.settled_form.proofs.form.Measures.{length-items}
-use Rattle.settled_form.proofs.form.Stored.{item-member, member-item}
-use Rattle.settled_form.proofs.form.SoundContent.{sound-listed}
-use Rattle.holdings.specs.chunksums.Totals.{sizesIn}
-use Rattle.holdings.specs.measure.Measures.{chunkCount, chunkBytes, measureOf, fileMeasure}
+use Rattle.settled_form.specs.Sorted.{notAbove, insertBy, sortBy, Member, Distinct}
+use Rattle.settled_form.specs.Content.{itemsFrom, itemsAt, itemsOf, idOf}
+use Rattle.settled_form.proofs.Sorting.{length-sort, sort-same}
+use Rattle.settled_form.proofs.Measures.{length-items}
+use Rattle.settled_form.proofs.Stored.{item-member, member-item}
+use Rattle.settled_form.proofs.SoundContent.{sound-listed}
+use Rattle.holdings.specs.chunk_sums.Totals.{sizesIn}
+use Rattle.holdings.specs.measures.Measures.{chunkCount, chunkBytes, measureOf, fileMeasure}
 use Rattle.theorems.specs.Holdings.{ListsThese, bodyBytes}
 
 -- ---- sums from the left

@@ -17,23 +17,23 @@ use Rattle.unlisted.proofs.Counted.{unlisted-refuses}
 use Rattle.lookup.proofs.Refused.{lookup-refuses}
 use Rattle.lookup.proofs.Retrieval.{listed-chunk-is-handed-out, twelve-means-not-listed}
 use Rattle.lookup.proofs.Depends.{lookup-depends-only-on-these}
-use Rattle.lookup.proofs.fragment.Refused.{fragment-refuses}
-use Rattle.lookup.proofs.fragment.Retrieval.{listed-fragment-is-handed-out, lead-length, fragments-are-the-lead}
-use Rattle.lookup.proofs.fragment.Lacking.{eighteen-means-no-fragment, others-are-the-lookups}
-use Rattle.lookup.proofs.fragment.Depends.{fragment-depends-only-on-these}
-use Rattle.lookup.proofs.listing.Refused.{count-refuses, listing-refuses, listing-kept}
-use Rattle.lookup.proofs.listing.Listed.{listing-says-what-is-listed}
-use Rattle.settled_form.proofs.form.Demand3.{file-form-length, demand-3-one-form, demand-3-same, demand-3-form-passes, demand-3-form-lists}
-use Rattle.settle.specs.declared.settleanswers.SettleAnswer.the-variants.{Length}
+use Rattle.lookup.proofs.fragments.Refused.{fragment-refuses}
+use Rattle.lookup.proofs.fragments.Retrieval.{listed-fragment-is-handed-out, lead-length, fragments-are-the-lead}
+use Rattle.lookup.proofs.fragments.Lacking.{eighteen-means-no-fragment, others-are-the-lookups}
+use Rattle.lookup.proofs.fragments.Depends.{fragment-depends-only-on-these}
+use Rattle.lookup.proofs.listings.Refused.{count-refuses, listing-refuses, listing-kept}
+use Rattle.lookup.proofs.listings.Listed.{listing-says-what-is-listed}
+use Rattle.settled_form.proofs.Demand3.{file-form-length, demand-3-one-form, demand-3-same, demand-3-form-passes, demand-3-form-lists}
+use Rattle.settle.specs.declared.answers.SettleAnswer.the-variants.{Length}
 use Rattle.settle.proofs.Refused.{length-refuses, settle-refuses, settle-kept}
 use Rattle.settle.proofs.Demand3.{demand-3-form-settles, demand-3-length, demand-3-length-refused, demand-3-refused, demand-3-written}
 use Rattle.split_shard.proofs.seam.Ranges.{range-refuses}
-use Rattle.split_shard.proofs.pair.Laws.{check-refuses-pair, lookup-refuses-pair, fragment-refuses-pair}
-use Rattle.split_shard.proofs.pairform.Laws.{count-refuses-pair, listing-refuses-pair, listing-kept-pair, unlisted-refuses-pair, length-refuses-pair, settle-refuses-pair, settle-kept-pair}
+use Rattle.split_shard.proofs.Laws.{check-refuses-pair, lookup-refuses-pair, fragment-refuses-pair}
+use Rattle.split_shard.proofs.form.Laws.{count-refuses-pair, listing-refuses-pair, listing-kept-pair, unlisted-refuses-pair, length-refuses-pair, settle-refuses-pair, settle-kept-pair}
 use Rattle.intake.proofs.Refused.{open-refuses, open-keeps, announce-refuses, announce-keeps, part-refuses, part-keeps, close-refuses, close-keeps}
 use Rattle.card.proofs.Meaning.{one-meaning-one-card}
 use Rattle.info.proofs.document.Meaning.{meaning}
-use Rattle.mesh_manifest.proofs.levelnodes.Each.{node-numbers}
+use Rattle.mesh_manifest.proofs.level.Each.{node-numbers}
 use Rattle.theorems.specs.Demands.{Demand1, Demand2, Ready, Demand3}
 use Rattle.theorems.proofs.Entry.{entry-decides}
 use Rattle.theorems.proofs.Measures.{measure-refuses, measure-names, check-number-pair, check-passes-pair, check-names-pair, measure-names-pair, measure-refuses-pair, add-refuses, add-pair-refuses, join-refuses}

@@ -21,10 +21,10 @@ use Rattle.shard.specs.manifests.Mesh.{manifestTests}
 use Rattle.shard.specs.Faults.{badEntry, badLength, entryTests}
 use Rattle.shard.specs.Checks.{entryChecks, minishardChecks}
 use Rattle.shard.specs.File.{indexLength, indexPart, dataPart, badFileLength, fileChecks}
-use Rattle.split_shard.specs.pair.Answers.{otherShard}
-use Rattle.lookup.specs.declared.idsearch.LookupAnswer.the-variants as L
-use Rattle.lookup.specs.idsearch.Search.{unlisted}
-use Rattle.lookup.specs.chosen.Chosen.{chosenChecks}
+use Rattle.split_shard.specs.Answers.{otherShard}
+use Rattle.lookup.specs.declared.id_search.LookupAnswer.the-variants as L
+use Rattle.lookup.specs.id_search.Search.{notListed}
+use Rattle.lookup.specs.chosen_minishard.Chosen.{chosenChecks}
 use Rattle.lookup.specs.Find.{lookupChecks, lookupAnswer}
 use Rattle.lookup.specs.Lookups.{entryBytes}
 use Rattle.lookup.proofs.Refused.{lookup-refuses}
@@ -92,7 +92,7 @@ module _ (spec : Sharding) (shard id : ℕ) where
   rest a =
       let s = entryStart (indexPart spec a) m in
       let n = entryCount s (entryEnd (indexPart spec a) m) in
-      entryChecks (length (indexPart spec a) + s) n (entryTests spec shard m (dataPart spec a) s n) ++ (unlisted (dataPart spec a) s n id ∷ [])
+      entryChecks (length (indexPart spec a) + s) n (entryTests spec shard m (dataPart spec a) s n) ++ (notListed (dataPart spec a) s n id ∷ [])
 
   abbrev five : List ℕ → List Check → List Check
   five a cs =
@@ -108,7 +108,7 @@ module _ (spec : Sharding) (shard id : ℕ) where
   late-rest a =
       let s = entryStart (indexPart spec a) m in
       let n = entryCount s (entryEnd (indexPart spec a) m) in
-      late-entries (length (indexPart spec a) + s) n (entryTests spec shard m (dataPart spec a) s n) (unlisted (dataPart spec a) s n id ∷ []) (late-tests spec shard m (dataPart spec a) s n) (unfold Late in (omega arith, tt))
+      late-entries (length (indexPart spec a) + s) n (entryTests spec shard m (dataPart spec a) s n) (notListed (dataPart spec a) s n id ∷ []) (late-tests spec shard m (dataPart spec a) s n) (unfold Late in (omega arith, tt))
 
   module _ (a b : List ℕ) (size : length a ≡ length b) (entry : entryBytes a m ≡ entryBytes b m) where
     same-number : (j : ℕ) → j + 8 ≤ 16 → leAt 8 (indexPart spec a) (16 * m + j) ≡ leAt 8 (indexPart spec b) (16 * m + j)

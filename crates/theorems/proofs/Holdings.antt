@@ -13,15 +13,15 @@ use Rattle.refusal.proofs.Tests.{neither}
 use Rattle.duplicate_ids.proofs.ids.Cases.{eq-or-not}
 use Rattle.shard.specs.declared.CheckAnswer.{CheckAnswer}
 use Rattle.shard.specs.declared.CheckAnswer.the-variants.{Sound, Refused, Faulty}
-use Rattle.holdings.specs.declared.measure.Counts.{Counts}
-use Rattle.holdings.specs.chunksums.Totals.{mostTotal, passes}
-use Rattle.holdings.specs.declared.shardsheet.Sheet.{Sheet}
+use Rattle.holdings.specs.declared.measures.Counts.{Counts}
+use Rattle.holdings.specs.chunk_sums.Totals.{mostTotal, passes}
+use Rattle.holdings.specs.declared.one_shard.Sheet.{Sheet}
 use Rattle.holdings.specs.declared.SheetAnswer.{SheetAnswer}
 use Rattle.holdings.specs.declared.SheetAnswer.the-variants.{Total, Refused as SheetRefused}
-use Rattle.holdings.specs.shardsheet.Sheet.{rows, empty, tally, soundSheet, refusedSheet, shardSheet, numbers, isAmong, hasRow}
-use Rattle.holdings.specs.sheettotals.Totals.{anyPasses, both}
+use Rattle.holdings.specs.one_shard.Sheet.{rows, empty, tally, soundSheet, refusedSheet, shardSheet, numbers, isAmong, hasRow}
+use Rattle.holdings.specs.passing.Totals.{anyPasses, both}
 use Rattle.holdings.specs.Answers.{joinAnswer, sheetOf, addAnswer, pairSheet, pairAddAnswer}
-use Rattle.holdings.proofs.shardsheet.Numbers.{Told, check-told, pair-told}
+use Rattle.holdings.proofs.one_shard.Numbers.{Told, check-told, pair-told}
 use Rattle.holdings.proofs.Answered.{join-pick}
 use Rattle.coronagamba.specs.Sheets as L
 use Rattle.theorems.proofs.Counted.{listed-these, chunks-listed, bytes-listed}

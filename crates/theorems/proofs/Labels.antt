@@ -15,14 +15,14 @@ use Rattle.refusal.proofs.Refusing.{by-none}
 use Rattle.endian.specs.Little.{le, leAt}
 use Rattle.endian.specs.Range.{anyBelow}
 use Rattle.morton.specs.grid.Grid.{gridSize, hasZero}
-use Rattle.compressed_segmentation.specs.declared.segmentation.Shape.{Shape}
-use Rattle.compressed_segmentation.specs.segmentation.Words.{word, whole}
-use Rattle.compressed_segmentation.specs.segmentation.Layout.{noVoxels, outside, blockNumber, placeNumber, isWidth}
-use Rattle.compressed_segmentation.specs.segmentation.Labels.{valueIn, labelAt, otherWidth, cutOff, labelChecks, labelAnswer}
-use Rattle.compressed_segmentation.specs.packed.Voxels.{someRefused}
-use Rattle.compressed_segmentation.specs.rawform.Raw.{joined, rawVoxel, rawRow, rawLayer, rawChannel, rawForm, unpackChecks, unpackAnswer, unpackLeft, unpackedBytes, lengthChecks, lengthAnswer}
-use Rattle.compressed_segmentation.proofs.unpack.Laws.{equals-asking, refuses-by-voxels, length-none, refused-number}
-use Rattle.compressed_segmentation.proofs.rawform.Lengths.{form-bytes}
+use Rattle.compressed_segmentation.specs.declared.Shape.{Shape}
+use Rattle.compressed_segmentation.specs.Words.{word, whole}
+use Rattle.compressed_segmentation.specs.Layout.{noVoxels, outsideShape, blockNumber, placeNumber, isWidth}
+use Rattle.compressed_segmentation.specs.Labels.{valueIn, labelAt, otherWidth, cutOff, labelChecks, labelAnswer}
+use Rattle.compressed_segmentation.specs.block.Voxels.{someRefused}
+use Rattle.compressed_segmentation.specs.raw_form.Raw.{concatTo, rawVoxel, rawRow, rawLayer, rawChannel, rawForm, unpackChecks, unpackAnswer, unpackLeft, unpackedBytes, unpackedLengthChecks, lengthAnswer}
+use Rattle.compressed_segmentation.proofs.unpacking.Laws.{equals-asking, refuses-by-voxels, length-none, refused-number}
+use Rattle.compressed_segmentation.proofs.raw_form.Lengths.{form-bytes}
 use Rattle.theorems.specs.Labels.{workedShape, workedChunk, zeros, workedRaw, Order14}
 
 -- ---- lengths
@@ -46,13 +46,13 @@ number-13 false false false true e = (refl, refl)
 number-13 false false false false e = absurd (omega arith)
 
 module _ (sh : Shape) (n : ℕ) (e : lengthAnswer sh ≡ Length n) where
-  length-unrefused : firstNumber (lengthChecks sh) ≡ 0
+  length-unrefused : firstNumber (unpackedLengthChecks sh) ≡ 0
   unfolding lengthAnswer
   length-unrefused = length-none _ _ n e
 
   length-answered : lengthAnswer sh ≡ Length (unpackedBytes sh)
   unfolding lengthAnswer
-  length-answered = by-none Refused (lengthChecks sh) _ length-unrefused
+  length-answered = by-none Refused (unpackedLengthChecks sh) _ length-unrefused
 
   measured : n ≡ unpackedBytes sh
   measured = let f = length-answered in cc
@@ -76,13 +76,13 @@ module _ (s : List ℕ) (sh : Shape) (out : List ℕ) (n : ℕ) where
       ∙ rw (unpack-length e) (drop-append-seam (rawForm s sh) (drop (length (rawForm s sh)) out))
 
   unpack-told : length out < 2 ^ 64 → unpackAnswer s sh out ≡ Length n → lengthAnswer sh ≡ Length n
-  unfolding lengthAnswer lengthChecks firstNumber unpackChecks
+  unfolding lengthAnswer unpackedLengthChecks firstNumber unpackChecks
   unpack-told h e =
       let f = number-0 (noVoxels sh) (someRefused 29 s sh) (someRefused 28 s sh) (ltb (length out) (length (rawForm s sh))) (unpack-none e) in
       let g : length (rawForm s sh) ≤ length out = ltb-false (length out) (length (rawForm s sh)) (f .1) in
       let l = form-bytes sh s (f .0) in
       let q = unpack-length e in
-      by-none Refused (lengthChecks sh) _ (rw (f .0, lt-leb (2 ^ 64) (unpackedBytes sh) (omega arith))) ∙ ap Length (sym l ∙ sym q)
+      by-none Refused (unpackedLengthChecks sh) _ (rw (f .0, lt-leb (2 ^ 64) (unpackedBytes sh) (omega arith))) ∙ ap Length (sym l ∙ sym q)
 
   enough-room : lengthAnswer sh ≡ Length n → n ≤ length out → unpackAnswer s sh out ≡ Refused 13 → ⊥
   unfolding unpackAnswer firstNumber unpackChecks
@@ -95,11 +95,11 @@ module _ (s : List ℕ) (sh : Shape) (out : List ℕ) (n : ℕ) where
 -- ---- the worked chunk
 
 worked-answer : unpackAnswer workedChunk workedShape (zeros 32 (5 ∷ [])) ≡ Length 32
-unfolding firstNumber unless unpackAnswer unpackChecks someRefused anyBelow rawForm rawChannel rawLayer rawRow rawVoxel joined labelAnswer labelChecks labelAt otherWidth cutOff valueIn noVoxels hasZero outside blockNumber placeNumber gridSize isWidth word whole le leAt
+unfolding firstNumber unless unpackAnswer unpackChecks someRefused anyBelow rawForm rawChannel rawLayer rawRow rawVoxel concatTo labelAnswer labelChecks labelAt otherWidth cutOff valueIn noVoxels hasZero outsideShape blockNumber placeNumber gridSize isWidth word whole le leAt
 worked-answer = refl
 
 worked-left : unpackLeft workedChunk workedShape (zeros 32 (5 ∷ [])) ≡ workedRaw (5 ∷ [])
-unfolding firstNumber unless unpackLeft unpackChecks someRefused anyBelow rawForm rawChannel rawLayer rawRow rawVoxel joined labelAnswer labelChecks labelAt otherWidth cutOff valueIn noVoxels hasZero outside blockNumber placeNumber gridSize isWidth word whole le leAt
+unfolding firstNumber unless unpackLeft unpackChecks someRefused anyBelow rawForm rawChannel rawLayer rawRow rawVoxel concatTo labelAnswer labelChecks labelAt otherWidth cutOff valueIn noVoxels hasZero outsideShape blockNumber placeNumber gridSize isWidth word whole le leAt
 worked-left = refl
 
 pub order-14 : Order14

@@ -21,15 +21,15 @@ use Rattle.shard.proofs.Whole.{check-number, check-passes, check-names}
 use Rattle.split_shard.specs.seam.Pair.{pairChecks, pairAnswer}
 use Rattle.split_shard.proofs.seam.Pairs.{checks-seamed, seamed-front, seamed-back}
 use Rattle.split_shard.proofs.seam.Refusals.{pair-refuses-at}
-use Rattle.split_shard.specs.pair.Answers.{pairCheck}
-use Rattle.split_shard.proofs.pair.Laws.{check-as-joined}
-use Rattle.holdings.specs.declared.measure.MeasureAnswer.{MeasureAnswer}
-use Rattle.holdings.specs.declared.measure.MeasureAnswer.the-variants.{Sound, Refused, Faulty}
-use Rattle.holdings.specs.measure.Measures.{chunkBytes, fileMeasure}
-use Rattle.holdings.specs.chunksums.Totals.{passes}
-use Rattle.holdings.specs.measure.Answers.{measuredIn, afterVerdict, measureAnswer, pairMeasure}
-use Rattle.holdings.proofs.measure.Answered.{measure-faulty, measure-as-joined, named-fault}
-use Rattle.holdings.specs.declared.shardsheet.Sheet.{Sheet}
+use Rattle.split_shard.specs.Answers.{pairCheck}
+use Rattle.split_shard.proofs.Laws.{check-as-joined}
+use Rattle.holdings.specs.declared.measures.MeasureAnswer.{MeasureAnswer}
+use Rattle.holdings.specs.declared.measures.MeasureAnswer.the-variants.{Sound, Refused, Faulty}
+use Rattle.holdings.specs.measures.Measures.{chunkBytes, fileMeasure}
+use Rattle.holdings.specs.chunk_sums.Totals.{passes}
+use Rattle.holdings.specs.measures.Answers.{measuredIn, afterVerdict, measureAnswer, pairMeasure}
+use Rattle.holdings.proofs.measures.Answered.{measure-faulty, measure-as-joined, named-fault}
+use Rattle.holdings.specs.declared.one_shard.Sheet.{Sheet}
 use Rattle.holdings.specs.declared.SheetAnswer.the-variants as Sh
 use Rattle.holdings.specs.Answers.{joinAnswer, sheetOf, addAnswer, pairSheet, pairAddAnswer}
 use Rattle.theorems.specs.Demands.{measureChecks, faultyAt, joinChecks}

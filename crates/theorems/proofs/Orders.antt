@@ -15,34 +15,34 @@ use Rattle.sharding.specs.declared.Sharding.{Sharding}
 use Rattle.sharding.specs.Specification.{mesh, minishardBits, allowed, noSuchShard}
 use Rattle.sharding.specs.placement.Place.{hashedId, minishardOf, shardOf, placeChecks}
 use Rattle.shard.specs.Sound.{SoundMinishard}
-use Rattle.sharding.specs.manyplaces.Batch.{shardsOf, minishardsOf, placesChecks}
+use Rattle.sharding.specs.batch.Batch.{shardsOf, minishardsOf, placesChecks}
 use Rattle.sharding.specs.Before.{allowedBefore}
 use Rattle.sharding.proofs.Allowed.{allowed-within}
 use Rattle.sharding.proofs.Before.{same-before}
 use Rattle.names.specs.Shards.{fileNameChecks, shardName, shardNameChecks}
 use Rattle.shard.specs.File.{indexPart, dataPart, badFileLength, fileChecks, shardChecks, checkAnswer}
 use Rattle.lookup.specs.Find.{lookupChecks, lookupAnswer}
-use Rattle.split_shard.specs.pair.Answers.{otherShard}
+use Rattle.split_shard.specs.Answers.{otherShard}
 use Rattle.card.specs.declared.Card.{Card}
 use Rattle.card.specs.declared.CardAnswer.the-variants.{Says, Refused}
 use Rattle.card.specs.Layout.{head, field, oneByte, shardingBytes, volumeBytes, kindBytes, cardBytes}
 use Rattle.card.specs.Answers.{writeLeft}
-use Rattle.card.specs.oldcards.Before.{cardBytesBeforeMesh}
-use Rattle.card.proofs.oldcards.Before.{same-bytes, same-record, mesh-card-is-14, other-before-mesh, new-card-is-1, other-bytes-same, written-mesh-is-14, written-is-new}
+use Rattle.card.specs.older_readers.Before.{cardBytesBeforeMesh}
+use Rattle.card.proofs.older_readers.Before.{same-bytes, same-record, mesh-card-is-14, other-before-mesh, new-card-is-1, other-bytes-same, written-mesh-is-14, written-is-new}
 use Rattle.info.proofs.document.Meaning.{meaning}
 use Rattle.shard.specs.Faults.{shardFault}
 use Rattle.shard.proofs.Leads.{mesh-leads}
 use Rattle.shard.proofs.Earlier.{earlier-sound, earlier-passes}
-use Rattle.settled_form.specs.form.Content.{contentOf, formOf, formLength, fileForm, fileFormLength}
-use Rattle.settled_form.proofs.form.Earlier.{volume-form}
+use Rattle.settled_form.specs.Content.{contentOf, formOf, formLength, fileForm, fileFormLength}
+use Rattle.settled_form.proofs.Earlier.{volume-form}
 use Rattle.unlisted.specs.ranges.Ranges.{Unlisted}
 use Rattle.unlisted.specs.ranges.Covered.{unlistedBytes, fileUnlisted}
 use Rattle.unlisted.proofs.ranges.Meaning.{missed-unlisted, none-unlisted}
 use Rattle.unlisted.proofs.Counted.{unlisted-sound}
 use Rattle.settled_form.proofs.shortest.Listed.{form-listed}
-use Rattle.settle.specs.declared.settleanswers.SettleAnswer.the-variants as S
-use Rattle.settle.specs.settleanswers.Answers.{tooLong, losesBytes, unlistedCheck, lengthCheck, lengthChecks, lengthAnswer, settleCheck, settleChecks, settleAnswer, settleLeft}
-use Rattle.settle.proofs.settleanswers.Answered.{length-lost, answer-lost, left-lost}
+use Rattle.settle.specs.declared.answers.SettleAnswer.the-variants as S
+use Rattle.settle.specs.answers.Answers.{tooLong, losesBytes, unlistedCheck, lengthCheck, settledLengthChecks, lengthAnswer, settleCheck, settleChecks, settleAnswer, settleLeft}
+use Rattle.settle.proofs.answers.Answered.{length-lost, answer-lost, left-lost}
 use Rattle.settle.proofs.Demand3.{demand-3-written}
 use Rattle.morton.proofs.batch.Each.{keys-of-each}
 use Rattle.morton.proofs.scan.Laws as G
@@ -262,7 +262,7 @@ order-8 = record {
   asked = asked-to-drop;
   askedLength = λ spec shard a.
       let e = past-22 (shardChecks spec shard a) (lengthCheck spec (indexPart spec a) (dataPart spec a)) in
-      unfold lengthAnswer lengthChecks lengthChecksBefore unlistedCheck losesBytes in rw (e .0, e .1) refl;
+      unfold lengthAnswer settledLengthChecks lengthChecksBefore unlistedCheck losesBytes in rw (e .0, e .1) refl;
   form = λ spec shard a. form-listed;
 }
 

@@ -7,11 +7,11 @@ use Rattle.sharding.specs.declared.Sharding.{Sharding}
 use Rattle.shard.specs.File.{indexLength}
 use Rattle.split_shard.proofs.seam.Pairs.{seamed-front, seamed-back}
 use Rattle.split_shard.proofs.seam.Ranges.{range-in-index, range-in-data, range-joined}
-use Rattle.split_shard.proofs.pair.Laws.{sound-seamed, check-as-joined, lookup-as-joined, fragment-as-joined}
-use Rattle.split_shard.proofs.pairform.Laws.{count-as-joined, listing-as-joined, unlisted-as-joined, length-as-joined, settle-as-joined}
-use Rattle.holdings.specs.declared.shardsheet.Sheet.{Sheet}
+use Rattle.split_shard.proofs.Laws.{sound-seamed, check-as-joined, lookup-as-joined, fragment-as-joined}
+use Rattle.split_shard.proofs.form.Laws.{count-as-joined, listing-as-joined, unlisted-as-joined, length-as-joined, settle-as-joined}
+use Rattle.holdings.specs.declared.one_shard.Sheet.{Sheet}
 use Rattle.holdings.specs.Answers.{sheetOf, addAnswer, pairSheet, pairAddAnswer}
-use Rattle.holdings.proofs.measure.Answered.{measure-as-joined}
+use Rattle.holdings.proofs.measures.Answered.{measure-as-joined}
 use Rattle.theorems.specs.Pairs.{Order10}
 
 add-as-joined : (sheet : Sheet) (spec : Sharding) (shard : ℕ) (index d : List ℕ) → length index ≡ indexLength spec → pairAddAnswer sheet spec shard index d ≡ addAnswer sheet spec shard (index ++ d)

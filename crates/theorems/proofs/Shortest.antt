@@ -1,6 +1,6 @@
 -- Order 12's promises, from the crates' laws.
 use native.Mathlib.Omega.{arith}
-use Rattle.settled_form.proofs.form.Demand3.{demand-3-form-sound, demand-3-form-lists}
+use Rattle.settled_form.proofs.Demand3.{demand-3-form-sound, demand-3-form-lists}
 use Rattle.settled_form.proofs.shortest.Shortest.{form-and-unlisted, as-long, longer, shortest, form-shares-none}
 use Rattle.settled_form.proofs.shortest.Worked.{twins-sound, nested-sound, twins-shorter, nested-shorter}
 use Rattle.theorems.specs.Shortest.{Order12}

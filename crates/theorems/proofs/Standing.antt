@@ -10,11 +10,11 @@ use Rattle.shard.specs.index.Index.{entryStart, entryEnd, entryCount}
 use Rattle.shard.specs.File.{indexPart, dataPart}
 use Rattle.shard.specs.Before.{PassedBefore}
 use Rattle.shard.proofs.Earlier.{EarlierFrom, earlier-each}
-use Rattle.settled_form.specs.form.Sorted.{Member, Rising}
-use Rattle.settled_form.specs.form.Content.{fileForm}
-use Rattle.settled_form.specs.form.Before.{Pair, settledBefore, pairsFrom, idOfPair, pairsOf, pairBefore, fileFormBefore}
-use Rattle.settled_form.proofs.form.Sorting.{sort-rising}
-use Rattle.settled_form.proofs.form.Earlier.{earlier-form}
+use Rattle.settled_form.specs.Sorted.{Member, Rising}
+use Rattle.settled_form.specs.Content.{fileForm}
+use Rattle.settled_form.specs.Before.{Pair, settledBefore, pairsFrom, idOfPair, pairsOf, pairBefore, fileFormBefore}
+use Rattle.settled_form.proofs.Sorting.{sort-rising}
+use Rattle.settled_form.proofs.Earlier.{earlier-form}
 use Rattle.theorems.specs.Orders.{listedBefore, formBefore}
 
 -- where each id is above the one before, the pairs rise

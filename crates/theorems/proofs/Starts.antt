@@ -19,14 +19,14 @@ use Rattle.sharding.specs.Specification.{minishardCount}
 use Rattle.shard.specs.index.Index.{entryStart, startSteps, mostShardBytes}
 use Rattle.shard.specs.Items.{Item, leadLength}
 use Rattle.shard.specs.Sound.{SoundShard}
-use Rattle.settled_form.specs.form.Form.{chunksOf, chunksLength, idRow, startRow, sizeRow, indexOf, partOf, partLength, partsFrom, partsLength, entryBegin, entriesFrom, settled, settledLength}
-use Rattle.settled_form.specs.form.Content.{fileContent, formOf, fileForm}
-use Rattle.settled_form.proofs.form.Sorting.{member-at}
-use Rattle.settled_form.proofs.form.Measures.{length-chunks, length-ids, length-starts, length-part}
-use Rattle.settled_form.proofs.form.Rows.{noItem, fit-starts}
-use Rattle.settled_form.proofs.form.ReadBack.{Readable, index-back, data-back, placeFrom, place-bound, reads-part}
-use Rattle.settled_form.proofs.form.SoundContent.{readable-content}
-use Rattle.settled_form.proofs.form.Demand3.{file-form-length}
+use Rattle.settled_form.specs.Form.{chunksOf, chunksLength, idRow, startRow, sizeRow, indexOf, partOf, partLength, partsFrom, partsLength, entryBegin, shardIndexFrom, settled, settledLength}
+use Rattle.settled_form.specs.Content.{fileContent, formOf, fileForm}
+use Rattle.settled_form.proofs.Sorting.{member-at}
+use Rattle.settled_form.proofs.Measures.{length-chunks, length-ids, length-starts, length-part}
+use Rattle.settled_form.proofs.Rows.{noItem, fit-starts}
+use Rattle.settled_form.proofs.ReadBack.{Readable, index-back, data-back, placeFrom, place-bound, reads-part}
+use Rattle.settled_form.proofs.SoundContent.{readable-content}
+use Rattle.settled_form.proofs.Demand3.{file-form-length}
 use Rattle.theorems.specs.Orders.{entriesIn, startStepIn, chunkIn, placeIn}
 
 -- ---- the rows
@@ -75,7 +75,7 @@ module _ (spec : Sharding) (c : List (List Item)) (good : Readable spec c) (m i 
   p = placeFrom 0 c m
 
   abbrev index : List ℕ
-  index = row (entriesFrom 0 c)
+  index = row (shardIndexFrom 0 c)
 
   abbrev d : List ℕ
   d = partsFrom 0 c

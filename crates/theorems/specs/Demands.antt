@@ -28,8 +28,8 @@ use Rattle.sharding.specs.declared.Sharding.{Sharding}
 use Rattle.sharding.specs.declared.placement.PlaceAnswer.the-variants as P
 use Rattle.sharding.specs.Specification.{isMesh, noSuchShard}
 use Rattle.sharding.specs.placement.Place.{minishardOf, placeChecks, placeAnswer}
-use Rattle.sharding.specs.manyplaces.Batch.{placesChecks, placesAnswer, shardsLeft, minishardsLeft}
-use Rattle.names.specs.chunknames.Chunks.{chunkNameChecks, chunkNameAnswer, chunkNameLeft}
+use Rattle.sharding.specs.batch.Batch.{placesChecks, placesAnswer, shardsLeft, minishardsLeft}
+use Rattle.names.specs.chunks.Chunks.{chunkNameChecks, chunkNameAnswer, chunkNameLeft}
 use Rattle.names.specs.Shards.{fileNameChecks, fileNameAnswer, fileNameLeft}
 use Rattle.names.specs.declared.FileKind.{FileKind}
 use Rattle.shard.specs.declared.CheckAnswer.the-variants.{Sound, Faulty, Refused as CheckRefused}
@@ -42,36 +42,36 @@ use Rattle.shard.specs.Lists.{ListsAt, ListsIn, ListsItem, SameListing, SameChu
 use Rattle.unlisted.specs.ranges.Ranges.{Unlisted}
 use Rattle.unlisted.specs.declared.UnlistedAnswer.the-variants as U
 use Rattle.unlisted.specs.Answers.{unlistedAnswer}
-use Rattle.lookup.specs.declared.idsearch.LookupAnswer.the-variants as L
+use Rattle.lookup.specs.declared.id_search.LookupAnswer.the-variants as L
 use Rattle.lookup.specs.Find.{lookupChecks, lookupAnswer}
 use Rattle.lookup.specs.Lookups.{Asked, HandsOut, entryBytes, AgreeFor, SameAnswer}
-use Rattle.lookup.specs.fragment.Fragment.{fragmentChecks, fragmentAnswer}
-use Rattle.lookup.specs.fragment.Fragments.{HandsOutFragment, LacksFragment, SameFragment}
-use Rattle.lookup.specs.declared.listing.CountAnswer.the-variants as N
-use Rattle.lookup.specs.listing.Listing.{listingOf, countChecks, countAnswer, listingChecks, listingAnswer, listingLeft}
-use Rattle.lookup.specs.listing.Triples.{Says}
-use Rattle.settled_form.specs.form.Content.{fileForm, fileFormLength}
-use Rattle.settle.specs.declared.settleanswers.SettleAnswer.the-variants as S
-use Rattle.settle.specs.settleanswers.Answers.{lengthChecks, lengthAnswer, settleChecks, settleAnswer, settleLeft}
+use Rattle.lookup.specs.fragments.Fragment.{fragmentChecks, fragmentAnswer}
+use Rattle.lookup.specs.fragments.Fragments.{HandsOutFragment, LacksFragment, SameFragment}
+use Rattle.lookup.specs.declared.listings.CountAnswer.the-variants as N
+use Rattle.lookup.specs.listings.Listing.{listingOf, countChecks, countAnswer, listingChecks, listingAnswer, listingLeft}
+use Rattle.lookup.specs.listings.Triples.{Says}
+use Rattle.settled_form.specs.Content.{fileForm, fileFormLength}
+use Rattle.settle.specs.declared.answers.SettleAnswer.the-variants as S
+use Rattle.settle.specs.answers.Answers.{settledLengthChecks, lengthAnswer, settleChecks, settleAnswer, settleLeft}
 use Rattle.split_shard.specs.seam.Pair.{pairChecks}
-use Rattle.split_shard.specs.declared.heldrange.RangeAnswer.the-variants as R
+use Rattle.split_shard.specs.declared.held_range.RangeAnswer.the-variants as R
 use Rattle.split_shard.specs.seam.Range.{rangeChecks, rangeAnswer}
-use Rattle.split_shard.specs.pair.Answers.{otherShard, pairCheck, pairLookup, pairFragment}
-use Rattle.split_shard.specs.pairform.Answers.{noMinishard, pairCount, pairListing, pairListingLeft, pairUnlisted, pairLength, pairSettle, pairSettleLeft}
-use Rattle.intake.specs.declared.intakestate.Intake.{Intake}
+use Rattle.split_shard.specs.Answers.{otherShard, pairCheck, pairLookup, pairFragment}
+use Rattle.split_shard.specs.form.Answers.{noMinishard, pairCount, pairListing, pairListingLeft, pairUnlisted, pairLength, pairSettle, pairSettleLeft}
+use Rattle.intake.specs.declared.state.Intake.{Intake}
 use Rattle.intake.specs.admission.Refusals.{openChecks, announceChecks, partChecks, closeChecks}
 use Rattle.intake.specs.declared.IntakeAnswer.the-variants as I
 use Rattle.intake.specs.declared.CloseAnswer.the-variants as X
 use Rattle.intake.specs.Calls.{openAnswer, openLeft, announceAnswer, announceLeft, announceWaiting, partAnswer, partLeft, closeAnswer, closeLeft}
-use Rattle.holdings.specs.declared.measure.MeasureAnswer.{MeasureAnswer}
-use Rattle.holdings.specs.declared.measure.MeasureAnswer.the-variants as Ms
-use Rattle.holdings.specs.measure.Measures.{chunkBytes}
-use Rattle.holdings.specs.chunksums.Totals.{passes}
-use Rattle.holdings.specs.measure.Answers.{measureAnswer, pairMeasure}
-use Rattle.holdings.specs.declared.shardsheet.Sheet.{Sheet}
+use Rattle.holdings.specs.declared.measures.MeasureAnswer.{MeasureAnswer}
+use Rattle.holdings.specs.declared.measures.MeasureAnswer.the-variants as Ms
+use Rattle.holdings.specs.measures.Measures.{chunkBytes}
+use Rattle.holdings.specs.chunk_sums.Totals.{passes}
+use Rattle.holdings.specs.measures.Answers.{measureAnswer, pairMeasure}
+use Rattle.holdings.specs.declared.one_shard.Sheet.{Sheet}
 use Rattle.holdings.specs.declared.SheetAnswer.the-variants as Sh
-use Rattle.holdings.specs.shardsheet.Sheet.{rows}
-use Rattle.holdings.specs.sheettotals.Totals.{anyPasses, both}
+use Rattle.holdings.specs.one_shard.Sheet.{rows}
+use Rattle.holdings.specs.passing.Totals.{anyPasses, both}
 use Rattle.holdings.specs.Answers.{joinAnswer, sheetOf, addAnswer, pairSheet, pairAddAnswer}
 use Rattle.card.specs.declared.Card.{Card}
 use Rattle.card.specs.declared.CardAnswer.the-variants as D
@@ -79,23 +79,23 @@ use Rattle.card.specs.Answers.{readChecks, readAnswer, writeChecks, writeAnswer
 use Rattle.card.specs.Meaning.{OneCard}
 use Rattle.info.specs.Answers.{infoChecks, infoAnswer}
 use Rattle.info.specs.document.Meaning.{InfoMeaning}
-use Rattle.mesh_manifest.specs.declared.manifest.ManifestAnswer.the-variants as M
-use Rattle.mesh_manifest.specs.declared.manifestread.HeaderAnswer.the-variants as H
-use Rattle.mesh_manifest.specs.declared.manifestread.Field.the-variants as F
+use Rattle.mesh_manifest.specs.declared.sound.ManifestAnswer.the-variants as M
+use Rattle.mesh_manifest.specs.declared.HeaderAnswer.the-variants as H
+use Rattle.mesh_manifest.specs.declared.Field.the-variants as F
 use Rattle.mesh_manifest.specs.layout.Layout.{countOf}
-use Rattle.mesh_manifest.specs.manifest.Verdict.{manifestChecks, manifestAnswer}
-use Rattle.mesh_manifest.specs.manifestread.Fields.{headerAnswer, fieldChecks, fieldAnswer}
+use Rattle.mesh_manifest.specs.sound.Verdict.{manifestChecks, manifestAnswer}
+use Rattle.mesh_manifest.specs.Fields.{headerAnswer, fieldChecks, fieldAnswer}
 use Rattle.mesh_manifest.specs.declared.nodes.NodeAnswer.the-variants as O
-use Rattle.mesh_manifest.specs.nodes.Run.{fragmentOf, joined}
+use Rattle.mesh_manifest.specs.nodes.Run.{fragmentOf, allFragments}
 use Rattle.mesh_manifest.specs.nodes.Nodes.{hasNode, fragmentsLength, nodeAt, nodeChecks, nodeAnswer}
-use Rattle.mesh_manifest.specs.nodenumbers.Numbers.{numbersOf, nodesOf}
-use Rattle.mesh_manifest.specs.levelnodes.Level.{nodesChecks, nodesAnswer, nodesLeft}
+use Rattle.mesh_manifest.specs.node_numbers.Numbers.{numbersOf, nodesOf}
+use Rattle.mesh_manifest.specs.level.Level.{nodesChecks, nodesAnswer, nodesLeft}
 use Rattle.mesh_manifest.specs.declared.corners.CornersAnswer.the-variants as Cs
 use Rattle.mesh_manifest.specs.corners.Boxes.{cornersChecks, cornersAnswer}
-use Rattle.compressed_segmentation.specs.declared.segmentation.Shape.{Shape}
-use Rattle.compressed_segmentation.specs.declared.segmentation.LabelAnswer.the-variants as E
-use Rattle.compressed_segmentation.specs.segmentation.Labels.{labelChecks, labelAnswer}
-use Rattle.compressed_segmentation.specs.rawform.Raw.{unpackChecks, unpackAnswer, unpackLeft, lengthChecks as lengthChecksOfLabels, lengthAnswer as lengthAnswerOfLabels}
+use Rattle.compressed_segmentation.specs.declared.Shape.{Shape}
+use Rattle.compressed_segmentation.specs.declared.LabelAnswer.the-variants as E
+use Rattle.compressed_segmentation.specs.Labels.{labelChecks, labelAnswer}
+use Rattle.compressed_segmentation.specs.raw_form.Raw.{unpackChecks, unpackAnswer, unpackLeft, unpackedLengthChecks as lengthChecksOfLabels, lengthAnswer as lengthAnswerOfLabels}
 
 -- ---- Demand 1
 
@@ -107,7 +107,7 @@ measureChecks spec shard file = shardChecks spec shard file ++ (check 27 (passes
 abbrev pub faultyAt : Sharding → ℕ → List ℕ → ℕ → ℕ → MeasureAnswer
 faultyAt spec shard file number position = Ms.Faulty number (shardFault spec shard (indexPart spec file) (dataPart spec file) .minishard) position
 
--- the one check of two sheets that are joined: "27 a total would pass 2^64-1"
+-- the one check of two sheets that are allFragments: "27 a total would pass 2^64-1"
 abbrev pub joinChecks : Sheet → Sheet → List Check
 joinChecks a b = check 27 (anyPasses (rows (both a b))) ∷ []
 
@@ -135,10 +135,10 @@ pub record Demand1 : Type 0 where
   pub checked : (spec : Sharding) (shard : ℕ) (file : List ℕ) → checkNumber (checkAnswer spec shard file) ≡ firstNumber (shardChecks spec shard file)
   pub passed : (spec : Sharding) (shard : ℕ) (file : List ℕ) → (checkAnswer spec shard file ≡ Sound) ↔ (firstNumber (shardChecks spec shard file) ≡ 0)
   pub named : (spec : Sharding) (shard : ℕ) (file : List ℕ) (k m p : ℕ) → (checkAnswer spec shard file ≡ Faulty k m p) ↔ FirstFaultIs spec shard file k m p
-  pub formLength : (spec : Sharding) (shard : ℕ) (file : List ℕ) (dropping : Bool) → RefusesAt (lengthAnswer spec shard file dropping) S.Refused S.Faulty (lengthChecks spec shard file dropping)
+  pub formLength : (spec : Sharding) (shard : ℕ) (file : List ℕ) (dropping : Bool) → RefusesAt (lengthAnswer spec shard file dropping) S.Refused S.Faulty (settledLengthChecks spec shard file dropping)
   pub settle : (spec : Sharding) (shard : ℕ) (file : List ℕ) (dropping : Bool) (out : List ℕ) → RefusesAt (settleAnswer spec shard file dropping out) S.Refused S.Faulty (settleChecks spec shard file dropping out)
   pub unlisted : (spec : Sharding) (shard : ℕ) (file : List ℕ) → RefusesAt (unlistedAnswer spec shard file) U.Refused U.Faulty (shardChecks spec shard file)
-  -- (of a pair: 1, 5, 23, then those of the joined file, whose 1 and 5 are the same tests; order 10)
+  -- (of a pair: 1, 5, 23, then those of the allFragments file, whose 1 and 5 are the same tests; order 10)
   pub checkOfPair : (spec : Sharding) (shard : ℕ) (index d : List ℕ) → Refuses (pairCheck spec shard index d) CheckRefused (pairChecks spec (noSuchShard spec shard) index ++ fileChecks spec (noSuchShard spec shard) (index ++ d))
   pub checkedOfPair : (spec : Sharding) (shard : ℕ) (index d : List ℕ) → checkNumber (pairCheck spec shard index d) ≡ firstNumber (pairChecks spec (noSuchShard spec shard) index ++ shardChecks spec shard (index ++ d))
   pub passedOfPair : (spec : Sharding) (shard : ℕ) (index d : List ℕ) → (pairCheck spec shard index d ≡ Sound) ↔ (firstNumber (pairChecks spec (noSuchShard spec shard) index ++ shardChecks spec shard (index ++ d)) ≡ 0)
@@ -148,7 +148,7 @@ pub record Demand1 : Type 0 where
   pub countOfPair : (spec : Sharding) (shard : ℕ) (index d : List ℕ) (m : ℕ) → RefusesAt (pairCount spec shard index d m) N.Refused N.Faulty (pairChecks spec (noMinishard spec shard m) index ++ countChecks spec shard (index ++ d) m)
   pub listingOfPair : (spec : Sharding) (shard : ℕ) (index d : List ℕ) (m : ℕ) (out : List ℕ) → RefusesAt (pairListing spec shard index d m out) N.Refused N.Faulty (pairChecks spec (noMinishard spec shard m) index ++ listingChecks spec shard (index ++ d) m out)
   pub unlistedOfPair : (spec : Sharding) (shard : ℕ) (index d : List ℕ) → RefusesAt (pairUnlisted spec shard index d) U.Refused U.Faulty (pairChecks spec (noSuchShard spec shard) index ++ shardChecks spec shard (index ++ d))
-  pub formLengthOfPair : (spec : Sharding) (shard : ℕ) (index d : List ℕ) (dropping : Bool) → RefusesAt (pairLength spec shard index d dropping) S.Refused S.Faulty (pairChecks spec (noSuchShard spec shard) index ++ lengthChecks spec shard (index ++ d) dropping)
+  pub formLengthOfPair : (spec : Sharding) (shard : ℕ) (index d : List ℕ) (dropping : Bool) → RefusesAt (pairLength spec shard index d dropping) S.Refused S.Faulty (pairChecks spec (noSuchShard spec shard) index ++ settledLengthChecks spec shard (index ++ d) dropping)
   pub settleOfPair : (spec : Sharding) (shard : ℕ) (index d : List ℕ) (dropping : Bool) (out : List ℕ) → RefusesAt (pairSettle spec shard index d dropping out) S.Refused S.Faulty (pairChecks spec (noSuchShard spec shard) index ++ settleChecks spec shard (index ++ d) dropping out)
   -- (of a measure: those of the check, with minishard and position as there, then 27; of a sheet: 27 alone, where a total would pass; order 13)
   pub measure : (spec : Sharding) (shard : ℕ) (file : List ℕ) → RefusesAt (measureAnswer spec shard file) Ms.Refused (faultyAt spec shard file) (measureChecks spec shard file)
@@ -244,7 +244,7 @@ pub record Demand2 : Type 0 where
   -- Laid one after the other, the fragments of a manifest are all that goes with it, as many bytes as its sizes sum up to.
   pub fragments : (spec : Sharding) (shard : ℕ) (file : List ℕ) (item : Item) → isMesh spec ≡ true
       → ChosenSound spec shard file (item .id) → ChosenListsItem spec file item
-      → (joined (item .body) (item .lead) ≡ item .lead) × (length (item .lead) ≡ fragmentsLength (item .body))
+      → (allFragments (item .body) (item .lead) ≡ item .lead) × (length (item .lead) ≡ fragmentsLength (item .body))
   -- This call says 18 exactly when the chosen minishard is sound and lists the id, of a volume or with a manifest that has no such node;
   pub noFragment : (spec : Sharding) (shard : ℕ) (file : List ℕ) (id level node : ℕ) → Asked spec shard file id
       → (fragmentAnswer spec shard file id level node ≡ L.Refused 18) ↔ LacksFragment spec shard file id level node

@@ -14,16 +14,16 @@ use Rattle.shard.specs.File.{checkAnswer}
 use Rattle.shard.specs.Sound.{SoundShard}
 use Rattle.shard.specs.Items.{Item}
 use Rattle.shard.specs.Lists.{Lists}
-use Rattle.settled_form.specs.form.Sorted.{Member, Distinct}
-use Rattle.settled_form.specs.form.Content.{idOf}
-use Rattle.split_shard.specs.pair.Answers.{pairCheck}
-use Rattle.holdings.specs.declared.measure.Counts.{Counts}
-use Rattle.holdings.specs.measure.Measures.{measureOf, fileMeasure}
-use Rattle.holdings.specs.declared.shardsheet.Sheet.{Sheet}
+use Rattle.settled_form.specs.Sorted.{Member, Distinct}
+use Rattle.settled_form.specs.Content.{idOf}
+use Rattle.split_shard.specs.Answers.{pairCheck}
+use Rattle.holdings.specs.declared.measures.Counts.{Counts}
+use Rattle.holdings.specs.measures.Measures.{measureOf, fileMeasure}
+use Rattle.holdings.specs.declared.one_shard.Sheet.{Sheet}
 use Rattle.holdings.specs.declared.SheetAnswer.{SheetAnswer}
 use Rattle.holdings.specs.declared.SheetAnswer.the-variants.{Total, Refused as SheetRefused}
-use Rattle.holdings.specs.shardsheet.Sheet.{rows, empty}
-use Rattle.holdings.specs.sheettotals.Totals.{anyPasses, both}
+use Rattle.holdings.specs.one_shard.Sheet.{rows, empty}
+use Rattle.holdings.specs.passing.Totals.{anyPasses, both}
 use Rattle.holdings.specs.Answers.{joinAnswer, addAnswer, pairAddAnswer}
 use Rattle.coronagamba.specs.Sheets.{sheetOf, rowsAfter}
 

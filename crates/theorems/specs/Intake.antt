@@ -9,7 +9,7 @@ use Rattle.sharding.specs.declared.Sharding.{Sharding}
 use Rattle.shard.specs.Items.{Item}
 use Rattle.intake.specs.admission.Refusals.{openChecks, announceChecks, partChecks, closeChecks}
 use Rattle.intake.specs.declared.CloseAnswer.the-variants.{Closed}
-use Rattle.intake.specs.intakesteps.Steps.{closed}
+use Rattle.intake.specs.steps.Steps.{closed}
 use Rattle.intake.specs.Calls.{closeAnswer, closeLeft}
 use Rattle.delivered.specs.Delivered.{Delivery, asItems, deliveredForm, InOrder}
 use Rattle.delivered.specs.Runs.{Desk, afterClose, Takes, ClosedShard, Over}

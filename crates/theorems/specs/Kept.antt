@@ -14,15 +14,15 @@ use Rattle.shard.specs.declared.CheckAnswer.{CheckAnswer}
 use Rattle.shard.specs.declared.CheckAnswer.the-variants as C
 use Rattle.shard.specs.Faults.{faultOf, firstFault}
 use Rattle.shard.specs.Checks.{minishardsChecks}
-use Rattle.shard.specs.File.{verdict}
+use Rattle.shard.specs.File.{checkVerdict}
 use Rattle.shard.specs.Items.{Item}
-use Rattle.lookup.specs.declared.idsearch.LookupAnswer.{LookupAnswer}
-use Rattle.lookup.specs.declared.idsearch.LookupAnswer.the-variants as L
-use Rattle.lookup.specs.chosen.Chosen.{chosenChecks, chosenChunk}
-use Rattle.settled_form.specs.form.Form.{settled, settledLength}
-use Rattle.settled_form.specs.form.Content.{contentFrom}
-use Rattle.settle.specs.declared.settleanswers.SettleAnswer.{SettleAnswer}
-use Rattle.settle.specs.declared.settleanswers.SettleAnswer.the-variants as S
+use Rattle.lookup.specs.declared.id_search.LookupAnswer.{LookupAnswer}
+use Rattle.lookup.specs.declared.id_search.LookupAnswer.the-variants as L
+use Rattle.lookup.specs.chosen_minishard.Chosen.{chosenChecks, chosenChunk}
+use Rattle.settled_form.specs.Form.{settled, settledLength}
+use Rattle.settled_form.specs.Content.{contentFrom}
+use Rattle.settle.specs.declared.answers.SettleAnswer.{SettleAnswer}
+use Rattle.settle.specs.declared.answers.SettleAnswer.the-variants as S
 
 -- the minishards of a shard, its shard index, and the data behind it
 abbrev pub minishardsBefore : Sharding → ℕ
@@ -46,7 +46,7 @@ fileChecksBefore spec five file =
 unfoldable pub checkBefore : Sharding → ℕ → List ℕ → CheckAnswer
 checkBefore spec shard file =
     answered C.Refused (fileChecksBefore spec (noShardBefore spec shard) file)
-    (verdict (firstFault (faultOf spec shard (indexBefore spec file) (dataBefore spec file)) 0 (minishardsBefore spec)))
+    (checkVerdict (firstFault (faultOf spec shard (indexBefore spec file) (dataBefore spec file)) 0 (minishardsBefore spec)))
 
 unfoldable pub lookupBefore : Sharding → ℕ → List ℕ → ℕ → LookupAnswer
 lookupBefore spec shard file id =

@@ -6,9 +6,9 @@ use mathlib.Core.List.{List, [], _∷_}
 use lib.ListN.{length, drop}
 use Rattle.refusal.specs.declared.Written.the-variants.{Length, Refused}
 use Rattle.morton.specs.declared.grid.Extents.{Extents}
-use Rattle.compressed_segmentation.specs.declared.segmentation.Shape.{Shape}
-use Rattle.compressed_segmentation.specs.rawform.Raw.{unpackAnswer, unpackLeft, lengthAnswer}
-use Rattle.compressed_segmentation.specs.unpack.Meaning.{EqualsAsking, RefusesByVoxels}
+use Rattle.compressed_segmentation.specs.declared.Shape.{Shape}
+use Rattle.compressed_segmentation.specs.raw_form.Raw.{unpackAnswer, unpackLeft, lengthAnswer}
+use Rattle.compressed_segmentation.specs.unpacking.Meaning.{EqualsAsking, RefusesByVoxels}
 
 -- ---- the chunk that the format's description works by hand
 

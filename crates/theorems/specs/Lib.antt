@@ -1,5 +1,6 @@
+-- The demands and the orders' promises, a statement each; the worked cases.
 pub mod cases
-pub mod meshcases
+pub mod mesh_cases
 pub mod Demands
 pub mod Hash
 pub mod Kept

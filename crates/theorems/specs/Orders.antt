@@ -20,14 +20,14 @@ use Rattle.morton.specs.Key.{tooManyBits, keyOf, cellOf, isKey}
 use Rattle.morton.specs.Answers.{keyAnswer}
 use Rattle.morton.specs.batch.Batch.{eachInGrid, keysOf, keysAnswer, keysLeft}
 use Rattle.morton.specs.spread.Spread.{Spreads, Placed}
-use Rattle.morton.specs.keyplan.Parts.{lowKey, restKey, Shared}
-use Rattle.morton.specs.cellrows.Row.{rowOf}
+use Rattle.morton.specs.plan.Parts.{lowKey, restKey, Shared}
+use Rattle.morton.specs.rows.Row.{rowOf}
 use Rattle.cover.specs.overlap.Cover.{coverKeys, coverAnswer, coverLeft}
-use Rattle.cover.specs.overlap.Meaning.{SharesVoxel, RisingFrom, reversed, outside}
+use Rattle.cover.specs.overlap.Meaning.{SharesVoxel, RisingFrom, reversed, outsideVolume}
 use Rattle.sharding.specs.declared.Sharding.{Sharding}
 use Rattle.sharding.specs.Specification.{volume, mesh, isMesh, minishardBits, minishardCount, allowed, noSuchShard}
 use Rattle.sharding.specs.placement.Place.{minishardOf, placeChecks}
-use Rattle.sharding.specs.manyplaces.Batch.{shardsOf, minishardsOf, placesChecks}
+use Rattle.sharding.specs.batch.Batch.{shardsOf, minishardsOf, placesChecks}
 use Rattle.sharding.specs.Before.{mostMinishardBitsBefore, allowedBefore}
 use Rattle.names.specs.Shards.{shardName, shardNameChecks}
 use Rattle.shard.specs.declared.CheckAnswer.the-variants.{Sound, Faulty}
@@ -37,32 +37,32 @@ use Rattle.mesh_manifest.specs.nodes.Nodes.{fragmentsLength}
 use Rattle.shard.specs.File.{indexPart, dataPart, fileChecks, shardChecks, checkAnswer}
 use Rattle.shard.specs.Before.{PassedBefore}
 use Rattle.shard.specs.Sound.{SoundMinishard, SoundShard}
-use Rattle.mesh_manifest.specs.manifest.Soundness.{Sound as Manifest}
+use Rattle.mesh_manifest.specs.sound.Soundness.{Sound as Manifest}
 use Rattle.unlisted.specs.ranges.Ranges.{countIn, chunkStart, Unlisted}
 use Rattle.bitmap.specs.Positions.{misses}
 use Rattle.unlisted.specs.ranges.Covered.{coveredAt, fileUnlisted}
 use Rattle.unlisted.specs.declared.UnlistedAnswer.the-variants as U
 use Rattle.unlisted.specs.Answers.{unlistedAnswer}
-use Rattle.lookup.specs.declared.idsearch.LookupAnswer.the-variants as L
+use Rattle.lookup.specs.declared.id_search.LookupAnswer.the-variants as L
 use Rattle.lookup.specs.Find.{lookupAnswer}
-use Rattle.lookup.specs.fragment.Fragment.{fragmentAnswer}
-use Rattle.lookup.specs.declared.listing.CountAnswer.the-variants as N
-use Rattle.lookup.specs.listing.Listing.{countAnswer, listingAnswer}
-use Rattle.settled_form.specs.form.Content.{fileContent, fileForm, fileFormLength}
-use Rattle.settled_form.specs.form.Form.{partsLength}
-use Rattle.settled_form.specs.form.Before.{Pair, settledBefore, pairsFrom, pairBefore, fileFormBeforeMesh}
-use Rattle.settle.specs.declared.settleanswers.SettleAnswer.the-variants as S
-use Rattle.settle.specs.settleanswers.Answers.{lengthCheck, settleCheck, lengthAnswer, settleAnswer, settleLeft}
-use Rattle.split_shard.specs.pair.Answers.{pairCheck, pairLookup, pairFragment}
-use Rattle.split_shard.specs.pairform.Answers.{pairCount, pairListing, pairUnlisted, pairLength, pairSettle}
-use Rattle.holdings.specs.declared.measure.MeasureAnswer.the-variants as Ms
-use Rattle.holdings.specs.measure.Answers.{measureAnswer, pairMeasure}
+use Rattle.lookup.specs.fragments.Fragment.{fragmentAnswer}
+use Rattle.lookup.specs.declared.listings.CountAnswer.the-variants as N
+use Rattle.lookup.specs.listings.Listing.{countAnswer, listingAnswer}
+use Rattle.settled_form.specs.Content.{fileContent, fileForm, fileFormLength}
+use Rattle.settled_form.specs.Form.{partsLength}
+use Rattle.settled_form.specs.Before.{Pair, settledBefore, pairsFrom, pairBefore, fileFormBeforeMesh}
+use Rattle.settle.specs.declared.answers.SettleAnswer.the-variants as S
+use Rattle.settle.specs.answers.Answers.{lengthCheck, settleCheck, lengthAnswer, settleAnswer, settleLeft}
+use Rattle.split_shard.specs.Answers.{pairCheck, pairLookup, pairFragment}
+use Rattle.split_shard.specs.form.Answers.{pairCount, pairListing, pairUnlisted, pairLength, pairSettle}
+use Rattle.holdings.specs.declared.measures.MeasureAnswer.the-variants as Ms
+use Rattle.holdings.specs.measures.Answers.{measureAnswer, pairMeasure}
 use Rattle.positions.specs.Points.{PointsAt, Named}
 use Rattle.card.specs.declared.Card.{Card}
 use Rattle.card.specs.declared.CardAnswer.the-variants.{Says, Refused}
 use Rattle.card.specs.Layout.{cardBytes, Ranged}
 use Rattle.card.specs.Answers.{recordChecks, readAnswer, writeAnswer, writeLeft}
-use Rattle.card.specs.oldcards.Before.{cardBytesBeforeMesh, readAnswerBeforeMesh, MeshCard, recordChecksBefore, readAnswerBefore, NewCard}
+use Rattle.card.specs.older_readers.Before.{cardBytesBeforeMesh, readAnswerBeforeMesh, MeshCard, recordChecksBefore, readAnswerBefore, NewCard}
 use Rattle.info.specs.Answers.{infoAnswer}
 use Rattle.theorems.specs.Kept.{fileChecksBefore, checkBefore, lookupBefore, settleBefore, settleLeftBefore}
 
@@ -126,9 +126,9 @@ pub record Order5 : Type 0 where
       → List·Memᴰ k (coverKeys v lower upper) ↔ SharesVoxel v lower upper c
   -- Each is above the one before it, so none stands twice.
   pub rising : (v : Volume) (lower upper : Point) → RisingFrom 0 (coverKeys v lower upper)
-  -- "an empty or reversed one, or one outside the volume, lists none".
+  -- "an empty or reversed one, or one outsideVolume the volume, lists none".
   pub empty : (v : Volume) (lower upper : Point) → reversed lower upper ≡ true → coverKeys v lower upper ≡ []
-  pub beside : (v : Volume) (lower upper : Point) → outside v lower upper ≡ true → coverKeys v lower upper ≡ []
+  pub beside : (v : Volume) (lower upper : Point) → outsideVolume v lower upper ≡ true → coverKeys v lower upper ≡ []
   -- Where nothing is refused, the keys stand at the front of the output, which is as it was past them, and "the count returned is the
   -- number of keys".
   pub written : (v : Volume) (lower upper : Point) (out : List ℕ) → zeroExtent v ≡ false → tooManyBits (gridOf v) ≡ false

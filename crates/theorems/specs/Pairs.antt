@@ -9,17 +9,17 @@ use Rattle.sharding.specs.declared.Sharding.{Sharding}
 use Rattle.shard.specs.declared.CheckAnswer.the-variants.{Sound}
 use Rattle.shard.specs.File.{indexLength, checkAnswer}
 use Rattle.lookup.specs.Find.{lookupAnswer}
-use Rattle.lookup.specs.fragment.Fragment.{fragmentAnswer}
-use Rattle.lookup.specs.listing.Listing.{countAnswer, listingAnswer, listingLeft}
+use Rattle.lookup.specs.fragments.Fragment.{fragmentAnswer}
+use Rattle.lookup.specs.listings.Listing.{countAnswer, listingAnswer, listingLeft}
 use Rattle.unlisted.specs.Answers.{unlistedAnswer}
-use Rattle.settle.specs.settleanswers.Answers.{lengthAnswer, settleAnswer, settleLeft}
-use Rattle.split_shard.specs.declared.heldrange.RangeAnswer.the-variants.{InIndex, InData}
-use Rattle.split_shard.specs.heldrange.Held.{rangeBytes}
+use Rattle.settle.specs.answers.Answers.{lengthAnswer, settleAnswer, settleLeft}
+use Rattle.split_shard.specs.declared.held_range.RangeAnswer.the-variants.{InIndex, InData}
+use Rattle.split_shard.specs.held_range.Held.{rangeBytes}
 use Rattle.split_shard.specs.seam.Range.{rangeChecks, rangeAnswer}
-use Rattle.split_shard.specs.pair.Answers.{pairCheck, pairLookup, pairFragment}
-use Rattle.split_shard.specs.pairform.Answers.{pairCount, pairListing, pairListingLeft, pairUnlisted, pairLength, pairSettle, pairSettleLeft}
-use Rattle.holdings.specs.measure.Answers.{measureAnswer, pairMeasure}
-use Rattle.holdings.specs.declared.shardsheet.Sheet.{Sheet}
+use Rattle.split_shard.specs.Answers.{pairCheck, pairLookup, pairFragment}
+use Rattle.split_shard.specs.form.Answers.{pairCount, pairListing, pairListingLeft, pairUnlisted, pairLength, pairSettle, pairSettleLeft}
+use Rattle.holdings.specs.measures.Answers.{measureAnswer, pairMeasure}
+use Rattle.holdings.specs.declared.one_shard.Sheet.{Sheet}
 use Rattle.holdings.specs.Answers.{addAnswer, pairAddAnswer}
 
 -- Order 10: "Treat the pair as their concatenation, without joining them." (RULES P2)

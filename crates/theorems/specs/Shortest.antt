@@ -10,7 +10,7 @@ use Rattle.shard.specs.index.Index.{mostShardBytes}
 use Rattle.shard.specs.Sound.{SoundShard}
 use Rattle.shard.specs.Lists.{SameListing}
 use Rattle.unlisted.specs.ranges.Covered.{fileUnlisted}
-use Rattle.settled_form.specs.form.Content.{fileForm}
+use Rattle.settled_form.specs.Content.{fileForm}
 use Rattle.settled_form.specs.shortest.Shares.{SharesNone}
 use Rattle.settled_form.specs.shortest.Worked.{oneBit, twins, nested}
 

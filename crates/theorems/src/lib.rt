@@ -1,3 +1,3 @@
 // The demands and the promises of the orders, as statements about the other crates' definitions: specs/ and proofs/. No code of its own.
 pub mod cases;
-pub mod meshcases;
+pub mod mesh_cases;

@@ -26,17 +26,17 @@ use Rattle.shard.proofs.Split.{restOf, rest-whole}
 use Rattle.shard.proofs.Whole.{sound-passes-check}
 use Rattle.shard.proofs.WholeAnswers.{check-disallowed, check-shard, check-short, check-long, check-sound, check-fault}
 use Rattle.unlisted.specs.declared.UnlistedAnswer.the-variants.{Count, Refused, Faulty}
-use Rattle.unlisted.specs.declared.rising.inner.Run.{Run}
+use Rattle.unlisted.specs.declared.rising_walk.Run.{Run}
 use Rattle.unlisted.specs.ranges.Ranges.{Range, chunkRange, leadRange, indexRange, countIn, begin, finish, Has, LiesIn}
 use Rattle.unlisted.specs.ranges.Covered.{coveredAt, unlistedBytes, fileUnlisted}
-use Rattle.unlisted.specs.declared.judged.Judged.{Judged}
-use Rattle.unlisted.specs.declared.inner.Counted.{Counted}
+use Rattle.unlisted.specs.declared.checked_walk.Judged.{Judged}
+use Rattle.unlisted.specs.declared.counting.Counted.{Counted}
 use Rattle.unlisted.specs.Judging.{JudgedAs, Counts}
-use Rattle.unlisted.specs.stretch.Reading.{RangedShard}
-use Rattle.unlisted.specs.rising.Order.{broken, Tells}
+use Rattle.unlisted.specs.runs.Reading.{RangedShard}
+use Rattle.unlisted.specs.rising_walk.Order.{broken, Tells}
 use Rattle.unlisted.specs.Answers.{unlistedAnswer}
 use Rattle.shard.proofs.AfterCheck.{afterCheck, by-check}
-use Rattle.unlisted.proofs.stretch.Covering.{ranged-in}
+use Rattle.unlisted.proofs.runs.Covering.{ranged-in}
 use Rattle.unlisted.proofs.ranges.Meaning.{covered-listed}
 
 -- ---- all ranges lie within the data

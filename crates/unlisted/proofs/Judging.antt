@@ -21,14 +21,14 @@ use Rattle.shard.specs.File.{indexLength}
 use Rattle.shard.specs.Sound.{SoundMinishard}
 use Rattle.shard.proofs.Faulted.{fault-empty, fault-entry}
 use Rattle.shard.proofs.Judged.{passes-minishard}
-use Rattle.unlisted.specs.declared.rising.inner.Run.{Run}
-use Rattle.unlisted.specs.declared.judged.Judged.{Judged}
-use Rattle.unlisted.specs.stretch.Reading.{Ranged}
-use Rattle.unlisted.specs.rising.Order.{Extends, inPart, partAt}
+use Rattle.unlisted.specs.declared.rising_walk.Run.{Run}
+use Rattle.unlisted.specs.declared.checked_walk.Judged.{Judged}
+use Rattle.unlisted.specs.runs.Reading.{Ranged}
+use Rattle.unlisted.specs.rising_walk.Order.{Extends, inPart, partAt}
 use Rattle.unlisted.specs.Judging.{Steps, Skips, JudgedAs}
-use Rattle.unlisted.proofs.stretch.Covering.{ranged-in, read-ranged}
-use Rattle.unlisted.proofs.rising.Runs.{extends-none}
-use Rattle.unlisted.proofs.rising.Parts.{over-none, all-next, tells-each}
+use Rattle.unlisted.proofs.runs.Covering.{ranged-in, read-ranged}
+use Rattle.unlisted.proofs.rising_walk.Runs.{extends-none}
+use Rattle.unlisted.proofs.rising_walk.Parts.{over-none, all-next, tells-each}
 
 -- ---- one minishard
 

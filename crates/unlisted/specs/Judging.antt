@@ -8,11 +8,11 @@ use Rattle.sharding.specs.Specification.{minishardCount}
 use Rattle.shard.specs.index.Index.{entryStart, entryEnd}
 use Rattle.shard.specs.index.Tests.{fault}
 use Rattle.shard.specs.Faults.{faultOf, shardFault}
-use Rattle.unlisted.specs.declared.rising.inner.Run.{Run}
-use Rattle.unlisted.specs.declared.judged.Judged.{Judged}
-use Rattle.unlisted.specs.declared.inner.Counted.{Counted}
+use Rattle.unlisted.specs.declared.rising_walk.Run.{Run}
+use Rattle.unlisted.specs.declared.checked_walk.Judged.{Judged}
+use Rattle.unlisted.specs.declared.counting.Counted.{Counted}
 use Rattle.unlisted.specs.ranges.Covered.{coveredAt, unlistedBytes}
-use Rattle.unlisted.specs.rising.Order.{Tells, Extends, inPart}
+use Rattle.unlisted.specs.rising_walk.Order.{Tells, Extends, inPart}
 
 -- of minishard m: its fault, and where it has none the walk goes on over it
 pub record Steps (spec : Sharding) (shard : ℕ) (index d : List ℕ) (m : ℕ) (run : Run) (r : Judged) : Type 0 where

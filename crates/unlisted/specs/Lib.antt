@@ -1,7 +1,7 @@
 -- Counting the unlisted bytes of a shard (RULES U4).
 pub mod ranges
-pub mod stretch
-pub mod rising
+pub mod runs
+pub mod rising_walk
 pub mod windows
 pub mod Judging
 pub mod Answers

@@ -1,9 +1,9 @@
 // How many bytes of a shard lie in none of its ranges.
-pub mod inner;
-mod judged;
+mod checked_walk;
+pub mod counting;
 pub mod ranges;
-pub mod rising;
-pub mod stretch;
+pub mod rising_walk;
+pub mod runs;
 pub mod windows;
 
 ghost use mathlib.Core.Path.{_≡_};
@@ -15,13 +15,13 @@ ghost use Rattle.shard.specs.index.Index.{mostShardBytes};
 ghost use Rattle.shard.specs.File.{indexLength, indexPart, dataPart};
 ghost use Rattle.unlisted.specs.Judging.{Counts};
 ghost use Rattle.unlisted.specs.Answers.{unlistedAnswer};
-use crate::inner::Counted;
-use crate::inner::count_judged;
-use shard::inner::MOST_SHARD_BYTES;
-use shard::inner::index_length;
+use crate::counting::Counted;
+use crate::counting::count_judged;
+use shard::lengths::MOST_SHARD_BYTES;
+use shard::lengths::index_length;
 use sharding::Sharding;
-use sharding::inner::is_allowed;
-use sharding::inner::shard_count;
+use sharding::limits::is_allowed;
+use sharding::limits::shard_count;
 
 // How many bytes of a shard are unlisted, or the refusal. What is wrong in a minishard comes with its byte position, counted from
 // the beginning of the shard.

@@ -1,5 +1,6 @@
 // Prints hashed ids under murmur. A line is the preshift, the id and the hashed id, in decimal, with a space between; the
 // ids are 0, each power of two below 2^64, 2^64-1 and 32 numbers of an xorshift generator, under each of four preshifts.
+
 ghost use mathlib.Core.Path.{_≡_};
 ghost use Prim.Native.Nat.{_≤_};
 ghost use Rattle.sharding.specs.Specification.{mostPreshift};

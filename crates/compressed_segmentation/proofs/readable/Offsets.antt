@@ -10,13 +10,13 @@ use lib.ListN.{length}
 use mir.Syntax.{w64}
 use mir.Val.{Fits}
 use Rattle.refusal.specs.Choice.{pick}
-use Rattle.compressed_segmentation.specs.declared.segmentation.Shape.{Shape}
-use Rattle.compressed_segmentation.specs.segmentation.Words.{word}
-use Rattle.compressed_segmentation.specs.segmentation.Layout.{across, down, deep, widthIn, isWidth}
-use Rattle.compressed_segmentation.specs.packed.Checks.{greatest, blockCount, headerRefusal, channelHeaders, headersRefusal}
-use Rattle.bitmap.specs.seen.Seen.{Seen, Sees, Blank}
-use Rattle.compressed_segmentation.proofs.segmentation.Shapes.{whole-yes, whole-no}
-use Rattle.compressed_segmentation.proofs.packed.Greatest.{within-or-past, greatest-step, le-greatest, greatest-le, greatest-is, greatest-same, greatest-at}
+use Rattle.compressed_segmentation.specs.declared.Shape.{Shape}
+use Rattle.compressed_segmentation.specs.Words.{word}
+use Rattle.compressed_segmentation.specs.Layout.{across, down, deep, widthIn, isWidth}
+use Rattle.compressed_segmentation.specs.block.Checks.{greatest, blockCount, headerRefusal, channelHeaders, headersRefusal}
+use Rattle.bitmap.specs.visited.Seen.{Seen, Sees, Blank}
+use Rattle.compressed_segmentation.proofs.Shapes.{whole-yes, whole-no}
+use Rattle.compressed_segmentation.proofs.block.Greatest.{within-or-past, greatest-step, le-greatest, greatest-le, greatest-is, greatest-same, greatest-at}
 
 -- ---- how many blocks there are
 

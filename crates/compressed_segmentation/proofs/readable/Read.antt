@@ -4,11 +4,11 @@ use mathlib.Core.Path.{_≡_, ap, _∙_}
 use mathlib.Core.Bool.{true}
 use mathlib.Core.List.{List}
 use Rattle.morton.specs.declared.grid.Extents.{Extents}
-use Rattle.compressed_segmentation.specs.declared.segmentation.Shape.{Shape}
-use Rattle.compressed_segmentation.specs.segmentation.Words.{word}
-use Rattle.compressed_segmentation.specs.segmentation.Layout.{across, down, widthIn, isWidth}
-use Rattle.compressed_segmentation.specs.segmentation.Labels.{labelWords}
-use Rattle.compressed_segmentation.specs.packed.Checks.{span, insideOf, voxelsRefusal, blockRefusal}
+use Rattle.compressed_segmentation.specs.declared.Shape.{Shape}
+use Rattle.compressed_segmentation.specs.Words.{word}
+use Rattle.compressed_segmentation.specs.Layout.{across, down, widthIn, isWidth}
+use Rattle.compressed_segmentation.specs.Labels.{labelWords}
+use Rattle.compressed_segmentation.specs.block.Checks.{span, insideOf, voxelsRefusal, blockRefusal}
 
 pub width-read : {v w : ℕ} → v ≡ w → isWidth (widthIn w) ≡ true → isWidth (widthIn v) ≡ true
 width-read e h = ap (λ (x : ℕ). isWidth (widthIn x)) e ∙ h

@@ -9,20 +9,20 @@ use lib.ListN.{length}
 use borrow.Author.Tests.{eq-eqb, ne-eqb, lt-leb}
 use Rattle.refusal.specs.Choice.{pick}
 use Rattle.endian.proofs.Ranges.{any-hit, any-no}
-use Rattle.compressed_segmentation.specs.declared.segmentation.Shape.{Shape}
-use Rattle.compressed_segmentation.specs.declared.segmentation.LabelAnswer.the-variants.{Refused}
-use Rattle.compressed_segmentation.specs.segmentation.Words.{word}
-use Rattle.compressed_segmentation.specs.segmentation.Layout.{noVoxels, outside, across, down, deep, blockNumber, placeNumber, widthIn, isWidth}
-use Rattle.compressed_segmentation.specs.segmentation.Labels.{labelWords, labelAnswer}
-use Rattle.compressed_segmentation.specs.segmentation.Steps.{valueAnswer, blockAnswer, channelAnswer, voxelAnswer}
-use Rattle.compressed_segmentation.specs.packed.Voxels.{refusalIn, Within, someRefused, chunkRefusal, AllReadable}
-use Rattle.compressed_segmentation.specs.packed.Checks.{greatest, insideOf, blockCount, headerRefusal, channelHeaders, headersRefusal, placeRefusal, rowRefusal, layerRefusal, voxelsRefusal, blockRefusal, blocksRefusal}
-use Rattle.compressed_segmentation.proofs.segmentation.Stepwise.{stepwise}
-use Rattle.compressed_segmentation.proofs.segmentation.Shapes.{some-voxels, whole-yes, whole-no}
-use Rattle.compressed_segmentation.proofs.packed.Greatest.{within-or-past, le-greatest, greatest-le, greatest-at}
+use Rattle.compressed_segmentation.specs.declared.Shape.{Shape}
+use Rattle.compressed_segmentation.specs.declared.LabelAnswer.the-variants.{Refused}
+use Rattle.compressed_segmentation.specs.Words.{word}
+use Rattle.compressed_segmentation.specs.Layout.{noVoxels, outsideShape, across, down, deep, blockNumber, placeNumber, widthIn, isWidth}
+use Rattle.compressed_segmentation.specs.Labels.{labelWords, labelAnswer}
+use Rattle.compressed_segmentation.specs.Steps.{valueAnswer, blockAnswer, channelAnswer, voxelAnswer}
+use Rattle.compressed_segmentation.specs.block.Voxels.{refusalIn, Within, someRefused, chunkRefusal, AllReadable}
+use Rattle.compressed_segmentation.specs.block.Checks.{greatest, insideOf, blockCount, headerRefusal, channelHeaders, headersRefusal, placeRefusal, rowRefusal, layerRefusal, voxelsRefusal, blockRefusal, blocksRefusal}
+use Rattle.compressed_segmentation.proofs.Stepwise.{stepwise}
+use Rattle.compressed_segmentation.proofs.Shapes.{some-voxels, whole-yes, whole-no}
+use Rattle.compressed_segmentation.proofs.block.Greatest.{within-or-past, le-greatest, greatest-le, greatest-at}
 use Rattle.compressed_segmentation.proofs.readable.Offsets.{header-good-whole, header-good-width, channel-past, channel-within, channel-most, channel-least, each-whole, each-width, offset-whole, headers-none}
-use Rattle.compressed_segmentation.proofs.packed.Mild.{Mild, value-mild, greatest-mild, channel-mild, place-row, row-layer, layer-voxels, block-channel, channel-blocks, voxels-at, layer-at, row-at, channel-found, blocks-found}
-use Rattle.compressed_segmentation.proofs.packed.Inside.{voxel-in, voxel-block, voxel-place, block-in, place-in, number-below, number-column, number-layer, number-line, number-again, inside-x, inside-y, inside-z}
+use Rattle.compressed_segmentation.proofs.block.Mild.{Mild, value-mild, greatest-mild, channel-mild, place-row, row-layer, layer-voxels, block-channel, channel-blocks, voxels-at, layer-at, row-at, channel-found, blocks-found}
+use Rattle.compressed_segmentation.proofs.block.Inside.{voxel-in, voxel-block, voxel-place, block-in, place-in, number-below, number-column, number-layer, number-line, number-again, inside-x, inside-y, inside-z}
 
 -- ---- one block by its header
 
@@ -133,7 +133,7 @@ module _ (s : List ℕ) (sh : Shape) where
 
   module _ (h : noVoxels sh ≡ false) where
     answer-in : (x y z c : ℕ) → Within sh x y z c → labelAnswer s sh x y z c ≡ voxelAnswer s sh x y z c
-    unfolding outside
+    unfolding outsideShape
     answer-in x y z c r = stepwise s sh x y z c ∙ rw (h, lt-leb _ _ (r .in-x), lt-leb _ _ (r .in-y), lt-leb _ _ (r .in-z), lt-leb _ _ (r .in-c))
 
     -- a voxel of block n is one of the chunk's

@@ -1,24 +1,25 @@
 // The refusal of the voxels of blocks whose headers are whole and have a width.
+
 ghost use mathlib.Core.Path.{_≡_};
 ghost use mathlib.Core.Bool.{true, false};
 ghost use Prim.Native.Nat.{_+_, _-_, _*_, _/_, _<_, _≤_, _^_};
 ghost use lib.ListN.{length};
-ghost use Rattle.compressed_segmentation.specs.segmentation.Words.{word};
-ghost use Rattle.compressed_segmentation.specs.segmentation.Layout.{noVoxels, widthIn, isWidth};
-ghost use Rattle.compressed_segmentation.specs.packed.Voxels.{refusalIn};
-ghost use Rattle.compressed_segmentation.specs.packed.Checks.{blockCount, headerRefusal, headersRefusal, insideOf, blockRefusal, blocksRefusal, greatest};
-ghost use Rattle.bitmap.specs.seen.Seen.{Blank};
-use crate::packed::inner::repeats_header;
-use crate::packedblock::inner::packed_refusal;
+ghost use Rattle.compressed_segmentation.specs.Words.{word};
+ghost use Rattle.compressed_segmentation.specs.Layout.{noVoxels, widthIn, isWidth};
+ghost use Rattle.compressed_segmentation.specs.block.Voxels.{refusalIn};
+ghost use Rattle.compressed_segmentation.specs.block.Checks.{blockCount, headerRefusal, headersRefusal, insideOf, blockRefusal, blocksRefusal, greatest};
+ghost use Rattle.bitmap.specs.visited.Seen.{Blank};
+use crate::LabelAnswer;
+use crate::Shape;
+use crate::block::repeats_header;
+use crate::packed_block::packed_refusal;
+use crate::packed_values::entry_label;
+use crate::packed_values::word_at;
+use crate::packed_values::words;
 use crate::readable::headers::block_count;
 use crate::readable::inner::span_of;
-use crate::segmentation::LabelAnswer;
-use crate::segmentation::Shape;
-use crate::values::inner::entry_label;
-use crate::values::inner::word_at;
-use crate::values::inner::words;
-use bitmap::seen::inner::is_seen;
-use bitmap::seen::inner::see;
+use bitmap::visited::is_seen;
+use bitmap::visited::see;
 use morton::grid::Extents;
 use morton::grid::inner::grid_size;
 

@@ -1,18 +1,19 @@
 // The refusal of a chunk's headers and channel offsets.
+
 ghost use mathlib.Core.Path.{_≡_};
 ghost use mathlib.Core.Bool.{true, false};
 ghost use Prim.Native.Nat.{_+_, _/_, _<_, _≤_, _^_, min, max};
 ghost use lib.ListN.{length};
-ghost use Rattle.compressed_segmentation.specs.segmentation.Layout.{noVoxels};
-ghost use Rattle.compressed_segmentation.specs.packed.Checks.{blockCount, headerRefusal, channelHeaders, headersRefusal, greatest};
-ghost use Rattle.bitmap.specs.seen.Seen.{Blank};
-use crate::segmentation::Shape;
-use crate::segmentation::inner::is_width;
-use crate::values::inner::linear;
-use crate::values::inner::word_at;
-use crate::values::inner::words;
-use bitmap::seen::inner::is_seen;
-use bitmap::seen::inner::see;
+ghost use Rattle.compressed_segmentation.specs.Layout.{noVoxels};
+ghost use Rattle.compressed_segmentation.specs.block.Checks.{blockCount, headerRefusal, channelHeaders, headersRefusal, greatest};
+ghost use Rattle.bitmap.specs.visited.Seen.{Blank};
+use crate::Shape;
+use crate::packed_values::linear;
+use crate::packed_values::word_at;
+use crate::packed_values::words;
+use crate::shape_tests::is_width;
+use bitmap::visited::is_seen;
+use bitmap::visited::see;
 use morton::grid::inner::grid_size;
 
 // How many blocks a channel has, at most `most`.

@@ -1,16 +1,17 @@
 // What other crates ask of a chunk whose extents they have tested.
+
 ghost use mathlib.Core.Path.{_≡_};
 ghost use mathlib.Core.Bool.{false};
-ghost use Rattle.compressed_segmentation.specs.segmentation.Layout.{noVoxels};
-ghost use Rattle.compressed_segmentation.specs.packed.Voxels.{chunkRefusal};
-ghost use Rattle.compressed_segmentation.specs.packed.Checks.{span};
-ghost use Rattle.bitmap.specs.seen.Seen.{Blank};
+ghost use Rattle.compressed_segmentation.specs.Layout.{noVoxels};
+ghost use Rattle.compressed_segmentation.specs.block.Voxels.{chunkRefusal};
+ghost use Rattle.compressed_segmentation.specs.block.Checks.{span};
+ghost use Rattle.bitmap.specs.visited.Seen.{Blank};
+use crate::Shape;
+use crate::packed_values::linear;
 use crate::readable::blocks::blocks_refusal;
 use crate::readable::headers::headers_refusal;
-use crate::segmentation::Shape;
-use crate::values::inner::linear;
-use bitmap::seen::inner::MAP_WORDS;
-use bitmap::seen::inner::clear;
+use bitmap::visited::MAP_WORDS;
+use bitmap::visited::clear;
 
 // How many voxels of block g along an axis lie inside the extent.
 pub fn span_of(extent: u32, block: u32, g: u32) -> u32

@@ -9,10 +9,10 @@ use lib.Pow.{pow-pos, pow-add, ones-split, ones-lt, high as div-of}
 use lib.Bits.{bitAnd, and-step}
 use Rattle.morton.specs.declared.grid.Extents.{Extents}
 use Rattle.morton.specs.declared.grid.Cell.{Cell}
-use Rattle.morton.specs.axisbits.Axis.{bitOf, used, count, put, AxisBits}
+use Rattle.morton.specs.axis.Axis.{bitOf, used, count, put, AxisBits}
 use Rattle.morton.specs.Key.{keyOf}
 use Rattle.morton.proofs.From.{keyFrom, key-is}
-use Rattle.morton.proofs.axisbits.Used.{used-yes}
+use Rattle.morton.proofs.axis.Used.{used-yes}
 
 bit-lt : (v i : ℕ) → bitOf v i < 2
 unfolding bitOf

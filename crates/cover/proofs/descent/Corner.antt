@@ -16,7 +16,7 @@ use Rattle.cover.specs.declared.overlap.Along.{Along}
 use Rattle.cover.specs.declared.overlap.Part.{Part}
 use Rattle.cover.specs.overlap.Cover.{passing}
 use Rattle.cover.specs.overlap.Marked.{marked, Fitting, Sized, markedCell, missed, frame, partKeys, firstCell, lastCell, Framed}
-use Rattle.cover.specs.halves.Box.{between, inBox, boxKeys, Corners}
+use Rattle.cover.specs.halves.Box.{between, inBox, boxKeys, BoxCorners}
 use Rattle.cover.proofs.overlap.Tests.{leb-same, not-true-false}
 use Rattle.cover.proofs.overlap.Lists.{passing-split, passing-same, passing-nothing}
 use Rattle.cover.proofs.halves.Boxes.{by-axes, inside}
@@ -83,7 +83,7 @@ module _ (g : Extents) (p : Part) (f : Framed g p) (s : Sized p) (m : missed p �
   last-fits : (a : Along) → Fitting a → a .from < a .to → a .to - 1 < 2 ^ (a .bits)
   last-fits a t l = omega (arith, t .within)
 
-  pub corners : Corners bits-x bits-y bits-z low high
+  pub corners : BoxCorners bits-x bits-y bits-z low high
   corners =
       let q = some-each p m in
       record {

@@ -12,12 +12,12 @@ use lib.ListN.{length, length-append}
 use Rattle.morton.specs.declared.grid.Cell.{Cell}
 use Rattle.morton.specs.declared.grid.Extents.{Extents}
 use Rattle.morton.specs.Key.{cellOf, keyBits}
-use Rattle.morton.specs.axisbits.Axis.{count}
+use Rattle.morton.specs.axis.Axis.{count}
 use Rattle.refusal.proofs.Tests.{both, neither}
 use Rattle.cover.specs.declared.overlap.Along.{Along}
 use Rattle.cover.specs.declared.overlap.Part.{Part}
 use Rattle.cover.specs.overlap.Cover.{keep, passing}
-use Rattle.cover.specs.overlap.Marked.{marked, Fitting, Sized, markedCell, missed, frame, leftBits, partKeys, width}
+use Rattle.cover.specs.overlap.Marked.{marked, Fitting, Sized, markedCell, missed, frame, leftBits, partKeys, markedWidth}
 use Rattle.cover.proofs.overlap.Tests.{ltb-same, leb-same, false-last}
 use Rattle.cover.proofs.overlap.Lists.{passing-split, passing-same, passing-none}
 use Rattle.cover.proofs.descent.Frames.{cube, cube-bits, Inside, inside-cube, Cut, cut-low, cut-high, cut-x, cut-y, cut-z}
@@ -51,13 +51,13 @@ module _ (a : Along) where
       let w : a .to ≤ 2 ^ (a .bits - 1) * 2 = rw (e, pow-suc) at (f .within) in
       record { most = omega (arith, f .most); within = omega arith }
 
-  width-halves : width a ≡ width (lowHalf a) + width (highHalf a)
-  unfolding width lowHalf highHalf
+  width-halves : markedWidth a ≡ markedWidth (lowHalf a) + markedWidth (highHalf a)
+  unfolding markedWidth lowHalf highHalf
   width-halves = omega arith
 
 -- ---- three axes
 unfoldable pub markedCells : Part → ℕ
-markedCells p = width (p .x) * width (p .y) * width (p .z)
+markedCells p = markedWidth (p .x) * markedWidth (p .y) * markedWidth (p .z)
 
 -- the highest key bit that is left splits a part in two
 pub record Splits (p low high : Part) : Type 0 where
@@ -296,8 +296,8 @@ one-cell a b c h l = go (leb a c) (ltb c b) refl refl
     go true false p q = omega (arith, leb-true a c p, ltb-false c b q)
     go false t p q = omega (arith, leb-false a c p)
 
-one-width : (a : Along) (c : ℕ) → Fitting a → a .bits ≡ 0 → c < 2 ^ (a .bits) → width a ≡ count (marked a c)
-unfolding width marked
+one-width : (a : Along) (c : ℕ) → Fitting a → a .bits ≡ 0 → c < 2 ^ (a .bits) → markedWidth a ≡ count (marked a c)
+unfolding markedWidth marked
 one-width a c f e h =
     let t : a .to ≤ 2 ^ 0 = rw e at (f .within) in
     let z : c < 2 ^ 0 = rw e at h in
@@ -338,15 +338,15 @@ module _ (p : Part) (first : ℕ) (s : Sized p) (e : leftBits p ≡ 0) where
   unfolding frame c
   in-frame = inside-cube (p .x .bits) (p .y .bits) (p .z .bits) (first - first)
 
-  wx : width (p .x) ≡ count (marked (p .x) (c .x))
+  wx : markedWidth (p .x) ≡ count (marked (p .x) (c .x))
   unfolding frame
   wx = one-width (p .x) (c .x) (s .x) (z .0) (in-frame .x)
 
-  wy : width (p .y) ≡ count (marked (p .y) (c .y))
+  wy : markedWidth (p .y) ≡ count (marked (p .y) (c .y))
   unfolding frame
   wy = one-width (p .y) (c .y) (s .y) (z .1) (in-frame .y)
 
-  wz : width (p .z) ≡ count (marked (p .z) (c .z))
+  wz : markedWidth (p .z) ≡ count (marked (p .z) (c .z))
   unfolding frame
   wz = one-width (p .z) (c .z) (s .z) (z .2) (in-frame .z)
 

@@ -8,10 +8,10 @@ use native.Mathlib.Nat.{pow-suc, le-refl, le-trans, lt-of-lt-of-le, div-eq-of-lt
 use lib.Pow.{pow-add, pow-lt, pow-mono, pow-pos}
 use Rattle.morton.specs.declared.grid.Extents.{Extents}
 use Rattle.morton.specs.declared.grid.Cell.{Cell}
-use Rattle.morton.specs.axisbits.Axis.{bitOf, used, put, low, AxisBits}
+use Rattle.morton.specs.axis.Axis.{bitOf, used, put, low, AxisBits}
 use Rattle.morton.specs.Key.{keyOf, cellOf, keyBits}
 use Rattle.morton.proofs.From.{keyFrom, cellFrom, afterTurn, key-is, cell-is, low-lt, cell-of-key, key-of-cell}
-use Rattle.morton.proofs.axisbits.Used.{unused, axis-bits-are}
+use Rattle.morton.proofs.axis.Used.{unused, axis-bits-are}
 use Rattle.morton.proofs.Lengths.{key-bits-sum}
 use Rattle.cover.proofs.descent.HighBit.{Halved, halve-x, halve-y, halve-z}
 

@@ -7,11 +7,11 @@ use native.Mathlib.Nat.{le-refl, lt-trans, zero-add}
 use lib.Pow.{pow-add, pow-lt}
 use Rattle.morton.specs.declared.grid.Extents.{Extents}
 use Rattle.morton.specs.declared.grid.Cell.{Cell}
-use Rattle.morton.specs.axisbits.Axis.{bitOf, used, count, put}
+use Rattle.morton.specs.axis.Axis.{bitOf, used, count, put}
 use Rattle.morton.specs.Key.{keyOf, keyBits}
 use Rattle.morton.specs.Turn.{Top}
 use Rattle.morton.proofs.From.{bitsFrom, keyFrom, key-is, bits-is, key-from-none, bits-from-none, more}
-use Rattle.morton.proofs.axisbits.Used.{used-yes, unused}
+use Rattle.morton.proofs.axis.Used.{used-yes, unused}
 
 -- the bit b at the top of a key of m bits stays at the top
 put-top : (u : Bool) (a k b m : ℕ) → put u a (k + b * 2 ^ m) ≡ put u a k + b * 2 ^ (count u + m)

@@ -17,7 +17,7 @@ use Rattle.morton.specs.declared.grid.Extents.{Extents}
 use Rattle.morton.specs.Key.{keyOf}
 use Rattle.cover.specs.declared.overlap.Part.{Part}
 use Rattle.cover.specs.overlap.Marked.{Sized, missed, partKeys, firstCell, lastCell, Framed}
-use Rattle.cover.specs.halves.Box.{counting, boxKeys, Corners, SplitAt, bitsLeft, Axes, Owns, lastBelow, firstAbove}
+use Rattle.cover.specs.halves.Box.{counting, boxKeys, BoxCorners, SplitAt, bitsLeft, Axes, Owns, lastBelow, firstAbove}
 use Rattle.cover.proofs.halves.Counting.{length-counting}
 use Rattle.cover.proofs.descent.Counts.{count-first, count-next, count-last}
 use Rattle.cover.proofs.halves.Boxes.{high-is, axes-at, one-key, run-keys, last-div, last-lt, low-last, last-corners, first-div, first-high, first-corners, keys-split}
@@ -88,7 +88,7 @@ module _ (x y z low high at : ℕ) (d : List ℕ) where
 pub run-reach : (low high : ℕ) → low ≤ high → Fits w64 high → low + (high - low + 1) ≤ 2 ^ 64
 run-reach low high l f = omega (arith, f .fits)
 
-module _ (x y z low high at : ℕ) (d : List ℕ) (c : Corners x y z low high) {n : ℕ} (w : SplitAt low high n) where
+module _ (x y z low high at : ℕ) (d : List ℕ) (c : BoxCorners x y z low high) {n : ℕ} (w : SplitAt low high n) where
   pub axes-here : Axes x y z n
   axes-here = axes-at x y z low high n c w
 
@@ -100,7 +100,7 @@ module _ (x y z low high at : ℕ) (d : List ℕ) (c : Corners x y z low high) {
     first-reach f = omega (arith, first-high x y z low high n own c w s, f .fits)
 
     module _ {first : ℕ} (ef : first ≡ firstAbove own low n) where
-      pub first-corner : Corners x y z first high
+      pub first-corner : BoxCorners x y z first high
       first-corner = rw ef (first-corners x y z low high n own c w s)
 
       pub first-before : first ≤ high
@@ -113,7 +113,7 @@ module _ (x y z low high at : ℕ) (d : List ℕ) (c : Corners x y z low high) {
           omega (arith, left-gt low high (omega (arith, f .fits)) (f .fits) n w)
 
     module _ {last : ℕ} (el : last ≡ lastBelow own high n) where
-      pub last-corner : Corners x y z low last
+      pub last-corner : BoxCorners x y z low last
       last-corner = rw el (last-corners x y z low high n own c w s)
 
       pub last-after : low ≤ last
@@ -165,7 +165,7 @@ module _ (p : Part) {t : Bool} (e : t ≡ missed p) where
 module _ (g : Extents) (p : Part) (f : Framed g p) (s : Sized p) {t : Bool} (e : t ≡ missed p) (k : t ≡ false) (d : List ℕ) {x y z low high : ℕ}
     (ex : x ≡ keyOf g (on-x (2 ^ 32 - 1))) (ey : y ≡ keyOf g (on-y (2 ^ 32 - 1))) (ez : z ≡ keyOf g (on-z (2 ^ 32 - 1))) where
   module _ {a b : Cell} (ea : a ≡ firstCell p) (eb : b ≡ lastCell p) (el : low ≡ keyOf g a) (eh : high ≡ keyOf g b) where
-    pub whole-corners : Corners x y z low high
+    pub whole-corners : BoxCorners x y z low high
     whole-corners = rw (ex, ey, ez, el, eh, ea, eb) (corners g p f s (sym e ∙ k))
 
     pub whole-ordered : low ≤ high

@@ -12,7 +12,7 @@ use lib.Bits.{and-self, and-comm, and-mask, bitAnd, bitOr, and-step, and-zero-r,
 use borrow.Author.Tests.{le-leb, leb-true}
 use Rattle.refusal.proofs.Tests.{both}
 use Rattle.cover.specs.overlap.Cover.{passing, keep}
-use Rattle.cover.specs.halves.Box.{counting, between, inBox, boxKeys, Corners, SplitAt, Axes, Side, mine, other, Owns, lastBelow, firstAbove}
+use Rattle.cover.specs.halves.Box.{counting, between, inBox, boxKeys, BoxCorners, SplitAt, Axes, Side, mine, other, Owns, lastBelow, firstAbove}
 use Rattle.cover.proofs.overlap.Tests.{leb-same, not-true-false}
 use Rattle.cover.proofs.overlap.Lists.{passing-split, passing-same, passing-nothing}
 use Rattle.cover.proofs.halves.Counting.{passing-all}
@@ -144,7 +144,7 @@ block-lt n bits a b e l h =
     let g : b / 2 ^ n < 2 ^ (bits - n) = div-lt-iff-lt-mul (pow-pos n) .1 (rw f at h) in
     rw f (div-lt-iff-lt-mul (pow-pos n) .0 (rw e g))
 
-module _ (x y z low high : ℕ) (c : Corners x y z low high) where
+module _ (x y z low high : ℕ) (c : BoxCorners x y z low high) where
   -- numbers in the order of their bits along each axis
   pub by-axes : (a b : ℕ) → a < 2 ^ c .bits → b < 2 ^ c .bits → bitAnd a x ≤ bitAnd b x → bitAnd a y ≤ bitAnd b y → bitAnd a z ≤ bitAnd b z → a ≤ b
   by-axes a b ha hb lx ly lz = omega (arith, c .whole a ha, c .whole b hb)
@@ -162,7 +162,7 @@ module _ (x y z low high : ℕ) (c : Corners x y z low high) where
       )
 
 -- the box in two, where `own` is the axis of bit n
-module _ (x y z low high n own : ℕ) (c : Corners x y z low high) (w : SplitAt low high n) (s : Owns x y z n own) where
+module _ (x y z low high n own : ℕ) (c : BoxCorners x y z low high) (w : SplitAt low high n) (s : Owns x y z n own) where
   abbrev last : ℕ
   last = lastBelow own high n
 
@@ -181,7 +181,7 @@ module _ (x y z low high n own : ℕ) (c : Corners x y z low high) (w : SplitAt 
   pub first-gt : low < first
   first-gt = omega (arith, first-is low high n own w, low-is low high n own w, mod-lt low (pow-pos n), suc-mul (low / 2 ^ n) (2 ^ n))
 
-  pub last-corners : Corners x y z low last
+  pub last-corners : BoxCorners x y z low last
   last-corners =
       record {
         x = last-holds low high n own w (s .x) low refl (c .x);
@@ -192,7 +192,7 @@ module _ (x y z low high n own : ℕ) (c : Corners x y z low high) (w : SplitAt 
         whole = c .whole;
       }
 
-  pub first-corners : Corners x y z first high
+  pub first-corners : BoxCorners x y z first high
   first-corners =
       record {
         x = first-holds low high n own w (s .x) high (w .next) (c .x);
@@ -303,7 +303,7 @@ bit-and n m =
 low-and-axis : (n a m : ℕ) → bitAnd (a % 2 ^ n) m ≡ bitAnd (a % 2 ^ n) (m % 2 ^ n)
 low-and-axis n a m = and-parts (a % 2 ^ n) m n ∙ rw (low-div, low-mod) (omega arith)
 
-module _ (x y z low high n : ℕ) (c : Corners x y z low high) (w : SplitAt low high n) where
+module _ (x y z low high n : ℕ) (c : BoxCorners x y z low high) (w : SplitAt low high n) where
   small : 2 ^ n < 2 ^ c .bits
   small = omega (arith, high-is low high n 0 w, c .fits)
 

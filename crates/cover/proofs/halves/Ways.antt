@@ -10,7 +10,7 @@ use borrow.Author.Needs.{needs}
 use borrow.Author.Tests.{eqb-true, eqb-false}
 use mir.Syntax.{w64}
 use mir.Val.{Fits}
-use Rattle.morton.proofs.axisbits.Used.{one-shl}
+use Rattle.morton.proofs.axis.Used.{one-shl}
 use Rattle.cover.specs.halves.Box.{Axes, Owns, lastBelow, firstAbove}
 use Rattle.cover.proofs.halves.Boxes.{z-owns, y-owns, x-owns}
 use Rattle.cover.proofs.halves.Differ.{top-zeros, top-held, top-all, some-differ, split-at}

@@ -9,9 +9,9 @@ use Rattle.refusal.specs.declared.Written.the-variants.{Length, Refused}
 use Rattle.morton.specs.declared.bounds.Point.{Point}
 use Rattle.morton.specs.declared.grid.Volume.{Volume}
 use Rattle.morton.specs.grid.Grid.{gridSize, gridOf, hasZero, zeroExtent, inGrid}
-use Rattle.morton.specs.axisbits.Axis.{bitOf, used, count}
+use Rattle.morton.specs.axis.Axis.{bitOf, used, count}
 use Rattle.morton.specs.Key.{step, steps, keyBits, tooManyBits, into, stepBack, stepsBack, cellOf, isKey}
-use Rattle.morton.specs.bounds.Bounds.{beginOf, endOf, beginPoint, endPoint}
+use Rattle.morton.specs.bounds.Bounds.{cellBegin, cellEnd, beginPoint, endPoint}
 use Rattle.morton.proofs.Cases.{plain, shifted}
 use Rattle.cover.specs.overlap.Cover.{larger, smaller, shares, meets, covers, keep, passing, coverKeys, coverChecks, coverAnswer, coverLeft}
 
@@ -56,7 +56,7 @@ table =
     ∷ []
 
 pub cases-hold : map given table ≡ table
-unfolding firstNumber unless gridSize gridOf hasZero zeroExtent inGrid bitOf used count step steps keyBits tooManyBits into stepBack stepsBack cellOf isKey beginOf endOf beginPoint endPoint larger smaller shares meets covers keep passing coverKeys coverChecks coverAnswer coverLeft
+unfolding firstNumber unless gridSize gridOf hasZero zeroExtent inGrid bitOf used count step steps keyBits tooManyBits into stepBack stepsBack cellOf isKey cellBegin cellEnd beginPoint endPoint larger smaller shares meets covers keep passing coverKeys coverChecks coverAnswer coverLeft
 cases-hold = refl
 
 -- 3 whatever the box and the output: there the keys need not be gone through

@@ -23,10 +23,10 @@ use Rattle.morton.specs.declared.KeyAnswer.the-variants.{Key}
 use Rattle.morton.specs.grid.Grid.{gridOf, zeroExtent, InU32}
 use Rattle.morton.specs.Key.{keyBits, tooManyBits, cellOf, isKey}
 use Rattle.morton.specs.Answers.{keyAnswer}
-use Rattle.morton.specs.bounds.Bounds.{beginOf, endOf, beginPoint, endPoint}
+use Rattle.morton.specs.bounds.Bounds.{cellBegin, cellEnd, beginPoint, endPoint}
 use Rattle.morton.proofs.Laws.{celled, key-back}
 use Rattle.cover.specs.overlap.Cover.{larger, shares, meets, covers, keep, passing, coverKeys, coverChecks, coverAnswer, coverLeft}
-use Rattle.cover.specs.overlap.Meaning.{From, SharesVoxel, RisingFrom, reversed, apart, outside}
+use Rattle.cover.specs.overlap.Meaning.{From, SharesVoxel, RisingFrom, reversed, apart, outsideVolume}
 use Rattle.cover.proofs.overlap.Lists.{passing-none}
 use Rattle.cover.proofs.overlap.Tests.{false-last}
 use Rattle.cover.proofs.overlap.Places.{below, above, above-lt, above-le, above-sum, below-sum, larger-above, larger-low, shares-above, ground, low-o, low-l, low-u, cell-shares}
@@ -177,7 +177,7 @@ module _ (o : ℤ) (size chunk c : ℕ) (lower upper : ℤ) where
   abbrev n : ℕ
   n = ground o lower upper
 
-  reversed-shares : leZ upper lower ≡ true → shares (beginOf o chunk c) (endOf o size chunk c) lower upper ≡ false
+  reversed-shares : leZ upper lower ≡ true → shares (cellBegin o chunk c) (cellEnd o size chunk c) lower upper ≡ false
   reversed-shares t =
       let h = leb-true (above n upper) (above n lower) (sym (above-le n upper lower (low-u o lower upper) (low-l o lower upper)) ∙ t) in
       cell-shares o size chunk c lower upper ∙ le-ltb _ _ (numbers (above n o + c * chunk) (above n lower) (above n o + min ((c + 1) * chunk) size) (above n upper) h)
@@ -185,7 +185,7 @@ module _ (o : ℤ) (size chunk c : ℕ) (lower upper : ℤ) where
       numbers : (b l e u : ℕ) → u ≤ l → min e u ≤ max b l
       numbers b l e u h = omega arith
 
-  apart-shares : apart o size lower upper ≡ true → shares (beginOf o chunk c) (endOf o size chunk c) lower upper ≡ false
+  apart-shares : apart o size lower upper ≡ true → shares (cellBegin o chunk c) (cellEnd o size chunk c) lower upper ≡ false
   unfolding apart
   apart-shares t = go (leZ upper o) refl t
     where
@@ -195,7 +195,7 @@ module _ (o : ℤ) (size chunk c : ℕ) (lower upper : ℤ) where
       past : (a b l e s u : ℕ) → a + s ≤ l → min (a + min e s) u ≤ max (a + b) l
       past a b l e s u h = omega arith
 
-      go : (s : Bool) → leZ upper o ≡ s → s || leZ (o +ℤ pos size) lower ≡ true → shares (beginOf o chunk c) (endOf o size chunk c) lower upper ≡ false
+      go : (s : Bool) → leZ upper o ≡ s → s || leZ (o +ℤ pos size) lower ≡ true → shares (cellBegin o chunk c) (cellEnd o size chunk c) lower upper ≡ false
       go true p q =
           let h = leb-true (above n upper) (above n o) (sym (above-le n upper o (low-u o lower upper) (low-o o lower upper)) ∙ p) in
           cell-shares o size chunk c lower upper ∙ le-ltb _ _ (before (above n o) (c * chunk) (above n lower) (above n o + min ((c + 1) * chunk) size) (above n upper) h)
@@ -219,9 +219,9 @@ module _ (v : Volume) (lower upper : Point) where
   unfolding reversed
   reversed-lists-none t = none-listed (λ c. unfold meets beginPoint endPoint in one-axis _ _ _ _ _ _ t (reversed-shares _ _ _ _ _ _) (reversed-shares _ _ _ _ _ _) (reversed-shares _ _ _ _ _ _))
 
-  -- "or one outside the volume"
-  pub outside-lists-none : outside v lower upper ≡ true → coverKeys v lower upper ≡ []
-  unfolding outside
+  -- "or one outsideVolume the volume"
+  pub outside-lists-none : outsideVolume v lower upper ≡ true → coverKeys v lower upper ≡ []
+  unfolding outsideVolume
   outside-lists-none t = none-listed (λ c. unfold meets beginPoint endPoint in one-axis _ _ _ _ _ _ t (apart-shares _ _ _ _ _ _) (apart-shares _ _ _ _ _ _) (apart-shares _ _ _ _ _ _))
 
 -- ---- where nothing is refused

@@ -9,7 +9,7 @@ use lib.IntN.{ℤ, pos, negsuc, subℕ, _+ℤ_, _-ℤ_}
 use lib.Signed.{ltZ, leZ}
 use borrow.Author.Tests.{ltb-true, ltb-false, lt-ltb, le-ltb, le-leb, lt-leb}
 use Rattle.refusal.specs.Choice.{pick}
-use Rattle.morton.specs.bounds.Bounds.{beginOf, endOf}
+use Rattle.morton.specs.bounds.Bounds.{cellBegin, cellEnd}
 use Rattle.cover.specs.overlap.Cover.{larger, smaller, shares}
 use Rattle.cover.specs.overlap.Marked.{natural}
 use Rattle.cover.proofs.overlap.Tests.{ltb-same, leb-same}
@@ -137,10 +137,10 @@ module _ (o : ℤ) (lower upper : ℤ) where
   pub low-u : below upper ≤ ground
   low-u = omega arith
 
-pub cell-shares : (o : ℤ) (size chunk c : ℕ) (lower upper : ℤ) → shares (beginOf o chunk c) (endOf o size chunk c) lower upper
+pub cell-shares : (o : ℤ) (size chunk c : ℕ) (lower upper : ℤ) → shares (cellBegin o chunk c) (cellEnd o size chunk c) lower upper
     ≡ ltb (max (above (ground o lower upper) o + c * chunk) (above (ground o lower upper) lower))
     (min (above (ground o lower upper) o + min ((c + 1) * chunk) size) (above (ground o lower upper) upper))
-unfolding beginOf endOf
+unfolding cellBegin cellEnd
 cell-shares o size chunk c lower upper =
     let n = ground o lower upper in
     let l = low-o o lower upper in

@@ -10,7 +10,7 @@ use mir.Facts.{toZ-ofZ}
 use Rattle.morton.specs.declared.bounds.Point.{Point}
 use Rattle.morton.specs.declared.grid.Volume.{Volume}
 use Rattle.morton.specs.grid.Grid.{gridSize}
-use Rattle.morton.specs.axisbits.Axis.{AxisBits}
+use Rattle.morton.specs.axis.Axis.{AxisBits}
 use Rattle.morton.proofs.grid.Ways.{chunk-x, chunk-y, chunk-z}
 use Rattle.cover.specs.declared.overlap.Along.{Along}
 use Rattle.cover.specs.overlap.Marked.{before, Spans, Whole}

@@ -15,12 +15,12 @@ use Rattle.morton.specs.declared.grid.Extents.{Extents}
 use Rattle.morton.specs.declared.bounds.Point.{Point}
 use Rattle.morton.specs.declared.grid.Volume.{Volume}
 use Rattle.morton.specs.grid.Grid.{gridOf, gridSize, inGrid}
-use Rattle.morton.specs.axisbits.Axis.{used, AxisBits}
+use Rattle.morton.specs.axis.Axis.{used, AxisBits}
 use Rattle.morton.specs.Key.{cellOf, keyBits, isKey}
-use Rattle.morton.specs.bounds.Bounds.{beginOf, endOf, beginPoint, endPoint}
+use Rattle.morton.specs.bounds.Bounds.{cellBegin, cellEnd, beginPoint, endPoint}
 use Rattle.morton.proofs.grid.Covers.{next, cell-begins-inside, begins-inside-is-cell, grid-size-reached, grid-size-reaches}
 use Rattle.morton.proofs.From.{cellFrom, afterTurn, cell-is}
-use Rattle.morton.proofs.axisbits.Used.{used-yes, unused}
+use Rattle.morton.proofs.axis.Used.{used-yes, unused}
 use Rattle.morton.proofs.Lengths.{key-bits-sum}
 use Rattle.cover.specs.declared.overlap.Along.{Along}
 use Rattle.cover.specs.declared.overlap.Part.{Part}
@@ -52,14 +52,14 @@ module _ (offset : ℤ) (size chunk : ℕ) (lower upper : ℤ) (some : 0 < chunk
   unfolding before
   before-upper = rw (difference n upper offset (low-u offset lower upper) (low-o offset lower upper))
 
-  abbrev shares-is : shares (beginOf offset chunk c) (endOf offset size chunk c) lower upper
+  abbrev shares-is : shares (cellBegin offset chunk c) (cellEnd offset size chunk c) lower upper
       ≡ ltb (max (o + c * chunk) low) (min (o + min ((c + 1) * chunk) size) high)
   shares-is = cell-shares offset size chunk c lower upper
 
   begin-end : c * chunk < (c + 1) * chunk
   begin-end = rw next (omega arith)
 
-  pub none-shared : before offset size upper ≤ before offset size lower → shares (beginOf offset chunk c) (endOf offset size chunk c) lower upper ≡ false
+  pub none-shared : before offset size upper ≤ before offset size lower → shares (cellBegin offset chunk c) (cellEnd offset size chunk c) lower upper ≡ false
   none-shared h =
       shares-is ∙ not-true-false _ (λ t. not-both (met o low high size (c * chunk) ((c + 1) * chunk) (before offset size lower) (before offset size upper) before-lower before-upper begin-end (ltb-true _ _ t) .2))
     where
@@ -67,7 +67,7 @@ module _ (offset : ℤ) (size chunk : ℕ) (lower upper : ℤ) (some : 0 < chunk
       not-both l = omega arith
 
   pub some-shared : before offset size lower < before offset size upper
-      → shares (beginOf offset chunk c) (endOf offset size chunk c) lower upper
+      → shares (cellBegin offset chunk c) (cellEnd offset size chunk c) lower upper
       ≡ leb (before offset size lower / chunk) c && ltb c (gridSize (before offset size upper) chunk)
   some-shared h = shares-is ∙ test-same _ _ yes-marked yes-shared
     where

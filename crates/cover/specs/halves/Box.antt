@@ -26,7 +26,7 @@ unfoldable pub boxKeys : ℕ → ℕ → ℕ → ℕ → ℕ → List ℕ
 boxKeys x y z low high = passing (inBox x y z low high) low (suc high - low)
 
 -- low's cell does not lie past high's along any axis, and each key bit is one of an axis
-pub record Corners (ax ay az low high : ℕ) : Type 0 where
+pub record BoxCorners (ax ay az low high : ℕ) : Type 0 where
   pub x : bitAnd low ax ≤ bitAnd high ax
   pub y : bitAnd low ay ≤ bitAnd high ay
   pub z : bitAnd low az ≤ bitAnd high az

@@ -11,8 +11,8 @@ use Rattle.morton.specs.declared.bounds.Point.{Point}
 use Rattle.morton.specs.declared.grid.Volume.{Volume}
 use Rattle.morton.specs.grid.Grid.{gridOf, gridSize}
 use Rattle.morton.specs.Key.{cellOf}
-use Rattle.morton.specs.axisbits.Axis.{AxisBits}
-use Rattle.morton.specs.bounds.Bounds.{beginOf, endOf}
+use Rattle.morton.specs.axis.Axis.{AxisBits}
+use Rattle.morton.specs.bounds.Bounds.{cellBegin, cellEnd}
 use Rattle.cover.specs.overlap.Cover.{shares, passing, coverKeys}
 use Rattle.cover.specs.declared.overlap.Along.{Along}
 use Rattle.cover.specs.declared.overlap.Part.{Part}
@@ -50,8 +50,8 @@ unfoldable pub partKeys : Part → ℕ → List ℕ
 partKeys p first = passing (λ k. markedCell p (cellOf (frame p) (k - first))) first (2 ^ leftBits p)
 
 -- how many cells are marked
-unfoldable pub width : Along → ℕ
-width a = a .to - a .from
+unfoldable pub markedWidth : Along → ℕ
+markedWidth a = a .to - a .from
 
 -- the first and the last marked cell along each axis
 abbrev pub firstCell : Part → Cell
@@ -79,7 +79,7 @@ before offset size place = min size (natural (place -ℤ offset))
 pub record Spans (offset : ℤ) (size chunk : ℕ) (lower upper : ℤ) (a : Along) : Type 0 where
   pub bits : AxisBits (gridSize size chunk) (a .bits)
   pub within : a .to ≤ gridSize size chunk
-  pub meets : (c : ℕ) → shares (beginOf offset chunk c) (endOf offset size chunk c) lower upper ≡ marked a c
+  pub meets : (c : ℕ) → shares (cellBegin offset chunk c) (cellEnd offset size chunk c) lower upper ≡ marked a c
 
 -- the whole grid as a part
 pub record Whole (v : Volume) (lower upper : Point) (p : Part) : Type 0 where

@@ -40,8 +40,8 @@ reversed lower upper = leZ (upper .x) (lower .x) || (leZ (upper .y) (lower .y) |
 unfoldable pub apart : ℤ → ℕ → ℤ → ℤ → Bool
 apart offset size lower upper = leZ upper offset || leZ (offset +ℤ pos size) lower
 
--- "or one outside the volume" (RULES B4)
-unfoldable pub outside : Volume → Point → Point → Bool
-outside v lower upper =
+-- "or one outsideVolume the volume" (RULES B4)
+unfoldable pub outsideVolume : Volume → Point → Point → Bool
+outsideVolume v lower upper =
     apart (v .offset .x) (v .size .x) (lower .x) (upper .x)
     || (apart (v .offset .y) (v .size .y) (lower .y) (upper .y) || apart (v .offset .z) (v .size .z) (lower .z) (upper .z))

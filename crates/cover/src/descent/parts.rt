@@ -1,4 +1,5 @@
 // The marked cells of a grid: the first and the last of them, if any.
+
 ghost use mathlib.Core.Path.{_≡_};
 ghost use mathlib.Core.Bool.{false};
 ghost use Rattle.cover.specs.overlap.Marked.{missed, firstCell, lastCell};

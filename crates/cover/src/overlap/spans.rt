@@ -1,4 +1,5 @@
 // The cells of each axis that share a voxel with the box.
+
 ghost use mathlib.Core.Path.{_≡_};
 ghost use mathlib.Core.Bool.{false};
 ghost use Prim.Native.Nat.{_<_};
@@ -28,7 +29,7 @@ fn span(offset: i32, size: u32, chunk: u32, lower: i64, upper: i64) -> Along
     requires { ⌜ 0 < chunk ⌝ }
     ensures { λ r. ⌜ Spans offset size chunk lower upper r ⌝ }
 {
-    let bits = morton::axisbits::axis::axis_bits(morton::grid::inner::grid_size(size, chunk));
+    let bits = morton::axis::axis_bits(morton::grid::inner::grid_size(size, chunk));
     let begin = voxels_before(offset, size, lower);
     let end = voxels_before(offset, size, upper);
     if end <= begin {

@@ -9,37 +9,37 @@ use lib.Dec.{ltb, eqb}
 use lib.ListN.{getD}
 use Rattle.refusal.specs.Choice.{pick}
 use Rattle.refusal.proofs.Tests.{both}
-use Rattle.json.specs.text.Bytes.{isDigit}
-use Rattle.json.specs.text.Parts.{digits}
+use Rattle.json.specs.tokens.Bytes.{isDigit}
+use Rattle.json.specs.tokens.Parts.{digits}
 use Rattle.morton.specs.grid.Grid.{InU32}
 use Rattle.morton.specs.declared.grid.Offset.{Offset}
 use Rattle.sharding.specs.Specification.{volume}
-use Rattle.card.specs.cardfields.Twos.{bits32, InI32}
+use Rattle.card.specs.fields.Twos.{bits32, InI32}
 use Rattle.card.specs.Layout.{Ranged}
-use Rattle.card.proofs.cardfields.Words.{signed-in}
-use Rattle.json.specs.declared.text.Found.{Found}
-use Rattle.json.specs.declared.text.Found.the-variants.{At, Nothing}
-use Rattle.json.specs.declared.places.Given.{Given}
-use Rattle.json.specs.declared.places.Given.the-variants.{Once, Never, Twice}
-use Rattle.json.specs.declared.places.Threes.{Threes}
-use Rattle.json.specs.declared.places.Threes.the-variants.{Are as Threefold, Wrong as NotThree}
-use Rattle.info.specs.declared.wholes.Number.{Number}
-use Rattle.info.specs.declared.wholes.Number.the-variants.{Is, Wrong}
+use Rattle.card.proofs.fields.Words.{signed-in}
+use Rattle.json.specs.declared.tokens.Found.{Found}
+use Rattle.json.specs.declared.tokens.Found.the-variants.{At, Nothing}
+use Rattle.json.specs.declared.members.Given.{Given}
+use Rattle.json.specs.declared.members.Given.the-variants.{Once, Never, Twice}
+use Rattle.json.specs.declared.members.Threes.{Threes}
+use Rattle.json.specs.declared.members.Threes.the-variants.{Are as Threefold, Wrong as NotThree}
+use Rattle.info.specs.declared.numbers.Number.{Number}
+use Rattle.info.specs.declared.numbers.Number.the-variants.{Is, Wrong}
 use Rattle.info.specs.declared.scale.ExtentsIn.{ExtentsIn}
 use Rattle.info.specs.declared.scale.ExtentsIn.the-variants.{Are as ExtentsAre, Wrong as NoExtents}
 use Rattle.info.specs.declared.scale.OffsetIn.{OffsetIn}
 use Rattle.info.specs.declared.scale.OffsetIn.the-variants.{Is as OffsetIs, Wrong as NoOffset}
 use Rattle.info.specs.declared.scale.VolumeIn.{VolumeIn}
 use Rattle.info.specs.declared.scale.VolumeIn.the-variants.{Is as VolumeIs, Wrong as NoVolume}
-use Rattle.info.specs.declared.members.ShardingIn.{ShardingIn}
-use Rattle.info.specs.declared.members.ShardingIn.the-variants.{Is as ShardingIs, Wrong as NoSharding}
+use Rattle.info.specs.declared.sharding_members.ShardingIn.{ShardingIn}
+use Rattle.info.specs.declared.sharding_members.ShardingIn.the-variants.{Is as ShardingIs, Wrong as NoSharding}
 use Rattle.info.specs.declared.scale.Settings.{Settings}
 use Rattle.info.specs.declared.scale.Settings.the-variants.{Are as SettingsAre, Wrong as NoSettings}
-use Rattle.json.specs.places.Places.{elements, member, needed, threeOf, loneOf}
-use Rattle.info.specs.wholes.Numbers.{decimalAt, goesOn, in32, digitsFrom, wholeFrom, whenIs, naturalAt, negative, aboveOf, belowOf, coordinateAt}
-use Rattle.info.specs.members.Words.{sizeName, chunksName, offsetName, shardingName, preshiftName, minishardName, shardName}
+use Rattle.json.specs.members.Places.{elements, member, needed, threeOf, loneOf}
+use Rattle.info.specs.numbers.Numbers.{decimalAt, goesOn, in32, digitsFrom, wholeFrom, whenIs, naturalAt, negative, aboveOf, belowOf, coordinateAt}
+use Rattle.info.specs.sharding_members.Words.{sizeName, chunksName, offsetName, shardingName, preshiftName, minishardBitsName, shardBitsName}
 use Rattle.info.specs.scale.Scale.{whenAt, whenThree, whenExtents, whenOffset, whenVolume, whenSharding, extentsOf, extentsAt, offsetOf, offsetAt, sizeIn, chunkIn, offsetBy, offsetIn, volumeIn, formed, hashIn, numberIn, numbersOf, numbersIn, shardingAt, shardingIn, settingsAt}
-use Rattle.info.specs.members.Values.{shardingOf}
+use Rattle.info.specs.sharding_members.Values.{shardingOf}
 use Rattle.info.specs.Settings.{scaleAt, settingsOf}
 
 -- ---- numbers are of 32 bits
@@ -202,7 +202,7 @@ numbers-held Wrong q r t = tt
 
 formed-held : (s : List ℕ) (p : ℕ) (b : Bool) → ShardingHeld (pick b (numbersIn s p) NoSharding)
 unfolding numbersIn
-formed-held s p true = numbers-held (numberIn preshiftName s p) (hashIn s p) (numberIn minishardName s p) (numberIn shardName s p)
+formed-held s p true = numbers-held (numberIn preshiftName s p) (hashIn s p) (numberIn minishardBitsName s p) (numberIn shardBitsName s p)
 formed-held s p false = tt
 
 named-held : (s : List ℕ) (q : Found) → ShardingHeld (whenAt q NoSharding (shardingAt s))

@@ -32,7 +32,7 @@ use Rattle.info.specs.document.Document.{document}
 use Rattle.info.specs.document.Said.{settingsIn, saidChecks, saidAnswer}
 use Rattle.info.specs.document.Meaning.{InfoMeaning}
 use Rattle.info.proofs.Ways.{first-is}
-use Rattle.json.proofs.places.Own.{elements-own, members-own, value-own}
+use Rattle.json.proofs.members.Own.{elements-own, members-own, value-own}
 use Rattle.info.proofs.document.Reading.{settings-by-document}
 use Rattle.info.proofs.document.Held.{SettingsHeld, of-held}
 

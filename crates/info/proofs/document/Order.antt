@@ -5,10 +5,10 @@ use mathlib.Core.Bool.{Bool, true, false}
 use mathlib.Core.List.{List, [], _∷_, _++_}
 use Rattle.refusal.specs.Choice.{pick}
 use Rattle.json.specs.strings.Names.{eqList}
-use Rattle.info.specs.members.Words.{scalesName, sizeName, chunksName, offsetName, shardingName, typeName, preshiftName, hashName, minishardName, shardName, indexName, dataName}
+use Rattle.info.specs.sharding_members.Words.{scalesName, sizeName, chunksName, offsetName, shardingName, typeName, preshiftName, hashName, minishardBitsName, shardBitsName, indexName, dataName}
 use Rattle.info.specs.document.Document.{Entry, DocumentOf, times, valuesNamed, memberOf}
 use Rattle.info.specs.document.Document.DocumentOf.{object}
-use Rattle.info.specs.document.Said.{sizeOf, chunkOf, volumeOf, typeSaid, numberOf, shardingOn, settingsOn, settingsIn}
+use Rattle.info.specs.document.Said.{saidSize, chunkOf, volumeOf, typeSaid, numberOf, shardingOn, settingsOn, settingsIn}
 
 -- ---- one member
 
@@ -67,15 +67,15 @@ pub record SameScale {D : Type 0} (u v : DocumentOf D) : Type 0 where
   pub sharding : memberOf shardingName u ≡ memberOf shardingName v
 
 pub scale-same : {D : Type 0} (u v : DocumentOf (DocumentOf (DocumentOf (DocumentOf D)))) → SameScale u v → settingsOn u ≡ settingsOn v
-unfolding settingsOn volumeOf sizeOf chunkOf
+unfolding settingsOn volumeOf saidSize chunkOf
 scale-same u v h = rw (h .sharding, h .size, h .chunks, h .offset)
 
 pub record SameSharding {D : Type 0} (u v : DocumentOf D) : Type 0 where
   pub type : memberOf typeName u ≡ memberOf typeName v
   pub preshift : memberOf preshiftName u ≡ memberOf preshiftName v
   pub hash : memberOf hashName u ≡ memberOf hashName v
-  pub minishard : memberOf minishardName u ≡ memberOf minishardName v
-  pub shard : memberOf shardName u ≡ memberOf shardName v
+  pub minishard : memberOf minishardBitsName u ≡ memberOf minishardBitsName v
+  pub shard : memberOf shardBitsName u ≡ memberOf shardBitsName v
   pub index : memberOf indexName u ≡ memberOf indexName v
   pub bytes : memberOf dataName u ≡ memberOf dataName v
 
@@ -107,8 +107,8 @@ sharding-order xs ys a b =
       type = member-order typeName xs ys a b;
       preshift = member-order preshiftName xs ys a b;
       hash = member-order hashName xs ys a b;
-      minishard = member-order minishardName xs ys a b;
-      shard = member-order shardName xs ys a b;
+      minishard = member-order minishardBitsName xs ys a b;
+      shard = member-order shardBitsName xs ys a b;
       index = member-order indexName xs ys a b;
       bytes = member-order dataName xs ys a b;
     })
@@ -131,16 +131,16 @@ scale-unused xs ys a p q r t =
     })
 
 pub sharding-unused : {D : Type 0} (xs ys : List (Entry (DocumentOf D))) (a : Entry (DocumentOf D))
-    → eqList (a .name) typeName ≡ false → eqList (a .name) preshiftName ≡ false → eqList (a .name) hashName ≡ false → eqList (a .name) minishardName ≡ false
-    → eqList (a .name) shardName ≡ false → eqList (a .name) indexName ≡ false → eqList (a .name) dataName ≡ false
+    → eqList (a .name) typeName ≡ false → eqList (a .name) preshiftName ≡ false → eqList (a .name) hashName ≡ false → eqList (a .name) minishardBitsName ≡ false
+    → eqList (a .name) shardBitsName ≡ false → eqList (a .name) indexName ≡ false → eqList (a .name) dataName ≡ false
     → shardingOn (object (xs ++ (a ∷ ys))) ≡ shardingOn (object (xs ++ ys))
 sharding-unused xs ys a p q r t u v w =
     sharding-same _ _ (record {
       type = member-unused typeName xs ys a p;
       preshift = member-unused preshiftName xs ys a q;
       hash = member-unused hashName xs ys a r;
-      minishard = member-unused minishardName xs ys a t;
-      shard = member-unused shardName xs ys a u;
+      minishard = member-unused minishardBitsName xs ys a t;
+      shard = member-unused shardBitsName xs ys a u;
       index = member-unused indexName xs ys a v;
       bytes = member-unused dataName xs ys a w;
     })

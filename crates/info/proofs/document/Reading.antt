@@ -8,27 +8,27 @@ use borrow.Author.Tests.{eqb-true, eqb-false, eq-eqb, ne-eqb}
 use lib.Dec.{eqb}
 use lib.ListN.{getD}
 use Rattle.refusal.specs.Choice.{pick}
-use Rattle.json.specs.text.Bytes.{isDigit, inside}
-use Rattle.json.specs.text.Parts.{ws}
-use Rattle.json.specs.declared.text.Found.{Found}
-use Rattle.json.specs.declared.text.Found.the-variants.{At, Nothing}
+use Rattle.json.specs.tokens.Bytes.{isDigit, inside}
+use Rattle.json.specs.tokens.Parts.{ws}
+use Rattle.json.specs.declared.tokens.Found.{Found}
+use Rattle.json.specs.declared.tokens.Found.the-variants.{At, Nothing}
 use Rattle.json.specs.strings.Names.{textAt, eqList}
-use Rattle.json.specs.places.Places.{valueOf, firstIn, itemsBy, elements, members, isText, keep, isName, named, only, member, onceOf, needed, pickNth, element, threeOf, loneOf}
-use Rattle.info.specs.wholes.Numbers.{whenIs, wholeFrom, naturalAt, aboveOf, belowOf, coordinateAt}
-use Rattle.info.specs.declared.wholes.Number.{Number}
-use Rattle.info.specs.declared.wholes.Number.the-variants.{Is, Wrong}
+use Rattle.json.specs.members.Places.{valueOf, firstIn, itemsBy, elements, members, isText, keep, isName, named, only, member, onceOf, needed, pickNth, element, threeOf, loneOf}
+use Rattle.info.specs.numbers.Numbers.{whenIs, wholeFrom, naturalAt, aboveOf, belowOf, coordinateAt}
+use Rattle.info.specs.declared.numbers.Number.{Number}
+use Rattle.info.specs.declared.numbers.Number.the-variants.{Is, Wrong}
 use Rattle.info.specs.declared.scale.ExtentsIn.the-variants.{Wrong as NoExtents}
 use Rattle.info.specs.declared.scale.OffsetIn.the-variants.{Wrong as NoOffset}
-use Rattle.info.specs.declared.members.ShardingIn.the-variants.{Wrong as NoSharding}
+use Rattle.info.specs.declared.sharding_members.ShardingIn.the-variants.{Wrong as NoSharding}
 use Rattle.info.specs.declared.scale.Settings.the-variants.{Wrong as NoSettings}
-use Rattle.info.specs.members.Words.{scalesName, sizeName, chunksName, offsetName, shardingName, typeName, preshiftName, hashName, minishardName, shardName, indexName, dataName, typeText, rawText}
+use Rattle.info.specs.sharding_members.Words.{scalesName, sizeName, chunksName, offsetName, shardingName, typeName, preshiftName, hashName, minishardBitsName, shardBitsName, indexName, dataName, typeText, rawText}
 use Rattle.info.specs.scale.Scale.{whenAt, whenThree, extentsOf, extentsAt, offsetOf, offsetAt, sizeIn, chunkIn, offsetBy, offsetIn, volumeIn, typed, formed, hashIn, numberIn, numbersIn, shardingAt, shardingIn, settingsAt}
-use Rattle.info.specs.members.Values.{rawBy, hashAt}
+use Rattle.info.specs.sharding_members.Values.{rawBy, hashAt}
 use Rattle.info.specs.Settings.{scaleAt, settingsOf}
-use Rattle.info.specs.document.Document.{Entry, DocumentOf, Document, numberAt, documentAt, document, times, valuesNamed, memberOf, elementsOf, saysText, whenOnce, whenTriple, whenNth}
+use Rattle.info.specs.document.Document.{Entry, DocumentOf, Document, saidNumberAt, documentAt, document, times, valuesNamed, memberOf, elementsOf, saysText, whenOnce, whenTriple, whenNth}
 use Rattle.info.specs.document.Document.DocumentOf.{word, number, string, array, object}
 use Rattle.info.specs.document.Document.Times.{never}
-use Rattle.info.specs.document.Said.{naturalOf, coordinateOf, extentsOn, offsetOn, sizeOf, chunkOf, offsetGiven, volumeOf, typeSaid, rawGiven, hashOf, numberOf, shardingOn, settingsOn, settingsIn}
+use Rattle.info.specs.document.Said.{naturalOf, coordinateOf, extentsOn, offsetOn, saidSize, chunkOf, offsetGiven, volumeOf, typeSaid, rawGiven, hashOf, numberOf, shardingOn, settingsOn, settingsIn}
 
 -- ---- a value, by its first byte
 
@@ -63,14 +63,14 @@ module _ (d : ℕ) (s : List ℕ) (p : ℕ) where
   unfolding documentAt entry
   at-curly e = rw (ne-eqb (getD s p 0) 0x22 (omega arith), ne-eqb (getD s p 0) 0x5B (omega arith), eq-eqb (getD s p 0) 0x7B e)
 
-  at-plain : (getD s p 0 ≡ 0x22 → ⊥) → (getD s p 0 ≡ 0x5B → ⊥) → (getD s p 0 ≡ 0x7B → ⊥) → documentAt (suc d) s p ≡ numberAt s p
+  at-plain : (getD s p 0 ≡ 0x22 → ⊥) → (getD s p 0 ≡ 0x5B → ⊥) → (getD s p 0 ≡ 0x7B → ⊥) → documentAt (suc d) s p ≡ saidNumberAt s p
   unfolding documentAt
   at-plain x y z = rw (ne-eqb (getD s p 0) 0x22 x, ne-eqb (getD s p 0) 0x5B y, ne-eqb (getD s p 0) 0x7B z)
 
 -- a number has no members and elements and says no text
 module _ {D : Type 0} (s : List ℕ) (p : ℕ) where
-  number-case : (C : DocumentOf D → Type 0) → ((m : Bool) (n : Number) → C (number m n)) → C word → C (numberAt s p)
-  unfolding numberAt
+  number-case : (C : DocumentOf D → Type 0) → ((m : Bool) (n : Number) → C (number m n)) → C word → C (saidNumberAt s p)
+  unfolding saidNumberAt
   number-case C f w = go (eqb (getD s p 0) 0x2D) (isDigit (getD s p 0))
     where
       go : (x y : Bool) → C (pick x (number true (wholeFrom s (p + 1))) (pick y (number false (wholeFrom s p)) word))
@@ -166,8 +166,8 @@ module _ (s : List ℕ) (p : ℕ) where
   unfolding coordinateAt aboveOf
   coordinate-no n t = sym (rw (ne-eqb (getD s p 0) 0x2D n, whole-no s p t))
 
-  natural-plain : (D : Type 0) → naturalOf {D = D} (numberAt s p) ≡ naturalAt s p
-  unfolding numberAt naturalOf naturalAt
+  natural-plain : (D : Type 0) → naturalOf {D = D} (saidNumberAt s p) ≡ naturalAt s p
+  unfolding saidNumberAt naturalOf naturalAt
   natural-plain D = go (eqb (getD s p 0) 0x2D) (isDigit (getD s p 0)) refl
     where
       go : (x y : Bool) → isDigit (getD s p 0) ≡ y
@@ -177,8 +177,8 @@ module _ (s : List ℕ) (p : ℕ) where
       go false true e = refl
       go false false e = sym (whole-no s p e)
 
-  coordinate-plain : (D : Type 0) → coordinateOf {D = D} (numberAt s p) ≡ coordinateAt s p
-  unfolding numberAt coordinateOf coordinateAt
+  coordinate-plain : (D : Type 0) → coordinateOf {D = D} (saidNumberAt s p) ≡ coordinateAt s p
+  unfolding saidNumberAt coordinateOf coordinateAt
   coordinate-plain D = go (eqb (getD s p 0) 0x2D) (isDigit (getD s p 0)) refl
     where
       go : (x y : Bool) → isDigit (getD s p 0) ≡ y
@@ -261,8 +261,8 @@ module _ (d : ℕ) (s : List ℕ) where
       go (a ∷ b ∷ c ∷ []) = rw (coordinate-said d s a, coordinate-said d s b, coordinate-said d s c)
       go (a ∷ b ∷ c ∷ e ∷ l) = refl
 
-  size-said : (p : ℕ) → sizeOf (documentAt (suc (suc (suc d))) s p) ≡ sizeIn s p
-  unfolding sizeOf sizeIn
+  size-said : (p : ℕ) → saidSize (documentAt (suc (suc (suc d))) s p) ≡ sizeIn s p
+  unfolding saidSize sizeIn
   size-said p = needed-said (suc (suc d)) sizeName s p NoExtents extentsOn ∙ when-same (needed sizeName s p) NoExtents _ _ extents-said
 
   lone-said : (l : List ℕ) → whenOnce (times (map (documentAt (suc (suc d)) s) l)) NoExtents extentsOn ≡ whenAt (loneOf l) NoExtents (extentsAt s)
@@ -317,7 +317,7 @@ module _ (d : ℕ) (s : List ℕ) where
   sharding-said : (p : ℕ) → shardingOn (documentAt (suc (suc d)) s p) ≡ shardingAt s p
   unfolding shardingOn shardingAt formed numbersIn
   sharding-said p =
-      rw (typed-said p, raw-said indexName p, raw-said dataName p, number-said preshiftName p, hashed-said p, number-said minishardName p, number-said shardName p)
+      rw (typed-said p, raw-said indexName p, raw-said dataName p, number-said preshiftName p, hashed-said p, number-said minishardBitsName p, number-said shardBitsName p)
 
 -- ---- the whole
 

@@ -2,27 +2,27 @@
 use mathlib.Core.Path.{_≡_, refl}
 use mathlib.Core.List.{map}
 use Rattle.refusal.specs.Checks.{firstNumber, unless}
-use Rattle.json.specs.text.Bytes.{choose, same, under, inside, isWs, isDigit, spanIn}
-use Rattle.json.specs.text.Parts.{andThen, follow, markAt, closeAt, wordAt}
-use Rattle.json.specs.text.Numbers.{someDigits, intAt, fracAt, isSign, isE, signAt, expAt, unsignedAt, numberAt}
+use Rattle.json.specs.tokens.Bytes.{choose, same, under, inside, isWs, isDigit, spanIn}
+use Rattle.json.specs.tokens.Parts.{andThen, follow, markAt, closeAt, wordAt}
+use Rattle.json.specs.tokens.Numbers.{someDigits, intAt, fracAt, isSign, isE, signAt, expAt, unsignedAt, numberAt}
 use Rattle.json.specs.characters.Chars.{isHex, isShort, isTail, isSecond, utf8Len, escapeLen, charLen}
 use Rattle.json.specs.strings.Chars.{charsAt, stringAt}
 use Rattle.json.specs.strings.Names.{hexValue, unitAt, utf8, shortByte, isPair, unitBytes, charBytes, unescaped, eqList}
-use Rattle.json.specs.Grammar.{scalarAt, itemsAt, listAt, memberAt, valueAt, endsAt, isJson}
-use Rattle.json.specs.places.Places.{nextElement, nextMember, orStart, valueOf, firstIn, itemsBy, elements, members, isText, keep, isName, named, only, member, onceOf, needed, pickNth, element, threeOf, loneOf}
-use Rattle.info.specs.wholes.Numbers.{decimalOn, decimalAt, goesOn, in32, digitsFrom, wholeFrom, naturalAt, negative, aboveOf, belowOf, coordinateAt}
+use Rattle.json.specs.Grammar.{scalarAt, itemsAt, listAt, memberAt, valueAt, endOf, endsAt, isJson}
+use Rattle.json.specs.members.Places.{nextElement, nextMember, valueOf, firstIn, itemsBy, elements, members, isText, keep, isName, named, only, member, onceOf, needed, pickNth, element, threeOf, loneOf}
+use Rattle.info.specs.numbers.Numbers.{decimalOn, decimalAt, goesOn, in32, digitsFrom, wholeFrom, naturalAt, negative, aboveOf, belowOf, coordinateAt}
 use Rattle.morton.specs.grid.Grid.{gridSize, gridOf, hasZero, zeroExtent}
-use Rattle.morton.specs.axisbits.Axis.{bitOf, used}
+use Rattle.morton.specs.axis.Axis.{bitOf, used}
 use Rattle.morton.specs.Key.{step, steps, keyBits, tooManyBits}
 use Rattle.sharding.specs.Specification.{allowed}
-use Rattle.card.specs.cardfields.Twos.{bits32, signed32}
+use Rattle.card.specs.fields.Twos.{bits32, signed32}
 use Rattle.card.specs.Answers.{recordChecks}
 use Rattle.info.specs.scale.Scale.{extentsOf, extentsAt, offsetOf, offsetAt, sizeIn, chunkIn, offsetBy, offsetIn, volumeIn, typed, formed, hashIn, numberIn, numbersOf, numbersIn, shardingAt, shardingIn, settingsAt}
-use Rattle.info.specs.members.Values.{rawBy, hashAt, shardingOf}
+use Rattle.info.specs.sharding_members.Values.{rawBy, hashAt, shardingOf}
 use Rattle.info.specs.Settings.{scaleAt, settingsOf}
 use Rattle.info.specs.Answers.{noSettings, recordOf, infoChecks, infoAnswer}
 use Rattle.info.specs.document.Worked.{Case, cases}
 
 pub worked : map (λ (c : Case). infoAnswer (c .text) (c .scale)) cases ≡ map (λ (c : Case). c .answer) cases
-unfolding cases firstNumber unless choose same under inside isWs isDigit spanIn andThen follow markAt closeAt wordAt someDigits intAt fracAt isSign isE signAt expAt unsignedAt numberAt isHex isShort isTail isSecond utf8Len escapeLen charLen charsAt stringAt hexValue unitAt utf8 shortByte isPair unitBytes charBytes unescaped eqList scalarAt itemsAt listAt memberAt valueAt endsAt isJson nextElement nextMember orStart valueOf firstIn itemsBy elements members isText keep isName named only member onceOf needed pickNth element threeOf loneOf decimalOn decimalAt goesOn in32 digitsFrom wholeFrom naturalAt negative aboveOf belowOf coordinateAt gridSize gridOf hasZero zeroExtent bitOf used step steps keyBits tooManyBits allowed bits32 signed32 extentsOf extentsAt offsetOf offsetAt sizeIn chunkIn offsetBy offsetIn volumeIn typed rawBy formed hashAt hashIn numberIn shardingOf numbersOf numbersIn shardingAt shardingIn settingsAt scaleAt settingsOf noSettings recordOf recordChecks infoChecks infoAnswer
+unfolding cases firstNumber unless choose same under inside isWs isDigit spanIn andThen follow markAt closeAt wordAt someDigits intAt fracAt isSign isE signAt expAt unsignedAt numberAt isHex isShort isTail isSecond utf8Len escapeLen charLen charsAt stringAt hexValue unitAt utf8 shortByte isPair unitBytes charBytes unescaped eqList scalarAt itemsAt listAt memberAt valueAt endsAt isJson nextElement nextMember endOf valueOf firstIn itemsBy elements members isText keep isName named only member onceOf needed pickNth element threeOf loneOf decimalOn decimalAt goesOn in32 digitsFrom wholeFrom naturalAt negative aboveOf belowOf coordinateAt gridSize gridOf hasZero zeroExtent bitOf used step steps keyBits tooManyBits allowed bits32 signed32 extentsOf extentsAt offsetOf offsetAt sizeIn chunkIn offsetBy offsetIn volumeIn typed rawBy formed hashAt hashIn numberIn shardingOf numbersOf numbersIn shardingAt shardingIn settingsAt scaleAt settingsOf noSettings recordOf recordChecks infoChecks infoAnswer
 worked = refl

@@ -12,31 +12,31 @@ use Rattle.morton.specs.declared.grid.Extents.{Extents}
 use Rattle.morton.specs.declared.grid.Offset.{Offset}
 use Rattle.morton.specs.declared.grid.Volume.{Volume}
 use Rattle.sharding.specs.declared.Sharding.{Sharding}
-use Rattle.card.specs.cardfields.Twos.{signed32}
-use Rattle.json.specs.declared.text.Found.{Found}
-use Rattle.json.specs.declared.text.Found.the-variants.{At, Nothing}
-use Rattle.json.specs.declared.places.Given.{Given}
-use Rattle.json.specs.declared.places.Given.the-variants.{Once, Never, Twice}
-use Rattle.json.specs.declared.places.Four.{Four}
-use Rattle.json.specs.declared.places.Three.{Three}
-use Rattle.json.specs.declared.places.Threes.{Threes}
-use Rattle.json.specs.declared.places.Threes.the-variants.{Are as Threefold, Wrong as NotThree}
-use Rattle.info.specs.declared.wholes.Number.{Number}
-use Rattle.info.specs.declared.wholes.Number.the-variants.{Is, Wrong}
+use Rattle.card.specs.fields.Twos.{signed32}
+use Rattle.json.specs.declared.tokens.Found.{Found}
+use Rattle.json.specs.declared.tokens.Found.the-variants.{At, Nothing}
+use Rattle.json.specs.declared.members.Given.{Given}
+use Rattle.json.specs.declared.members.Given.the-variants.{Once, Never, Twice}
+use Rattle.json.specs.declared.members.Four.{Four}
+use Rattle.json.specs.declared.members.Three.{Three}
+use Rattle.json.specs.declared.members.Threes.{Threes}
+use Rattle.json.specs.declared.members.Threes.the-variants.{Are as Threefold, Wrong as NotThree}
+use Rattle.info.specs.declared.numbers.Number.{Number}
+use Rattle.info.specs.declared.numbers.Number.the-variants.{Is, Wrong}
 use Rattle.info.specs.declared.scale.ExtentsIn.{ExtentsIn}
 use Rattle.info.specs.declared.scale.ExtentsIn.the-variants.{Are as ExtentsAre, Wrong as NoExtents}
 use Rattle.info.specs.declared.scale.OffsetIn.{OffsetIn}
 use Rattle.info.specs.declared.scale.OffsetIn.the-variants.{Is as OffsetIs, Wrong as NoOffset}
 use Rattle.info.specs.declared.scale.VolumeIn.{VolumeIn}
 use Rattle.info.specs.declared.scale.VolumeIn.the-variants.{Is as VolumeIs, Wrong as NoVolume}
-use Rattle.info.specs.declared.members.ShardingIn.{ShardingIn}
-use Rattle.info.specs.declared.members.ShardingIn.the-variants.{Is as ShardingIs, Wrong as NoSharding}
+use Rattle.info.specs.declared.sharding_members.ShardingIn.{ShardingIn}
+use Rattle.info.specs.declared.sharding_members.ShardingIn.the-variants.{Is as ShardingIs, Wrong as NoSharding}
 use Rattle.info.specs.declared.scale.Settings.the-variants.{Are as SettingsAre, Wrong as NoSettings}
-use Rattle.json.specs.places.Places.{elements, isText, onceOf, needed, threeOf, loneOf, fourOf}
-use Rattle.info.specs.wholes.Numbers.{naturalAt, coordinateAt}
-use Rattle.info.specs.members.Words.{sizeName, chunksName, offsetName, shardingName, typeName, preshiftName, hashName, minishardName, shardName, indexName, dataName, typeText}
+use Rattle.json.specs.members.Places.{elements, isText, onceOf, needed, threeOf, loneOf, fourOf}
+use Rattle.info.specs.numbers.Numbers.{naturalAt, coordinateAt}
+use Rattle.info.specs.sharding_members.Words.{sizeName, chunksName, offsetName, shardingName, typeName, preshiftName, hashName, minishardBitsName, shardBitsName, indexName, dataName, typeText}
 use Rattle.info.specs.scale.Scale.{extentsOf, extentsAt, offsetOf, offsetAt, sizeIn, chunkIn, offsetBy, offsetIn, volumeIn, typed, formed, hashIn, numberIn, numbersOf, numbersIn, shardingAt, shardingIn, settingsAt}
-use Rattle.info.specs.members.Values.{rawBy, hashAt, shardingOf}
+use Rattle.info.specs.sharding_members.Values.{rawBy, hashAt, shardingOf}
 use Rattle.info.specs.scale.Parts.{sizeBy, chunkBy, volumeBy, typedBy, hashBy, numberBy, shardingBy}
 
 -- ---- extents and offset
@@ -198,7 +198,7 @@ module _ (s : List ℕ) where
     unfolding formed typed typedBy needed
     formed-is ew ea eb ed = rw (ea, eb, ed, ew)
 
-    pub numbers-are : {w : Four} {a b d e : Number} {r : ShardingIn} → w ≡ fourOf preshiftName hashName minishardName shardName s p
+    pub numbers-are : {w : Four} {a b d e : Number} {r : ShardingIn} → w ≡ fourOf preshiftName hashName minishardBitsName shardBitsName s p
         → a ≡ numberBy s (w .a) → b ≡ hashBy s (w .b) → d ≡ numberBy s (w .c) → e ≡ numberBy s (w .d) → r ≡ numbersOf a b d e → r ≡ numbersIn s p
     unfolding numbersIn numberIn numberBy hashIn hashBy needed
     numbers-are ew ea eb ed ee f = f ∙ rw (ea, eb, ed, ee, ew)

@@ -4,13 +4,13 @@ use mathlib.Core.Bool.{Bool, true, false}
 use mathlib.Core.List.{List, [], _∷_, map}
 use lib.Dec.{eqb}
 use Rattle.refusal.specs.Choice.{pick}
-use Rattle.json.specs.text.Bytes.{byteAt, isDigit}
-use Rattle.json.specs.text.Parts.{ws}
+use Rattle.json.specs.tokens.Bytes.{byteAt, isDigit}
+use Rattle.json.specs.tokens.Parts.{ws}
 use Rattle.json.specs.strings.Names.{textAt, eqList}
 use Rattle.json.specs.Grammar.{deepest}
-use Rattle.json.specs.places.Places.{elements, members, valueOf}
-use Rattle.info.specs.wholes.Numbers.{wholeFrom}
-use Rattle.info.specs.declared.wholes.Number.{Number}
+use Rattle.json.specs.members.Places.{elements, members, valueOf}
+use Rattle.info.specs.numbers.Numbers.{wholeFrom}
+use Rattle.info.specs.declared.numbers.Number.{Number}
 
 -- a member
 pub record Entry (D : Type 0) : Type 0 where
@@ -29,8 +29,8 @@ abbrev pub Document : ℕ → Type 0
 Document zero = Unit {0}
 Document (suc d) = DocumentOf (Document d)
 
-unfoldable pub numberAt : {D : Type 0} → List ℕ → ℕ → DocumentOf D
-numberAt s p =
+unfoldable pub saidNumberAt : {D : Type 0} → List ℕ → ℕ → DocumentOf D
+saidNumberAt s p =
     pick (eqb (byteAt s p) 0x2D) (number true (wholeFrom s (p + 1)))
     (pick (isDigit (byteAt s p)) (number false (wholeFrom s p)) word)
 
@@ -41,7 +41,7 @@ documentAt (suc d) s p =
     pick (eqb (byteAt s p) 0x22) (string (textAt s p))
     (pick (eqb (byteAt s p) 0x5B) (array (map (documentAt d s) (elements s p)))
     (pick (eqb (byteAt s p) 0x7B) (object (map (λ m. record { name = textAt s m; value = documentAt d s (valueOf s m) }) (members s p)))
-    (numberAt s p)))
+    (saidNumberAt s p)))
 
 -- what the whole text says
 unfoldable pub document : List ℕ → Document deepest

@@ -6,11 +6,11 @@ use mathlib.Core.List.{List}
 use lib.ListN.{length, take}
 use Rattle.refusal.specs.Checks.{firstNumber, Refuses}
 use Rattle.refusal.specs.declared.Written.the-variants.{Length}
-use Rattle.json.specs.text.Bytes.{byteAt}
+use Rattle.json.specs.tokens.Bytes.{byteAt}
 use Rattle.json.specs.characters.Chars.{Utf8}
 use Rattle.json.specs.Grammar.{deepest}
 use Rattle.json.specs.Rfc.{Value, Listed, Member, JsonText, places, valuePlace}
-use Rattle.json.specs.places.Places.{elements, members, valueOf}
+use Rattle.json.specs.members.Places.{elements, members, valueOf}
 use Rattle.sharding.specs.Specification.{volume}
 use Rattle.card.specs.Layout.{cardBytes}
 use Rattle.card.specs.Answers.{recordChecks, readAnswer, writeAnswer, writeLeft}

@@ -11,20 +11,20 @@ use Rattle.card.specs.Reading.{zeros}
 use Rattle.card.specs.Answers.{recordChecks}
 use Rattle.card.specs.declared.CardAnswer.{CardAnswer}
 use Rattle.card.specs.declared.CardAnswer.the-variants.{Says, Refused}
-use Rattle.info.specs.wholes.Numbers.{whenIs, aboveOf, belowOf}
-use Rattle.info.specs.declared.wholes.Number.{Number}
-use Rattle.info.specs.declared.wholes.Number.the-variants.{Is, Wrong}
+use Rattle.info.specs.numbers.Numbers.{whenIs, aboveOf, belowOf}
+use Rattle.info.specs.declared.numbers.Number.{Number}
+use Rattle.info.specs.declared.numbers.Number.the-variants.{Is, Wrong}
 use Rattle.info.specs.declared.scale.ExtentsIn.{ExtentsIn}
 use Rattle.info.specs.declared.scale.ExtentsIn.the-variants.{Wrong as NoExtents}
 use Rattle.info.specs.declared.scale.OffsetIn.{OffsetIn}
 use Rattle.info.specs.declared.scale.OffsetIn.the-variants.{Is as OffsetIs, Wrong as NoOffset}
 use Rattle.info.specs.declared.scale.VolumeIn.{VolumeIn}
 use Rattle.info.specs.declared.scale.VolumeIn.the-variants.{Is as VolumeIs, Wrong as NoVolume}
-use Rattle.info.specs.declared.members.ShardingIn.{ShardingIn}
-use Rattle.info.specs.declared.members.ShardingIn.the-variants.{Wrong as NoSharding}
+use Rattle.info.specs.declared.sharding_members.ShardingIn.{ShardingIn}
+use Rattle.info.specs.declared.sharding_members.ShardingIn.the-variants.{Wrong as NoSharding}
 use Rattle.info.specs.declared.scale.Settings.{Settings}
 use Rattle.info.specs.declared.scale.Settings.the-variants.{Are as SettingsAre, Wrong as NoSettings}
-use Rattle.info.specs.members.Words.{scalesName, sizeName, chunksName, offsetName, shardingName, typeName, preshiftName, hashName, minishardName, shardName, indexName, dataName, typeText, rawText, identityText, murmurText}
+use Rattle.info.specs.sharding_members.Words.{scalesName, sizeName, chunksName, offsetName, shardingName, typeName, preshiftName, hashName, minishardBitsName, shardBitsName, indexName, dataName, typeText, rawText, identityText, murmurText}
 use Rattle.info.specs.Answers.{noSettings, recordOf}
 use Rattle.info.specs.scale.Scale.{whenExtents, whenOffset, whenVolume, whenSharding, extentsOf, offsetOf, numbersOf}
 use Rattle.info.specs.document.Document.{DocumentOf, Document, Times, times, memberOf, elementsOf, saysText, whenOnce, whenTriple, whenNth}
@@ -55,8 +55,8 @@ unfoldable pub offsetOn : {D : Type 0} → DocumentOf (DocumentOf D) → OffsetI
 offsetOn v = whenTriple (elementsOf v) NoOffset (λ a b c. offsetOf (coordinateOf a) (coordinateOf b) (coordinateOf c))
 
 -- "size", "chunk_sizes (just one)", "voxel_offset (default 0,0,0)" of a scale
-unfoldable pub sizeOf : {D : Type 0} → DocumentOf (DocumentOf (DocumentOf D)) → ExtentsIn
-sizeOf scale = whenOnce (memberOf sizeName scale) NoExtents extentsOn
+unfoldable pub saidSize : {D : Type 0} → DocumentOf (DocumentOf (DocumentOf D)) → ExtentsIn
+saidSize scale = whenOnce (memberOf sizeName scale) NoExtents extentsOn
 
 unfoldable pub chunkOf : {D : Type 0} → DocumentOf (DocumentOf (DocumentOf (DocumentOf D))) → ExtentsIn
 chunkOf scale = whenOnce (memberOf chunksName scale) NoExtents (λ v. whenOnce (times (elementsOf v)) NoExtents extentsOn)
@@ -68,7 +68,7 @@ offsetGiven twice = NoOffset
 
 unfoldable pub volumeOf : {D : Type 0} → DocumentOf (DocumentOf (DocumentOf (DocumentOf D))) → VolumeIn
 volumeOf scale =
-    whenExtents (sizeOf scale) NoVolume (λ a. whenExtents (chunkOf scale) NoVolume (λ b. whenOffset (offsetGiven (memberOf offsetName scale)) NoVolume
+    whenExtents (saidSize scale) NoVolume (λ a. whenExtents (chunkOf scale) NoVolume (λ b. whenOffset (offsetGiven (memberOf offsetName scale)) NoVolume
     (λ o. VolumeIs (record { size = a; chunk = b; offset = o }))))
 
 -- "its @type as 002 says" (RULES I7)
@@ -95,7 +95,7 @@ numberOf name g = whenOnce (memberOf name g) Wrong naturalOf
 unfoldable pub shardingOn : {D : Type 0} → DocumentOf (DocumentOf D) → ShardingIn
 shardingOn g =
     pick (typeSaid g && (rawGiven (memberOf indexName g) && rawGiven (memberOf dataName g)))
-    (numbersOf (numberOf preshiftName g) (whenOnce (memberOf hashName g) Wrong hashOf) (numberOf minishardName g) (numberOf shardName g)) NoSharding
+    (numbersOf (numberOf preshiftName g) (whenOnce (memberOf hashName g) Wrong hashOf) (numberOf minishardBitsName g) (numberOf shardBitsName g)) NoSharding
 
 -- the settings of a scale
 unfoldable pub settingsOn : {D : Type 0} → DocumentOf (DocumentOf (DocumentOf (DocumentOf D))) → Settings

@@ -5,7 +5,7 @@ use lib.IntN.{ℤ, pos, negsuc}
 use Rattle.sharding.specs.Specification.{volume}
 use Rattle.card.specs.declared.CardAnswer.{CardAnswer}
 use Rattle.card.specs.declared.CardAnswer.the-variants.{Says, Refused}
-use Rattle.info.specs.members.Words.{scalesName, sizeName, chunksName, offsetName, shardingName, typeName, preshiftName, hashName, minishardName, shardName, indexName, dataName, typeText, rawText, identityText}
+use Rattle.info.specs.sharding_members.Words.{scalesName, sizeName, chunksName, offsetName, shardingName, typeName, preshiftName, hashName, minishardBitsName, shardBitsName, indexName, dataName, typeText, rawText, identityText}
 
 -- ---- writing JSON: strings, objects and arrays of what is given as text
 
@@ -46,8 +46,8 @@ d2 = 50 ∷ []
 abbrev pub file : List (List ℕ) → List ℕ
 file scales = object (pair scalesName (array scales) ∷ [])
 
-abbrev pub sizeOf : List ℕ → List ℕ
-sizeOf n = pair sizeName (array (n ∷ n ∷ n ∷ []))
+abbrev pub sizeText : List ℕ → List ℕ
+sizeText n = pair sizeName (array (n ∷ n ∷ n ∷ []))
 
 abbrev pub chunks : List ℕ
 chunks = pair chunksName (array (array (d1 ∷ d1 ∷ d1 ∷ []) ∷ []))
@@ -55,25 +55,25 @@ chunks = pair chunksName (array (array (d1 ∷ d1 ∷ d1 ∷ []) ∷ []))
 -- a sharding specification with this type, preshift and hash, and these further members
 abbrev pub shardingBy : List (List ℕ) → List ℕ → List ℕ → List (List ℕ) → List ℕ
 shardingBy type preshift hash more =
-    pair shardingName (object (type ++ (pair preshiftName preshift ∷ pair hashName hash ∷ pair minishardName d0 ∷ pair shardName d0 ∷ more)))
+    pair shardingName (object (type ++ (pair preshiftName preshift ∷ pair hashName hash ∷ pair minishardBitsName d0 ∷ pair shardBitsName d0 ∷ more)))
 
 -- of the type that 002 names
-abbrev pub shardingOf : List ℕ → List ℕ → List (List ℕ) → List ℕ
-shardingOf preshift hash more = shardingBy (pair typeName (quoted typeText) ∷ []) preshift (quoted hash) more
+abbrev pub shardingText : List ℕ → List ℕ → List (List ℕ) → List ℕ
+shardingText preshift hash more = shardingBy (pair typeName (quoted typeText) ∷ []) preshift (quoted hash) more
 
 -- a file of one scale, of size and chunk size 1,1,1, with this sharding
 abbrev pub sharded : List ℕ → List ℕ
-sharded x = file (object (sizeOf d1 ∷ chunks ∷ x ∷ []) ∷ [])
+sharded x = file (object (sizeText d1 ∷ chunks ∷ x ∷ []) ∷ [])
 
 abbrev pub sharding : List ℕ
-sharding = shardingOf d0 identityText []
+sharding = shardingText d0 identityText []
 
 -- with this offset along x
 abbrev pub shifted : List ℕ → List ℕ
-shifted n = file (object (sizeOf d1 ∷ chunks ∷ sharding ∷ pair offsetName (array (n ∷ d0 ∷ d0 ∷ [])) ∷ []) ∷ [])
+shifted n = file (object (sizeText d1 ∷ chunks ∷ sharding ∷ pair offsetName (array (n ∷ d0 ∷ d0 ∷ [])) ∷ []) ∷ [])
 
 abbrev pub plain : List ℕ
-plain = file (object (sizeOf d1 ∷ chunks ∷ sharding ∷ []) ∷ [])
+plain = file (object (sizeText d1 ∷ chunks ∷ sharding ∷ []) ∷ [])
 
 -- the record of size 1,1,1 and chunk size 1,1,1, of this preshift and hash, with this offset along x
 abbrev pub saidHashed : ℕ → ℕ → ℤ → CardAnswer
@@ -126,44 +126,44 @@ cases =
     -- there is no scale 1
     ∷ case plain 1 (Refused 20)
     -- scale 1 is the second
-    ∷ case (file (object (sizeOf d2 ∷ chunks ∷ sharding ∷ []) ∷ object (sizeOf d1 ∷ chunks ∷ shardingOf d1 identityText [] ∷ []) ∷ [])) 1 (said 1 (pos 0))
+    ∷ case (file (object (sizeText d2 ∷ chunks ∷ sharding ∷ []) ∷ object (sizeText d1 ∷ chunks ∷ shardingText d1 identityText [] ∷ []) ∷ [])) 1 (said 1 (pos 0))
     -- a byte behind the text
     ∷ case (plain ++ d0) 0 (Refused 19)
     -- strings compare unescaped
     ∷ case (file (object (pair escaped (array (d1 ∷ d1 ∷ d1 ∷ [])) ∷ chunks ∷ sharding ∷ []) ∷ [])) 0 (said 0 (pos 0))
     -- a used member twice
-    ∷ case (file (object (sizeOf d1 ∷ chunks ∷ sizeOf d1 ∷ sharding ∷ []) ∷ [])) 0 (Refused 20)
+    ∷ case (file (object (sizeText d1 ∷ chunks ∷ sizeText d1 ∷ sharding ∷ []) ∷ [])) 0 (Refused 20)
     -- 1.0 is no whole number
-    ∷ case (file (object (sizeOf (49 ∷ 46 ∷ 48 ∷ []) ∷ chunks ∷ sharding ∷ []) ∷ [])) 0 (Refused 20)
+    ∷ case (file (object (sizeText (49 ∷ 46 ∷ 48 ∷ []) ∷ chunks ∷ sharding ∷ []) ∷ [])) 0 (Refused 20)
     -- an encoding other than raw, and raw
-    ∷ case (file (object (sizeOf d1 ∷ chunks ∷ shardingOf d0 identityText (pair dataName (quoted gzip) ∷ []) ∷ []) ∷ [])) 0 (Refused 20)
-    ∷ case (file (object (sizeOf d1 ∷ chunks ∷ shardingOf d0 identityText (pair dataName (quoted rawText) ∷ []) ∷ []) ∷ [])) 0 (said 0 (pos 0))
+    ∷ case (file (object (sizeText d1 ∷ chunks ∷ shardingText d0 identityText (pair dataName (quoted gzip) ∷ []) ∷ []) ∷ [])) 0 (Refused 20)
+    ∷ case (file (object (sizeText d1 ∷ chunks ∷ shardingText d0 identityText (pair dataName (quoted rawText) ∷ []) ∷ []) ∷ [])) 0 (said 0 (pos 0))
     -- an unknown hash name
-    ∷ case (file (object (sizeOf d1 ∷ chunks ∷ shardingOf d0 rawText [] ∷ []) ∷ [])) 0 (Refused 1)
+    ∷ case (file (object (sizeText d1 ∷ chunks ∷ shardingText d0 rawText [] ∷ []) ∷ [])) 0 (Refused 1)
     -- a size of 0
-    ∷ case (file (object (sizeOf d0 ∷ chunks ∷ sharding ∷ []) ∷ [])) 0 (Refused 2)
+    ∷ case (file (object (sizeText d0 ∷ chunks ∷ sharding ∷ []) ∷ [])) 0 (Refused 2)
     -- another order, a space, a member that is not used, an offset of -1,0,0
-    ∷ case (32 ∷ file (object (sharding ∷ chunks ∷ pair gzip (nested 2 (object (pair sizeName d0 ∷ []))) ∷ sizeOf d1 ∷ pair offsetName (array ((45 ∷ d1) ∷ d0 ∷ d0 ∷ [])) ∷ []) ∷ [])) 0 (said 0 (negsuc 0))
+    ∷ case (32 ∷ file (object (sharding ∷ chunks ∷ pair gzip (nested 2 (object (pair sizeName d0 ∷ []))) ∷ sizeText d1 ∷ pair offsetName (array ((45 ∷ d1) ∷ d0 ∷ d0 ∷ [])) ∷ []) ∷ [])) 0 (said 0 (negsuc 0))
     -- a number at depth 32 is JSON, at depth 33 it is none
     ∷ case (nested 31 d0) 0 (Refused 20)
     ∷ case (nested 32 d0) 0 (Refused 19)
     -- all names and texts, spelt out
     ∷ case spelt 0 (saidHashed 1 1 (negsuc 0))
     -- a preshift of 64 fits its field and is 1, one of 256 does not and is 20
-    ∷ case (sharded (shardingOf (54 ∷ 52 ∷ []) identityText [])) 0 (Refused 1)
-    ∷ case (sharded (shardingOf (50 ∷ 53 ∷ 54 ∷ []) identityText [])) 0 (Refused 20)
+    ∷ case (sharded (shardingText (54 ∷ 52 ∷ []) identityText [])) 0 (Refused 1)
+    ∷ case (sharded (shardingText (50 ∷ 53 ∷ 54 ∷ []) identityText [])) 0 (Refused 20)
     -- a hash that is no string, another @type, none
     ∷ case (sharded (shardingBy (pair typeName (quoted typeText) ∷ []) d0 d0 [])) 0 (Refused 20)
     ∷ case (sharded (shardingBy (pair typeName (quoted rawText) ∷ []) d0 (quoted identityText) [])) 0 (Refused 20)
     ∷ case (sharded (shardingBy [] d0 (quoted identityText) [])) 0 (Refused 20)
     -- minishard indexes in another encoding than raw
-    ∷ case (sharded (shardingOf d0 identityText (pair indexName (quoted gzip) ∷ []))) 0 (Refused 20)
+    ∷ case (sharded (shardingText d0 identityText (pair indexName (quoted gzip) ∷ []))) 0 (Refused 20)
     -- two chunk sizes
-    ∷ case (file (object (sizeOf d1 ∷ pair chunksName (array (array (d1 ∷ d1 ∷ d1 ∷ []) ∷ array (d1 ∷ d1 ∷ d1 ∷ []) ∷ [])) ∷ sharding ∷ []) ∷ [])) 0 (Refused 20)
+    ∷ case (file (object (sizeText d1 ∷ pair chunksName (array (array (d1 ∷ d1 ∷ d1 ∷ []) ∷ array (d1 ∷ d1 ∷ d1 ∷ []) ∷ [])) ∷ sharding ∷ []) ∷ [])) 0 (Refused 20)
     -- offsets of -0, of -2^31, and of 2^31, which no field holds
     ∷ case (shifted (45 ∷ d0)) 0 (said 0 (pos 0))
     ∷ case (shifted (45 ∷ 50 ∷ 49 ∷ 52 ∷ 55 ∷ 52 ∷ 56 ∷ 51 ∷ 54 ∷ 52 ∷ 56 ∷ [])) 0 (said 0 (negsuc 2147483647))
     ∷ case (shifted (50 ∷ 49 ∷ 52 ∷ 55 ∷ 52 ∷ 56 ∷ 51 ∷ 54 ∷ 52 ∷ 56 ∷ [])) 0 (Refused 20)
     -- 4294967295 cells along each axis need 96 key bits
-    ∷ case (file (object (sizeOf (52 ∷ 50 ∷ 57 ∷ 52 ∷ 57 ∷ 54 ∷ 55 ∷ 50 ∷ 57 ∷ 53 ∷ []) ∷ chunks ∷ sharding ∷ []) ∷ [])) 0 (Refused 3)
+    ∷ case (file (object (sizeText (52 ∷ 50 ∷ 57 ∷ 52 ∷ 57 ∷ 54 ∷ 55 ∷ 50 ∷ 57 ∷ 53 ∷ []) ∷ chunks ∷ sharding ∷ []) ∷ [])) 0 (Refused 3)
     ∷ []

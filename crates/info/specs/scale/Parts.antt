@@ -2,20 +2,20 @@
 use mathlib.Core.Bool.{Bool, false}
 use mathlib.Core.List.{List}
 use Prim.Native.Nat.{ℕ}
-use Rattle.json.specs.declared.places.Given.{Given}
-use Rattle.json.specs.places.Places.{elements, isText, onceOf, loneOf}
-use Rattle.info.specs.declared.wholes.Number.{Number}
-use Rattle.info.specs.declared.wholes.Number.the-variants.{Wrong}
-use Rattle.info.specs.wholes.Numbers.{naturalAt}
+use Rattle.json.specs.declared.members.Given.{Given}
+use Rattle.json.specs.members.Places.{elements, isText, onceOf, loneOf}
+use Rattle.info.specs.declared.numbers.Number.{Number}
+use Rattle.info.specs.declared.numbers.Number.the-variants.{Wrong}
+use Rattle.info.specs.numbers.Numbers.{naturalAt}
 use Rattle.info.specs.declared.scale.ExtentsIn.{ExtentsIn}
 use Rattle.info.specs.declared.scale.ExtentsIn.the-variants.{Wrong as NoExtents}
 use Rattle.info.specs.declared.scale.VolumeIn.{VolumeIn}
 use Rattle.info.specs.declared.scale.VolumeIn.the-variants.{Is as VolumeIs, Wrong as NoVolume}
-use Rattle.info.specs.declared.members.ShardingIn.{ShardingIn}
-use Rattle.info.specs.declared.members.ShardingIn.the-variants.{Wrong as NoSharding}
-use Rattle.info.specs.members.Words.{typeText}
+use Rattle.info.specs.declared.sharding_members.ShardingIn.{ShardingIn}
+use Rattle.info.specs.declared.sharding_members.ShardingIn.the-variants.{Wrong as NoSharding}
+use Rattle.info.specs.sharding_members.Words.{typeText}
 use Rattle.info.specs.scale.Scale.{whenAt, whenExtents, whenOffset, extentsAt, offsetBy, shardingAt}
-use Rattle.info.specs.members.Values.{hashAt}
+use Rattle.info.specs.sharding_members.Values.{hashAt}
 
 unfoldable pub sizeBy : List ℕ → Given → ExtentsIn
 sizeBy s g = whenAt (onceOf g) NoExtents (extentsAt s)

@@ -7,31 +7,31 @@ use Rattle.morton.specs.declared.grid.Extents.{Extents}
 use Rattle.morton.specs.declared.grid.Offset.{Offset}
 use Rattle.morton.specs.declared.grid.Volume.{Volume}
 use Rattle.sharding.specs.declared.Sharding.{Sharding}
-use Rattle.card.specs.cardfields.Twos.{signed32}
+use Rattle.card.specs.fields.Twos.{signed32}
 use Rattle.card.specs.Reading.{zeros}
-use Rattle.json.specs.declared.text.Found.{Found}
-use Rattle.json.specs.declared.text.Found.the-variants.{At, Nothing}
-use Rattle.json.specs.declared.places.Given.{Given}
-use Rattle.json.specs.declared.places.Given.the-variants.{Once, Never, Twice}
-use Rattle.json.specs.declared.places.Three.{Three}
-use Rattle.json.specs.declared.places.Threes.{Threes}
-use Rattle.json.specs.declared.places.Threes.the-variants.{Are as Threefold, Wrong as NotThree}
-use Rattle.info.specs.declared.wholes.Number.{Number}
-use Rattle.info.specs.declared.wholes.Number.the-variants.{Wrong}
+use Rattle.json.specs.declared.tokens.Found.{Found}
+use Rattle.json.specs.declared.tokens.Found.the-variants.{At, Nothing}
+use Rattle.json.specs.declared.members.Given.{Given}
+use Rattle.json.specs.declared.members.Given.the-variants.{Once, Never, Twice}
+use Rattle.json.specs.declared.members.Three.{Three}
+use Rattle.json.specs.declared.members.Threes.{Threes}
+use Rattle.json.specs.declared.members.Threes.the-variants.{Are as Threefold, Wrong as NotThree}
+use Rattle.info.specs.declared.numbers.Number.{Number}
+use Rattle.info.specs.declared.numbers.Number.the-variants.{Wrong}
 use Rattle.info.specs.declared.scale.ExtentsIn.{ExtentsIn}
 use Rattle.info.specs.declared.scale.ExtentsIn.the-variants.{Are as ExtentsAre, Wrong as NoExtents}
 use Rattle.info.specs.declared.scale.OffsetIn.{OffsetIn}
 use Rattle.info.specs.declared.scale.OffsetIn.the-variants.{Is as OffsetIs, Wrong as NoOffset}
 use Rattle.info.specs.declared.scale.VolumeIn.{VolumeIn}
 use Rattle.info.specs.declared.scale.VolumeIn.the-variants.{Is as VolumeIs, Wrong as NoVolume}
-use Rattle.info.specs.declared.members.ShardingIn.{ShardingIn}
-use Rattle.info.specs.declared.members.ShardingIn.the-variants.{Is as ShardingIs, Wrong as NoSharding}
+use Rattle.info.specs.declared.sharding_members.ShardingIn.{ShardingIn}
+use Rattle.info.specs.declared.sharding_members.ShardingIn.the-variants.{Is as ShardingIs, Wrong as NoSharding}
 use Rattle.info.specs.declared.scale.Settings.{Settings}
 use Rattle.info.specs.declared.scale.Settings.the-variants.{Are as SettingsAre, Wrong as NoSettings}
-use Rattle.json.specs.places.Places.{elements, isText, member, needed, threeOf, loneOf}
-use Rattle.info.specs.wholes.Numbers.{whenIs, naturalAt, coordinateAt}
-use Rattle.info.specs.members.Words.{sizeName, chunksName, offsetName, shardingName, typeName, preshiftName, hashName, minishardName, shardName, indexName, dataName, typeText}
-use Rattle.info.specs.members.Values.{rawBy, hashAt, shardingOf}
+use Rattle.json.specs.members.Places.{elements, isText, member, needed, threeOf, loneOf}
+use Rattle.info.specs.numbers.Numbers.{whenIs, naturalAt, coordinateAt}
+use Rattle.info.specs.sharding_members.Words.{sizeName, chunksName, offsetName, shardingName, typeName, preshiftName, hashName, minishardBitsName, shardBitsName, indexName, dataName, typeText}
+use Rattle.info.specs.sharding_members.Values.{rawBy, hashAt, shardingOf}
 
 -- ---- what follows where a part is there, else `none`
 
@@ -119,7 +119,7 @@ numbersOf p q r t =
     whenIs p NoSharding (λ a. whenIs q NoSharding (λ h. whenIs r NoSharding (λ m. whenIs t NoSharding (λ n. shardingOf a h m n))))
 
 unfoldable pub numbersIn : List ℕ → ℕ → ShardingIn
-numbersIn s p = numbersOf (numberIn preshiftName s p) (hashIn s p) (numberIn minishardName s p) (numberIn shardName s p)
+numbersIn s p = numbersOf (numberIn preshiftName s p) (hashIn s p) (numberIn minishardBitsName s p) (numberIn shardBitsName s p)
 
 unfoldable pub shardingAt : List ℕ → ℕ → ShardingIn
 shardingAt s p = pick (formed s p) (numbersIn s p) NoSharding

@@ -13,11 +13,11 @@ use Rattle.sharding.specs.declared.Sharding.{Sharding}
 use Rattle.sharding.specs.Specification.{noSuchShard}
 use Rattle.sharding.specs.placement.Place.{minishardOf}
 use Rattle.shard.specs.File.{indexLength}
-use Rattle.intake.specs.declared.intakestate.Intake.{Intake}
-use Rattle.intake.specs.intakestate.State.{most, announcedLength, notVolume, Usable}
-use Rattle.intake.specs.intaketests.Tests.{foreign, unusable, outOfOrder, countIn, noRoom}
+use Rattle.intake.specs.declared.state.Intake.{Intake}
+use Rattle.intake.specs.state.State.{most, announcedLength, notVolume, Usable}
+use Rattle.intake.specs.tests.Tests.{foreign, unusable, outOfOrder, countIn, noRoom}
 use Rattle.intake.specs.admission.Refusals.{openChecks, announceChecks, partChecks, closeChecks}
-use Rattle.intake.proofs.intaketests.Passing.{usable}
+use Rattle.intake.proofs.tests.Passing.{usable}
 
 -- ---- the four calls: what the number 0 tells
 

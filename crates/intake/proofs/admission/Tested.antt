@@ -12,12 +12,12 @@ use Rattle.refusal.proofs.Tests.{told-yes}
 use Rattle.sharding.specs.declared.Sharding.{Sharding}
 use Rattle.sharding.specs.Specification.{shardCount}
 use Rattle.shard.specs.File.{indexLength}
-use Rattle.intake.specs.declared.intakestate.Intake.{Intake}
-use Rattle.intake.specs.intakestate.State.{most, notVolume}
-use Rattle.intake.specs.intaketests.Tests.{otherLengths, foreign, unusable, outOfOrder, noRoom}
+use Rattle.intake.specs.declared.state.Intake.{Intake}
+use Rattle.intake.specs.state.State.{most, notVolume}
+use Rattle.intake.specs.tests.Tests.{otherLengths, foreign, unusable, outOfOrder, noRoom}
 use Rattle.intake.specs.admission.Refusals.{openChecks, announceChecks, partChecks, closeChecks}
-use Rattle.intake.proofs.intakesanity.States.{told-volume}
-use Rattle.intake.proofs.intaketests.Tested.{told-length, told-permitted, told-room, told-held}
+use Rattle.intake.proofs.sanity.States.{told-volume}
+use Rattle.intake.proofs.tests.Tested.{told-length, told-permitted, told-room, told-held}
 
 -- ---- the calls
 

@@ -8,9 +8,9 @@ use Rattle.refusal.specs.Checks.{Check, check}
 use Rattle.sharding.specs.declared.Sharding.{Sharding}
 use Rattle.sharding.specs.Specification.{noSuchShard}
 use Rattle.shard.specs.File.{indexLength}
-use Rattle.intake.specs.declared.intakestate.Intake.{Intake}
-use Rattle.intake.specs.intakestate.State.{most, notVolume}
-use Rattle.intake.specs.intaketests.Tests.{otherLengths, foreign, unusable, outOfOrder, noRoom}
+use Rattle.intake.specs.declared.state.Intake.{Intake}
+use Rattle.intake.specs.state.State.{most, notVolume}
+use Rattle.intake.specs.tests.Tests.{otherLengths, foreign, unusable, outOfOrder, noRoom}
 
 -- ---- the calls: of the output its length counts, of the second buffer also what it holds
 

@@ -21,10 +21,10 @@ use Rattle.json.proofs.+skip_array+skip_member+skip_object+skip_value.L
 use Rattle.json.proofs.end_of.Reads as end-of-reads
 use Rattle.json.proofs.skip_scalar.Reads as skip-scalar-reads
 use Rattle.json.proofs.strings.skip_string.Reads as skip-string-reads
-use Rattle.json.proofs.text.byte.Reads as byte-reads
-use Rattle.json.proofs.text.skip_close.Reads as skip-close-reads
-use Rattle.json.proofs.text.skip_mark.Reads as skip-mark-reads
-use Rattle.json.proofs.text.skip_ws.Reads as skip-ws-reads
+use Rattle.json.proofs.tokens.byte.Reads as byte-reads
+use Rattle.json.proofs.tokens.skip_close.Reads as skip-close-reads
+use Rattle.json.proofs.tokens.skip_mark.Reads as skip-mark-reads
+use Rattle.json.proofs.tokens.skip_ws.Reads as skip-ws-reads
 use Rattle.json.proofs.+skip_array+skip_member+skip_object+skip_value.{statement}
 use Rattle.json.proofs.+skip_array+skip_member+skip_object+skip_value.Tie.{close}
 

@@ -6,8 +6,8 @@ use mathlib.Core.Bool.{Bool, true, false}
 use native.Mathlib.Omega.{arith}
 use lib.ListN.{length, getD}
 use borrow.Author.Tests.{ltb-true, ltb-false}
-use Rattle.json.specs.text.Bytes.{choose, under}
-use Rattle.json.proofs.text.Laws.{if-yes, within}
+use Rattle.json.specs.tokens.Bytes.{choose, under}
+use Rattle.json.proofs.tokens.Laws.{if-yes, within}
 use Rattle.json.specs.characters.Chars.{charLen, escapeLen, utf8Len}
 
 pub is-under : (c k : ℕ) → under c k ≡ true → c < k

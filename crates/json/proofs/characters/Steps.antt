@@ -9,9 +9,9 @@ use borrow.Author.Tests.{leb-true, lt-ltb, le-ltb, not-true}
 use lib.ListN.{length, getD}
 use lib.Dec.{ltb, leb, eqb}
 use Rattle.refusal.proofs.Tests.{both}
-use Rattle.json.specs.text.Bytes.{choose, same, under, inside}
-use Rattle.json.proofs.text.Laws.{if-yes, if-no, if-eq, if-ne, not-same, within}
-use Rattle.json.proofs.text.Steps.{along-start, along-end, along-fits, along-less, along-on}
+use Rattle.json.specs.tokens.Bytes.{choose, same, under, inside}
+use Rattle.json.proofs.tokens.Laws.{if-yes, if-no, if-eq, if-ne, not-same, within}
+use Rattle.json.proofs.tokens.Steps.{along-start, along-end, along-fits, along-less, along-on}
 use Rattle.json.specs.characters.Chars.{isHex, isShort, isPlain, isTail, isSecond, utf8Len, escapeLen, charLen}
 
 pub if-lt : {A : Type 0} (m n : ℕ) (a b : A) → m < n → choose (under m n) a b ≡ a

@@ -5,10 +5,10 @@ use mathlib.Core.List.{List}
 use mathlib.Core.Bool.{Bool, true, false}
 use native.Mathlib.Omega.{arith}
 use lib.ListN.{length, getD}
-use Rattle.json.specs.text.Bytes.{under, byteAt}
-use Rattle.json.specs.declared.text.Found.{Found}
-use Rattle.json.specs.declared.text.Found.the-variants.{At, Nothing}
-use Rattle.json.proofs.text.Laws.{if-yes, if-no, if-eq, if-ne, if-case, nowhere, is-same, not-same, at-byte}
+use Rattle.json.specs.tokens.Bytes.{under, byteAt}
+use Rattle.json.specs.declared.tokens.Found.{Found}
+use Rattle.json.specs.declared.tokens.Found.the-variants.{At, Nothing}
+use Rattle.json.proofs.tokens.Laws.{if-yes, if-no, if-eq, if-ne, if-case, nowhere, is-same, not-same, at-byte}
 use Rattle.json.specs.characters.Chars.{charLen}
 use Rattle.json.specs.strings.Chars.{charsAt, stringAt, Chars, String}
 use Rattle.json.specs.strings.Chars.Chars.{none, more}

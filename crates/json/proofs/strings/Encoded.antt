@@ -8,8 +8,8 @@ use borrow.Author.Tests.{leb-true, lt-ltb}
 use lib.Dec.{leb, ltb}
 use lib.ListN.{length, getD}
 use Rattle.refusal.proofs.Tests.{both}
-use Rattle.json.specs.text.Bytes.{choose, same, under, inside, byteAt}
-use Rattle.json.proofs.text.Laws.{if-yes, is-same, to-same}
+use Rattle.json.specs.tokens.Bytes.{choose, same, under, inside, byteAt}
+use Rattle.json.proofs.tokens.Laws.{if-yes, is-same, to-same}
 use Rattle.json.specs.characters.Chars.{isHex, isShort, utf8Len, escapeLen, charLen, utf8At, Utf8}
 use Rattle.json.specs.strings.Chars.{Chars, String}
 

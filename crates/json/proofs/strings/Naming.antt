@@ -8,11 +8,11 @@ use native.Mathlib.Numerals.{add-one}
 use lib.ListN.{length, getD, take, drop, drop-of-length-le}
 use lib.Seq.{drop-cons}
 use borrow.Author.Tests.{ltb-true, ltb-false, leb-true, eq-eqb, ne-eqb}
-use Rattle.json.specs.text.Bytes.{choose, byteAt, same, under, inside}
+use Rattle.json.specs.tokens.Bytes.{choose, byteAt, same, under, inside}
 use Rattle.json.specs.characters.Chars.{charLen, utf8Len}
 use Rattle.json.specs.strings.Names.{unitAt, utf8, isPair, unitBytes, charBytes, unescaped, eqList, asciiOf, asciiAt}
 use lib.Dec.{leb, ltb, eqb}
-use Rattle.json.proofs.text.Laws.{if-yes, if-no, if-eq, if-ne, to-not-same}
+use Rattle.json.proofs.tokens.Laws.{if-yes, if-no, if-eq, if-ne, to-not-same}
 use Rattle.json.proofs.characters.Laws.{is-under, not-under, char-here}
 use Rattle.refusal.proofs.Tests.{both}
 

@@ -11,10 +11,10 @@ use lib.Dec.{ltb, leb, eqb}
 use mir.Syntax.{w64}
 use mir.Val.{Fits}
 use Rattle.refusal.proofs.Tests.{both}
-use Rattle.json.specs.text.Bytes.{inside, isDigit, span}
-use Rattle.json.specs.declared.text.Found.the-variants.{At, Nothing}
-use Rattle.json.proofs.text.Laws.{if-yes, if-no, if-eq, if-ne, in-text, span-on, span-stop, le-span}
-use Rattle.json.proofs.text.Steps.{mark-room}
+use Rattle.json.specs.tokens.Bytes.{inside, isDigit, span}
+use Rattle.json.specs.declared.tokens.Found.the-variants.{At, Nothing}
+use Rattle.json.proofs.tokens.Laws.{if-yes, if-no, if-eq, if-ne, in-text, span-on, span-stop, le-span}
+use Rattle.json.proofs.tokens.Steps.{mark-room}
 use Rattle.json.proofs.characters.Steps.{if-lt, if-ge, plain-zero, plain-low, plain-mark, plain-slash, plain-one}
 use Rattle.json.specs.characters.Chars.{isPlain, charLen}
 use Rattle.json.specs.strings.Chars.{charsAt, stringAt}

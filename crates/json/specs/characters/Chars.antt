@@ -4,7 +4,7 @@ use mathlib.Core.Path.{_≡_}
 use mathlib.Core.List.{List}
 use mathlib.Core.Bool.{Bool, not, _||_, _&&_}
 use lib.Dec.{leb}
-use Rattle.json.specs.text.Bytes.{choose, byteAt, same, under, inside}
+use Rattle.json.specs.tokens.Bytes.{choose, byteAt, same, under, inside}
 
 -- HEXDIG: 0 to 9, A to F, a to f
 unfoldable pub isHex : ℕ → Bool

@@ -3,9 +3,9 @@ use Prim.Native.Nat.{ℕ, zero, suc, _+_}
 use mathlib.Core.Path.{_≡_}
 use mathlib.Core.List.{List}
 use lib.ListN.{length}
-use Rattle.json.specs.text.Bytes.{choose, byteAt, same}
-use Rattle.json.specs.declared.text.Found.{Found}
-use Rattle.json.specs.declared.text.Found.the-variants.{At, Nothing}
+use Rattle.json.specs.tokens.Bytes.{choose, byteAt, same}
+use Rattle.json.specs.declared.tokens.Found.{Found}
+use Rattle.json.specs.declared.tokens.Found.the-variants.{At, Nothing}
 use Rattle.json.specs.characters.Chars.{charLen}
 
 -- *char quotation-mark, of at most n characters

@@ -4,7 +4,7 @@ use mathlib.Core.List.{List, [], _∷_, _++_}
 use mathlib.Core.Bool.{Bool, true, false, not, _&&_}
 use lib.Dec.{ltb, eqb}
 use lib.ListN.{length, getD, take, drop}
-use Rattle.json.specs.text.Bytes.{choose, byteAt, same, under, inside, isDigit}
+use Rattle.json.specs.tokens.Bytes.{choose, byteAt, same, under, inside, isDigit}
 use Rattle.json.specs.characters.Chars.{isPlain, charLen}
 
 -- the value of a hexadecimal digit, and of the four from i on

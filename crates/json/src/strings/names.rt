@@ -1,4 +1,5 @@
 // What a character of a string stands for, as far as names of ASCII ask.
+
 ghost use mathlib.Core.Path.{_≡_};
 ghost use Prim.Native.Nat.{_+_, _≤_, _<_};
 ghost use lib.ListN.{length};
@@ -7,7 +8,7 @@ ghost use Rattle.json.specs.strings.Names.{hexValue, unitOf, unitAt, sho
 fn hex_value(b: u8) -> u8
     ensures { λ r. ⌜ r ≡ hexValue b ⌝ }
 {
-    if crate::text::is_digit(b) {
+    if crate::tokens::is_digit(b) {
         return b - 48;
     }
     if (65 <= b) & (b <= 70) {
@@ -33,10 +34,10 @@ fn unit_at(s: &[u8], i: usize) -> usize
     requires { ⌜ i ≤ length (now s) + 1 ⌝ }
     ensures { λ r. ⌜ r ≡ unitAt (now (s .entry)) i ⌝ }
 {
-    let a = crate::text::byte(s, i);
-    let b = crate::text::byte(s, i + 1);
-    let c = crate::text::byte(s, i + 2);
-    let d = crate::text::byte(s, i + 3);
+    let a = crate::tokens::byte(s, i);
+    let b = crate::tokens::byte(s, i + 1);
+    let c = crate::tokens::byte(s, i + 2);
+    let d = crate::tokens::byte(s, i + 3);
     unit_of(a, b, c, d)
 }
 
@@ -77,11 +78,11 @@ fn ascii_at(s: &[u8], i: usize) -> u8
     requires { ⌜ i < length (now s) ⌝ }
     ensures { λ r. ⌜ r ≡ asciiAt (now (s .entry)) i ⌝ }
 {
-    let b = crate::text::byte(s, i);
+    let b = crate::tokens::byte(s, i);
     if b != b'\\' {
         return ascii_of(wide(b));
     }
-    let c = crate::text::byte(s, i + 1);
+    let c = crate::tokens::byte(s, i + 1);
     if c == b'u' {
         return ascii_of(unit_at(s, i + 2));
     }
@@ -92,9 +93,9 @@ fn ascii_at(s: &[u8], i: usize) -> u8
 pub fn differs(s: &[u8], i: usize, name: &[u8]) -> bool
     ensures { λ r. ⌜ r ≡ differs (now (s .entry)) i (now (name .entry)) ⌝ }
 {
-    let b = crate::text::byte(s, i);
-    let a = crate::text::byte(name, 0);
-    let plain = crate::characters::chars::is_plain(b);
+    let b = crate::tokens::byte(s, i);
+    let a = crate::tokens::byte(name, 0);
+    let plain = crate::characters::is_plain(b);
     plain & !(b == a)
 }
 
@@ -104,6 +105,6 @@ pub fn agrees(s: &[u8], i: usize, name: &[u8], k: usize) -> bool
     ensures { λ r. ⌜ r ≡ agrees (now (s .entry)) i (now (name .entry)) k ⌝ }
 {
     let a = ascii_at(s, i);
-    let b = crate::text::byte(name, k);
+    let b = crate::tokens::byte(name, k);
     (k < name.len()) & (a == b)
 }

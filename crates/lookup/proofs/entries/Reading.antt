@@ -8,7 +8,7 @@ use Rattle.endian.specs.Place.{paste}
 use Rattle.endian.proofs.Paste.{paste-nil}
 use Rattle.shard.specs.index.Index.{entryStart, entryEnd, entryCount}
 use Rattle.shard.specs.index.Reading.{Readable, ReadableIn}
-use Rattle.lookup.specs.entries.Entries.{entriesFrom, listingIn}
+use Rattle.lookup.specs.entries.Entries.{triplesFrom, listingIn}
 
 -- how many chunks minishard m lists
 abbrev countOf : List ℕ → ℕ → ℕ
@@ -24,13 +24,13 @@ module _ (x d : List ℕ) (m : ℕ) {s e : ℕ} (u : s ≡ entryStart x m) (v : 
   pub read-room : (out : List ℕ) → 3 * countOf x m ≤ length out → 3 * entryCount s e ≤ length out
   read-room out h = rw (u, v) h
 
-  pub read-listing : (out : List ℕ) {out′ : List ℕ} → out′ ≡ paste 0 (entriesFrom (length x) d s (entryCount s e) 0 (entryCount s e)) out → out′ ≡ paste 0 (listingIn x d m) out
+  pub read-listing : (out : List ℕ) {out′ : List ℕ} → out′ ≡ paste 0 (triplesFrom (length x) d s (entryCount s e) 0 (entryCount s e)) out → out′ ≡ paste 0 (listingIn x d m) out
   unfolding listingIn
   read-listing out w = rw (u, v) at w
 
   -- of an empty minishard nothing is written
   pub read-empty : (out : List ℕ) → s ≡ e → out ≡ paste 0 (listingIn x d m) out
-  unfolding listingIn entriesFrom
+  unfolding listingIn triplesFrom
   read-empty out q =
       let z : countOf x m ≡ 0 = omega arith in
       rw z (sym (paste-nil 0 out))

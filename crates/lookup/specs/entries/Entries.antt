@@ -5,14 +5,14 @@ use lib.ListN.{length}
 use Rattle.shard.specs.index.Index.{entryStart, entryEnd, entryCount, idSteps, startSteps, sizes, idAt, startAt}
 
 -- k entries from entry i on, of the n at s in a file whose shard index has `base` bytes: id, place in the file, length
-unfoldable pub entriesFrom : ℕ → List ℕ → ℕ → ℕ → ℕ → ℕ → List ℕ
-entriesFrom base d s n i zero = []
-entriesFrom base d s n i (suc k) =
-    idAt (idSteps d s) i ∷ (base + startAt (startSteps d s n) (sizes d s n) i) ∷ sizes d s n i ∷ entriesFrom base d s n (suc i) k
+unfoldable pub triplesFrom : ℕ → List ℕ → ℕ → ℕ → ℕ → ℕ → List ℕ
+triplesFrom base d s n i zero = []
+triplesFrom base d s n i (suc k) =
+    idAt (idSteps d s) i ∷ (base + startAt (startSteps d s n) (sizes d s n) i) ∷ sizes d s n i ∷ triplesFrom base d s n (suc i) k
 
 -- the listing of minishard m of a shard of two parts
 unfoldable pub listingIn : List ℕ → List ℕ → ℕ → List ℕ
 listingIn index d m =
     let s = entryStart index m in
     let n = entryCount s (entryEnd index m) in
-    entriesFrom (length index) d s n 0 n
+    triplesFrom (length index) d s n 0 n

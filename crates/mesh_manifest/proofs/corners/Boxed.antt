@@ -12,13 +12,13 @@ use Rattle.refusal.specs.Checks.{Check, check, answered}
 use Rattle.refusal.proofs.Tests.{both, told-no, told-yes}
 use Rattle.refusal.proofs.Picks.{AllIn, all-in, all-in-both}
 use Rattle.refusal.proofs.Refusing.{answered-both}
-use Rattle.mesh_manifest.specs.manifest.Verdict.{manifestChecks, verdict}
-use Rattle.mesh_manifest.specs.manifestread.Fields.{headerAt}
+use Rattle.mesh_manifest.specs.sound.Verdict.{manifestChecks, manifestVerdict}
+use Rattle.mesh_manifest.specs.Fields.{headerAt}
 use Rattle.mesh_manifest.specs.nodes.Nodes.{hasNode, nodeAt, nodeChecks}
-use Rattle.mesh_manifest.specs.declared.manifestread.Header.{Header}
+use Rattle.mesh_manifest.specs.declared.Header.{Header}
 use Rattle.mesh_manifest.specs.declared.nodes.Node.{Node}
-use Rattle.mesh_manifest.proofs.manifest.Judged.{fails, passes, passed, unrefused, none-both, none-head, in-table, told-sound, refused-first, given-first}
-use Rattle.mesh_manifest.proofs.manifest.Ways.{never}
+use Rattle.mesh_manifest.proofs.sound.Judged.{fails, passes, passed, unrefused, none-both, none-head, in-table, told-sound, refused-first, given-first}
+use Rattle.mesh_manifest.proofs.sound.Ways.{never}
 use Rattle.mesh_manifest.proofs.nodes.Asked.{told-node, told-level}
 use Rattle.mesh_manifest.specs.reals.Reals.{finite, nearOf, farOf}
 use Rattle.mesh_manifest.specs.corners.Boxes.{placed, finiteCorner, nearCorner, farCorner, boxOf, boxChecks, boxAnswer, cornersChecks, cornersAnswer}
@@ -134,7 +134,7 @@ unfolding nodeChecks
 node-in-table s l i = all-in-both (manifestChecks s) (check 18 (not (hasNode s l i)) ∷ []) (in-table s) (all-in (check 18 (not (hasNode s l i)) ∷ []) refl)
 
 -- of a manifest's node: v is what the judge gave, p whether there is such a node
-module _ (s : List ℕ) {v : ℕ} (e : v ≡ verdict s) (l i : ℕ) where
+module _ (s : List ℕ) {v : ℕ} (e : v ≡ manifestVerdict s) (l i : ℕ) where
   abbrev boxed : List Check
   boxed = boxChecks (headerAt s) l (nodeAt s l i)
 

@@ -10,17 +10,17 @@ use borrow.Author.Tests.{lt-ltb, le-ltb}
 use Rattle.refusal.specs.Checks.{check, answered}
 use Rattle.refusal.proofs.Tests.{told-no, told-yes}
 use Rattle.endian.specs.Range.{sumTo}
-use Rattle.mesh_manifest.specs.layout.Layout.{itemAt, levelsOf, countOf, nodesBefore, sizeAt}
-use Rattle.mesh_manifest.specs.manifest.Verdict.{verdict}
-use Rattle.mesh_manifest.proofs.manifest.Judged.{fails, passes, passed, refused-first, given-first, told-sound}
-use Rattle.mesh_manifest.proofs.manifest.Sounds.{sound-if}
-use Rattle.mesh_manifest.specs.fragmentsums.Sums.{levelBytes}
+use Rattle.mesh_manifest.specs.layout.Layout.{manifestItem, levelsOf, countOf, nodesBefore, sizeAt}
+use Rattle.mesh_manifest.specs.sound.Verdict.{manifestVerdict}
+use Rattle.mesh_manifest.proofs.sound.Judged.{fails, passes, passed, refused-first, given-first, told-sound}
+use Rattle.mesh_manifest.proofs.sound.Sounds.{sound-if}
+use Rattle.mesh_manifest.specs.fragment_sums.Sums.{levelBytes}
 use Rattle.mesh_manifest.specs.nodes.Nodes.{hasNode, fragmentStart, fragmentsLength, nodeIn, nodeAt, nodeChecks, nodeAnswer}
 use Rattle.mesh_manifest.specs.declared.nodes.Node.{Node}
 use Rattle.mesh_manifest.specs.declared.nodes.NodeAnswer.the-variants as N
 use Rattle.mesh_manifest.proofs.nodes.Levels.{has-level}
 
-module _ (s : List ℕ) {v : ℕ} (e : v ≡ verdict s) where
+module _ (s : List ℕ) {v : ℕ} (e : v ≡ manifestVerdict s) where
   module _ (l i : ℕ) where
     pub node-refused : (v ≡ 0 → ⊥) → N.Refused v ≡ nodeAnswer s l i
     unfolding nodeAnswer nodeChecks
@@ -56,8 +56,8 @@ module _ (s : List ℕ) (l i : ℕ) {v : ℕ} (e : v ≡ levelsOf s) where
   in-level h f = let g : l < levelsOf s = omega arith in rw (lt-ltb l (levelsOf s) g) (ap (ltb i) f)
 
 -- a node as it is read, item by item
-pub node-read : (s : List ℕ) (first n i start : ℕ) {x y z size : ℕ} → x ≡ itemAt s (first + i) → y ≡ itemAt s (first + n + i) → z ≡ itemAt s (first + 2 * n + i)
-    → size ≡ itemAt s (first + 3 * n + i) → _≡_ {A = Node} (record { x = x; y = y; z = z; start = start; size = size }) (nodeIn s first n i start)
+pub node-read : (s : List ℕ) (first n i start : ℕ) {x y z size : ℕ} → x ≡ manifestItem s (first + i) → y ≡ manifestItem s (first + n + i) → z ≡ manifestItem s (first + 2 * n + i)
+    → size ≡ manifestItem s (first + 3 * n + i) → _≡_ {A = Node} (record { x = x; y = y; z = z; start = start; size = size }) (nodeIn s first n i start)
 unfolding nodeIn sizeAt
 node-read s first n i start e f g h = rw (e, f, g, h)
 

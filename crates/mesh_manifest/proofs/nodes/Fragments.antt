@@ -10,9 +10,9 @@ use Rattle.refusal.specs.Checks.{firstNumber, unless}
 use Rattle.endian.specs.Range.{sumTo}
 use Rattle.endian.proofs.Ranges.{sum-none, sum-step, sum-grows}
 use Rattle.mesh_manifest.specs.layout.Layout.{levelsOf, countOf, levelItem, sizeAt}
-use Rattle.mesh_manifest.specs.fragmentsums.Sums.{levelBytes, fragmentSize}
+use Rattle.mesh_manifest.specs.fragment_sums.Sums.{levelBytes, fragmentSize}
 use Rattle.mesh_manifest.specs.nodes.Nodes.{hasNode, fragmentStart, fragmentsLength, nodeIn, nodeAt, nodeChecks, nodeAnswer}
-use Rattle.mesh_manifest.specs.nodes.Run.{fragmentOf, ofLevel, ofLevels, joined}
+use Rattle.mesh_manifest.specs.nodes.Run.{fragmentOf, ofLevel, ofLevels, allFragments}
 use Rattle.mesh_manifest.specs.declared.nodes.Node.{Node}
 use Rattle.mesh_manifest.specs.declared.nodes.NodeAnswer.the-variants as N
 use Rattle.mesh_manifest.proofs.nodes.Levels.{has-level, has-index}
@@ -81,7 +81,7 @@ module _ (s run : List ℕ) where
       rw (of-levels l, of-level l (countOf s l), z, take-add (sumTo (levelBytes s) l) (levelBytes s l) run)
 
   -- one after the other they are the run: no byte of it is left out or stands in two of them
-  pub tiles : length run ≡ fragmentsLength s → joined s run ≡ run
+  pub tiles : length run ≡ fragmentsLength s → allFragments s run ≡ run
   unfolding fragmentsLength
   tiles e = of-levels (levelsOf s) ∙ take-all (sumTo (levelBytes s) (levelsOf s)) run (omega arith)
 

@@ -8,8 +8,8 @@ use lib.Dec.{T, ltb, ltb→lt}
 use lib.Ieee.Fits.{and-l, and-r}
 use lib.ListN.{length}
 use Rattle.mesh_manifest.specs.layout.Layout.{levelsOf, countOf, nodesBefore}
-use Rattle.mesh_manifest.specs.manifest.Verdict.{verdict}
-use Rattle.mesh_manifest.proofs.manifest.Sounds.{sound-ends, read-fits, sound as sound-manifest}
+use Rattle.mesh_manifest.specs.sound.Verdict.{manifestVerdict}
+use Rattle.mesh_manifest.proofs.sound.Sounds.{sound-ends, read-fits, sound as sound-manifest}
 use Rattle.mesh_manifest.specs.nodes.Nodes.{hasNode}
 
 module _ (s : List ℕ) (l i : ℕ) (e : hasNode s l i ≡ true) where
@@ -30,7 +30,7 @@ module _ (s : List ℕ) (l i : ℕ) (e : hasNode s l i ≡ true) where
   pub has-most : {n : ℕ} → n ≡ countOf s l → i ≤ n
   has-most f = let b = both in omega (arith, b .1)
 
-  pub made-fits : {v k n : ℕ} → v ≡ levelsOf s → k ≡ nodesBefore s l → n ≡ countOf s l → verdict s ≡ 0 → 4 * (7 + 5 * v + 4 * k + 4 * n) ≤ length s
+  pub made-fits : {v k n : ℕ} → v ≡ levelsOf s → k ≡ nodesBefore s l → n ≡ countOf s l → manifestVerdict s ≡ 0 → 4 * (7 + 5 * v + 4 * k + 4 * n) ≤ length s
   made-fits f g h z = read-fits s l f g h (has-level f) (sound-ends s z)
 
 pub ruleset sound = (has-level, has-to, has-index, has-most, made-fits, sound-manifest)

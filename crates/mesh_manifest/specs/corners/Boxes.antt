@@ -6,9 +6,9 @@ use mathlib.Core.List.{List, [], _∷_, _++_}
 use lib.Dec.{ltb}
 use Rattle.refusal.specs.Checks.{Check, check, answered}
 use Rattle.mesh_manifest.specs.reals.Reals.{finite, nearOf, farOf}
-use Rattle.mesh_manifest.specs.manifestread.Fields.{headerAt}
+use Rattle.mesh_manifest.specs.Fields.{headerAt}
 use Rattle.mesh_manifest.specs.nodes.Nodes.{nodeAt, nodeChecks}
-use Rattle.mesh_manifest.specs.declared.manifestread.Header.{Header}
+use Rattle.mesh_manifest.specs.declared.Header.{Header}
 use Rattle.mesh_manifest.specs.declared.nodes.Node.{Node}
 use Rattle.mesh_manifest.specs.declared.corners.Corner.{Corner}
 use Rattle.mesh_manifest.specs.declared.corners.Corners.{Corners}

@@ -4,7 +4,7 @@ use mathlib.Core.Bool.{Bool, not, _&&_}
 use mathlib.Core.List.{List}
 use lib.Dec.{ltb, eqb}
 use lib.Ieee.{Float, binary32, ofBits}
-use Rattle.mesh_manifest.specs.layout.Layout.{itemAt}
+use Rattle.mesh_manifest.specs.layout.Layout.{manifestItem}
 
 -- the pattern of a finite real: its exponent field is not all ones (RULES M3)
 unfoldable pub finiteBits : ℕ → Bool
@@ -16,4 +16,4 @@ aboveZero b = ltb 0 b && ltb b (2 ^ 31)
 
 -- the real in item i: the one whose pattern is the item's number
 unfoldable pub realAt : List ℕ → ℕ → Float
-realAt s i = ofBits binary32 (itemAt s i)
+realAt s i = ofBits binary32 (manifestItem s i)

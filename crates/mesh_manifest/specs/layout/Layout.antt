@@ -7,12 +7,12 @@ use Rattle.endian.specs.Little.{leAt}
 use Rattle.endian.specs.Range.{sumTo}
 
 -- the number in item i, counted from 0 in file order (RULES M1)
-unfoldable pub itemAt : List ℕ → ℕ → ℕ
-itemAt s i = leAt 4 s (4 * i)
+unfoldable pub manifestItem : List ℕ → ℕ → ℕ
+manifestItem s i = leAt 4 s (4 * i)
 
 -- the level count stands after chunk shape and grid origin, three reals each
 abbrev pub levelsOf : List ℕ → ℕ
-levelsOf s = itemAt s 6
+levelsOf s = manifestItem s 6
 
 -- after it the scales, one a level, and the vertex offsets, three a level: these and the first six are the reals (RULES M1)
 unfoldable pub isReal : ℕ → ℕ → Bool
@@ -20,7 +20,7 @@ isReal levels i = ltb i 6 || (leb 7 i && ltb i (7 + 4 * levels))
 
 -- then the node counts, one a level: how many nodes level l has
 unfoldable pub countOf : List ℕ → ℕ → ℕ
-countOf s l = itemAt s (7 + 4 * levelsOf s + l)
+countOf s l = manifestItem s (7 + 4 * levelsOf s + l)
 
 -- how many nodes the levels before l have together
 abbrev pub nodesBefore : List ℕ → ℕ → ℕ
@@ -36,14 +36,14 @@ fieldCount s = levelItem s (levelsOf s)
 
 -- Of a level with n nodes whose items begin at `first`: all x, all y, all z, all fragment sizes. Of node i:
 abbrev pub xAt : List ℕ → ℕ → ℕ → ℕ → ℕ
-xAt s first n i = itemAt s (first + i)
+xAt s first n i = manifestItem s (first + i)
 
 abbrev pub yAt : List ℕ → ℕ → ℕ → ℕ → ℕ
-yAt s first n i = itemAt s (first + n + i)
+yAt s first n i = manifestItem s (first + n + i)
 
 abbrev pub zAt : List ℕ → ℕ → ℕ → ℕ → ℕ
-zAt s first n i = itemAt s (first + 2 * n + i)
+zAt s first n i = manifestItem s (first + 2 * n + i)
 
 -- RULES M1
 unfoldable pub sizeAt : List ℕ → ℕ → ℕ → ℕ → ℕ
-sizeAt s first n i = itemAt s (first + 3 * n + i)
+sizeAt s first n i = manifestItem s (first + 3 * n + i)

@@ -6,8 +6,8 @@ use lib.Dec.{ltb}
 use Rattle.refusal.specs.Checks.{Check, check, answered}
 use Rattle.endian.specs.Range.{sumTo}
 use Rattle.mesh_manifest.specs.layout.Layout.{levelsOf, countOf, levelItem, xAt, yAt, zAt, sizeAt}
-use Rattle.mesh_manifest.specs.manifest.Verdict.{manifestChecks}
-use Rattle.mesh_manifest.specs.fragmentsums.Sums.{levelBytes}
+use Rattle.mesh_manifest.specs.sound.Verdict.{manifestChecks}
+use Rattle.mesh_manifest.specs.fragment_sums.Sums.{levelBytes}
 use Rattle.mesh_manifest.specs.declared.nodes.Node.{Node}
 use Rattle.mesh_manifest.specs.declared.nodes.NodeAnswer.{NodeAnswer}
 use Rattle.mesh_manifest.specs.declared.nodes.NodeAnswer.the-variants as N

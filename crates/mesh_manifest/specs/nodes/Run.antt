@@ -4,7 +4,7 @@ use Prim.Native.Nat.{ℕ, zero, suc}
 use mathlib.Core.List.{List, [], _++_}
 use lib.ListN.{take, drop}
 use Rattle.mesh_manifest.specs.layout.Layout.{levelsOf, countOf}
-use Rattle.mesh_manifest.specs.fragmentsums.Sums.{fragmentSize}
+use Rattle.mesh_manifest.specs.fragment_sums.Sums.{fragmentSize}
 use Rattle.mesh_manifest.specs.nodes.Nodes.{fragmentStart}
 
 -- the fragment of node i of level l, of the manifest s whose fragments are the run
@@ -22,5 +22,5 @@ ofLevels s run zero = []
 ofLevels s run (suc l) = ofLevels s run l ++ ofLevel s run l (countOf s l)
 
 -- all fragments (RULES M9)
-abbrev pub joined : List ℕ → List ℕ → List ℕ
-joined s run = ofLevels s run (levelsOf s)
+abbrev pub allFragments : List ℕ → List ℕ → List ℕ
+allFragments s run = ofLevels s run (levelsOf s)

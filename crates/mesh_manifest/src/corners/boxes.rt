@@ -1,16 +1,17 @@
 // The two corners of a node, by the header and the level.
-use crate::corners::Corner;
-use crate::corners::Corners;
-use crate::corners::CornersAnswer;
-use crate::manifestread::Header;
-use crate::nodes::Node;
-use crate::reals::inner::far;
-use crate::reals::inner::is_finite;
-use crate::reals::inner::near;
+
 ghost use mathlib.Core.Path.{_≡_};
 ghost use mathlib.Core.Bool.{true};
 ghost use Prim.Native.Nat.{_<_};
 ghost use Rattle.mesh_manifest.specs.corners.Boxes.{nearCorner, farCorner, placed, finiteCorner, boxAnswer};
+use crate::Header;
+use crate::corners::Corner;
+use crate::corners::Corners;
+use crate::corners::CornersAnswer;
+use crate::nodes::Node;
+use crate::reals::far;
+use crate::reals::is_finite;
+use crate::reals::near;
 
 // Each position is below 2^24.
 fn is_placed(n: Node) -> bool

@@ -1,16 +1,17 @@
 // One node of a manifest that the judge found sound.
-use crate::fragmentsums::inner::bytes_before;
-use crate::fragmentsums::inner::sizes;
-use crate::layout::inner::count;
-use crate::layout::inner::item;
-use crate::layout::inner::nodes_before;
-use crate::nodes::Node;
+
 ghost use mathlib.Core.Path.{_≡_};
 ghost use mathlib.Core.Bool.{true};
 ghost use Prim.Native.Nat.{_+_, _*_, _≤_, _<_};
 ghost use lib.ListN.{length};
-ghost use Rattle.mesh_manifest.specs.manifest.Verdict.{verdict};
+ghost use Rattle.mesh_manifest.specs.sound.Verdict.{manifestVerdict};
 ghost use Rattle.mesh_manifest.specs.nodes.Nodes.{fragmentsLength, hasNode, nodeIn, nodeAt};
+use crate::fragment_sums::bytes_before;
+use crate::fragment_sums::sizes;
+use crate::layout::count;
+use crate::layout::item;
+use crate::layout::nodes_before;
+use crate::nodes::Node;
 
 // Node i of a level with n nodes whose items begin at first; its own fragment begins at start.
 pub fn node_in(s: &[u8], first: usize, n: usize, i: usize, start: u64) -> Node
@@ -32,7 +33,7 @@ pub fn node_in(s: &[u8], first: usize, n: usize, i: usize, start: u64) -> Node
 
 // How many bytes all fragments have together.
 pub fn fragments_length(s: &[u8]) -> u64
-    requires { ⌜ verdict (now s) ≡ 0 ⌝ }
+    requires { ⌜ manifestVerdict (now s) ≡ 0 ⌝ }
     ensures { λ r. ⌜ r ≡ fragmentsLength (now (s .entry)) ⌝ }
 {
     let levels = item(s, 6) as usize;
@@ -40,7 +41,7 @@ pub fn fragments_length(s: &[u8]) -> u64
 }
 
 pub fn has_node(s: &[u8], level: usize, node: usize) -> bool
-    requires { ⌜ verdict (now s) ≡ 0 ⌝ }
+    requires { ⌜ manifestVerdict (now s) ≡ 0 ⌝ }
     ensures { λ r. ⌜ r ≡ hasNode (now (s .entry)) level node ⌝ }
 {
     let levels = item(s, 6) as usize;
@@ -51,7 +52,7 @@ pub fn has_node(s: &[u8], level: usize, node: usize) -> bool
 }
 
 pub fn node(s: &[u8], level: usize, node: usize) -> Node
-    requires { ⌜ (verdict (now s) ≡ 0) × (hasNode (now s) level node ≡ true) ⌝ }
+    requires { ⌜ (manifestVerdict (now s) ≡ 0) × (hasNode (now s) level node ≡ true) ⌝ }
     ensures { λ r. ⌜ r ≡ nodeAt (now (s .entry)) level node ⌝ }
 {
     let levels = item(s, 6) as usize;

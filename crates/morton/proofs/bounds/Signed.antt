@@ -12,7 +12,7 @@ use mir.Facts.{toZ-ofZ, toZ-pos, sfits-widen}
 use Rattle.morton.specs.declared.grid.Cell.{Cell}
 use Rattle.morton.specs.declared.grid.Volume.{Volume}
 use Rattle.morton.specs.declared.bounds.Point.{Point}
-use Rattle.morton.specs.bounds.Bounds.{beginOf, endOf, beginPoint, endPoint}
+use Rattle.morton.specs.bounds.Bounds.{cellBegin, cellEnd, beginPoint, endPoint}
 
 mag-cond : (t : Bool) (a b k : ℕ) → a < k → b < k → mag (cond t (negsuc a) (pos b)) < k
 mag-cond true a b k p q = p
@@ -56,12 +56,12 @@ module _ (o : ℤ) (fo : SFits w32 o) where
       toZ-ofZ f ∙ p
 
   module _ (size chunk g : ℕ) (fs : Fits w32 size) (r : ℤ) where
-    pub begins : g * chunk < size → r ≡ toZ w32 (ofZ w32 o) +ℤ pos (g * chunk) → toZ w64 (ofZ w64 r) ≡ beginOf o chunk g
-    unfolding beginOf
+    pub begins : g * chunk < size → r ≡ toZ w32 (ofZ w32 o) +ℤ pos (g * chunk) → toZ w64 (ofZ w64 r) ≡ cellBegin o chunk g
+    unfolding cellBegin
     begins h e = stored (g * chunk) r (omega arith) e
 
-    pub ends : {n : ℕ} → n ≡ min ((g + 1) * chunk) size → r ≡ toZ w32 (ofZ w32 o) +ℤ pos n → toZ w64 (ofZ w64 r) ≡ endOf o size chunk g
-    unfolding endOf
+    pub ends : {n : ℕ} → n ≡ min ((g + 1) * chunk) size → r ≡ toZ w32 (ofZ w32 o) +ℤ pos n → toZ w64 (ofZ w64 r) ≡ cellEnd o size chunk g
+    unfolding cellEnd
     ends {n} m e = stored n r (omega arith) e ∙ ap (λ (n : ℕ). o +ℤ pos n) m
 
 -- ---- three axes
@@ -70,24 +70,24 @@ read-back f p q e = toZ-ofZ q ∙ e ∙ ap f (toZ-ofZ p)
 
 module _ (v : Volume) (c : Cell) {x y z : ℤ} (fx : SFits w64 x) (fy : SFits w64 y) (fz : SFits w64 z)
     (ox : SFits w32 (v .offset .x)) (oy : SFits w32 (v .offset .y)) (oz : SFits w32 (v .offset .z)) where
-  pub begin-made : x ≡ beginOf (toZ w32 (ofZ w32 (v .offset .x))) (v .chunk .x) (c .x)
-      → y ≡ beginOf (toZ w32 (ofZ w32 (v .offset .y))) (v .chunk .y) (c .y)
-      → z ≡ beginOf (toZ w32 (ofZ w32 (v .offset .z))) (v .chunk .z) (c .z)
+  pub begin-made : x ≡ cellBegin (toZ w32 (ofZ w32 (v .offset .x))) (v .chunk .x) (c .x)
+      → y ≡ cellBegin (toZ w32 (ofZ w32 (v .offset .y))) (v .chunk .y) (c .y)
+      → z ≡ cellBegin (toZ w32 (ofZ w32 (v .offset .z))) (v .chunk .z) (c .z)
       → _≡_ {A = Point} (record { x = toZ w64 (ofZ w64 x); y = toZ w64 (ofZ w64 y); z = toZ w64 (ofZ w64 z) }) (beginPoint v c)
   unfolding beginPoint
   begin-made ex ey ez =
-      let px = read-back (λ o. beginOf o (v .chunk .x) (c .x)) ox fx ex in
-      let py = read-back (λ o. beginOf o (v .chunk .y) (c .y)) oy fy ey in
-      let pz = read-back (λ o. beginOf o (v .chunk .z) (c .z)) oz fz ez in
+      let px = read-back (λ o. cellBegin o (v .chunk .x) (c .x)) ox fx ex in
+      let py = read-back (λ o. cellBegin o (v .chunk .y) (c .y)) oy fy ey in
+      let pz = read-back (λ o. cellBegin o (v .chunk .z) (c .z)) oz fz ez in
       λ t. record { x = px t; y = py t; z = pz t }
 
-  pub end-made : x ≡ endOf (toZ w32 (ofZ w32 (v .offset .x))) (v .size .x) (v .chunk .x) (c .x)
-      → y ≡ endOf (toZ w32 (ofZ w32 (v .offset .y))) (v .size .y) (v .chunk .y) (c .y)
-      → z ≡ endOf (toZ w32 (ofZ w32 (v .offset .z))) (v .size .z) (v .chunk .z) (c .z)
+  pub end-made : x ≡ cellEnd (toZ w32 (ofZ w32 (v .offset .x))) (v .size .x) (v .chunk .x) (c .x)
+      → y ≡ cellEnd (toZ w32 (ofZ w32 (v .offset .y))) (v .size .y) (v .chunk .y) (c .y)
+      → z ≡ cellEnd (toZ w32 (ofZ w32 (v .offset .z))) (v .size .z) (v .chunk .z) (c .z)
       → _≡_ {A = Point} (record { x = toZ w64 (ofZ w64 x); y = toZ w64 (ofZ w64 y); z = toZ w64 (ofZ w64 z) }) (endPoint v c)
   unfolding endPoint
   end-made ex ey ez =
-      let px = read-back (λ o. endOf o (v .size .x) (v .chunk .x) (c .x)) ox fx ex in
-      let py = read-back (λ o. endOf o (v .size .y) (v .chunk .y) (c .y)) oy fy ey in
-      let pz = read-back (λ o. endOf o (v .size .z) (v .chunk .z) (c .z)) oz fz ez in
+      let px = read-back (λ o. cellEnd o (v .size .x) (v .chunk .x) (c .x)) ox fx ex in
+      let py = read-back (λ o. cellEnd o (v .size .y) (v .chunk .y) (c .y)) oy fy ey in
+      let pz = read-back (λ o. cellEnd o (v .size .z) (v .chunk .z) (c .z)) oz fz ez in
       λ t. record { x = px t; y = py t; z = pz t }

@@ -6,7 +6,7 @@ use Rattle.endian.specs.Place.{paste}
 use Rattle.morton.specs.declared.grid.Extents.{Extents}
 use Rattle.morton.specs.declared.grid.Cell.{Cell}
 use Rattle.morton.specs.Key.{keyOf}
-use Rattle.morton.specs.declared.keyplan.Plan.{Plan}
+use Rattle.morton.specs.declared.plan.Plan.{Plan}
 
 pub planned-keys : (p : Plan) (g : Extents) (cells : List Cell) (d : List ℕ) {e : List ℕ} → p .grid ≡ g
     → e ≡ paste 0 (map (keyOf (p .grid)) cells) d → e ≡ paste 0 (map (keyOf g) cells) d

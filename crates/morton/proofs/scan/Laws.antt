@@ -17,11 +17,11 @@ use Rattle.morton.specs.grid.Grid.{gridOf, zeroExtent, InU32}
 use Rattle.morton.specs.Key.{keyOf, tooManyBits}
 use Rattle.morton.specs.batch.Batch.{eachInGrid, keysOf, keysChecks, keysAnswer, keysLeft}
 use Rattle.morton.specs.spread.Spread.{Spreads, Placed}
-use Rattle.morton.specs.keyplan.Parts.{lowKey, restKey, Shared}
-use Rattle.morton.specs.cellrows.Row.{cellsFrom, rowOf}
+use Rattle.morton.specs.plan.Parts.{lowKey, restKey, Shared}
+use Rattle.morton.specs.rows.Row.{cellsFrom, rowOf}
 use Rattle.morton.proofs.spread.Spreading.{placed, no-more}
-use Rattle.morton.proofs.keyplan.Turns.{key-by-parts}
-use Rattle.morton.proofs.cellrows.Rows.{length-from, row-0}
+use Rattle.morton.proofs.plan.Turns.{key-by-parts}
+use Rattle.morton.proofs.rows.Rows.{length-from, row-0}
 
 -- ---- the table
 module _ (t : List ℕ) (h : Spreads t) (b : ℕ) (l : b < 256) where

@@ -4,7 +4,7 @@ use mathlib.Core.Path.{_≡_, refl, sym, ap, _∙_}
 use native.Mathlib.Omega.{arith}
 use native.Mathlib.Nat.{mod-lt, div-eq-of-lt, add-suc, add-zero, zero-add}
 use lib.Pow.{pow-add, pow-pos, shr-shr, field, mod-mod-pow, high}
-use Rattle.morton.specs.axisbits.Axis.{bitOf}
+use Rattle.morton.specs.axis.Axis.{bitOf}
 use Rattle.morton.specs.spread.Spread.{spread, Placed}
 
 bit-lt : (v i : ℕ) → bitOf v i < 2

@@ -7,27 +7,27 @@ use Rattle.morton.specs.declared.bounds.Point.{Point}
 use Rattle.morton.specs.declared.bounds.Bounds.{Bounds}
 
 -- "A cell begins at offset + g × chunk" (RULES G3)
-unfoldable pub beginOf : ℤ → ℕ → ℕ → ℤ
-beginOf offset chunk g = offset +ℤ pos (g * chunk)
+unfoldable pub cellBegin : ℤ → ℕ → ℕ → ℤ
+cellBegin offset chunk g = offset +ℤ pos (g * chunk)
 
 -- "and ends at offset + min((g+1) × chunk, size), per axis" (RULES G3)
-unfoldable pub endOf : ℤ → ℕ → ℕ → ℕ → ℤ
-endOf offset size chunk g = offset +ℤ pos (min ((g + 1) * chunk) size)
+unfoldable pub cellEnd : ℤ → ℕ → ℕ → ℕ → ℤ
+cellEnd offset size chunk g = offset +ℤ pos (min ((g + 1) * chunk) size)
 
 unfoldable pub beginPoint : Volume → Cell → Point
 beginPoint v c =
     record {
-      x = beginOf (v .offset .x) (v .chunk .x) (c .x);
-      y = beginOf (v .offset .y) (v .chunk .y) (c .y);
-      z = beginOf (v .offset .z) (v .chunk .z) (c .z);
+      x = cellBegin (v .offset .x) (v .chunk .x) (c .x);
+      y = cellBegin (v .offset .y) (v .chunk .y) (c .y);
+      z = cellBegin (v .offset .z) (v .chunk .z) (c .z);
     }
 
 unfoldable pub endPoint : Volume → Cell → Point
 endPoint v c =
     record {
-      x = endOf (v .offset .x) (v .size .x) (v .chunk .x) (c .x);
-      y = endOf (v .offset .y) (v .size .y) (v .chunk .y) (c .y);
-      z = endOf (v .offset .z) (v .size .z) (v .chunk .z) (c .z);
+      x = cellEnd (v .offset .x) (v .size .x) (v .chunk .x) (c .x);
+      y = cellEnd (v .offset .y) (v .size .y) (v .chunk .y) (c .y);
+      z = cellEnd (v .offset .z) (v .size .z) (v .chunk .z) (c .z);
     }
 
 unfoldable pub boundsOf : Volume → Cell → Bounds

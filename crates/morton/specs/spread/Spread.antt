@@ -3,7 +3,7 @@ use Prim.Native.Nat.{ℕ, zero, suc, _+_, _*_, _^_, _<_}
 use mathlib.Core.Path.{_≡_}
 use mathlib.Core.List.{List}
 use lib.ListN.{length, getD}
-use Rattle.morton.specs.axisbits.Axis.{bitOf}
+use Rattle.morton.specs.axis.Axis.{bitOf}
 
 -- the n low bits of v, bit k at place 3 × k, and no other bit
 unfoldable pub spread : ℕ → ℕ → ℕ

@@ -1,4 +1,5 @@
 // What other crates ask of a volume or a grid that they have tested.
+
 ghost use mathlib.Core.Path.{_≡_};
 ghost use mathlib.Core.Bool.{false};
 ghost use Prim.Native.Nat.{_<_};
@@ -8,7 +9,7 @@ use crate::grid::Extents;
 use crate::grid::Volume;
 
 // An extent is 0.
-fn has_zero(e: Extents) -> bool
+pub fn has_zero(e: Extents) -> bool
     ensures { λ r. ⌜ r ≡ hasZero e ⌝ }
 {
     if e.x == 0 {

@@ -1,4 +1,5 @@
 // The grid of a volume.
+
 ghost use mathlib.Core.Path.{_≡_};
 ghost use Rattle.morton.specs.grid.Answers.{gridAnswer};
 use crate::grid::GridAnswer;

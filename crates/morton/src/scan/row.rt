@@ -1,4 +1,5 @@
 // The keys of a row of cells: what y and z give is found once.
+
 ghost use mathlib.Core.Path.{_≡_};
 ghost use mathlib.Core.List.{map};
 ghost use Prim.Native.Nat.{_-_, _≤_};
@@ -7,23 +8,23 @@ ghost use Rattle.endian.specs.Place.{paste};
 ghost use Rattle.morton.specs.Key.{keyBits, keyOf};
 ghost use Rattle.morton.specs.batch.Batch.{keysAnswer, keysLeft};
 ghost use Rattle.morton.specs.spread.Spread.{Spreads};
-ghost use Rattle.morton.specs.keyplan.Parts.{Planned};
-ghost use Rattle.morton.specs.cellrows.Row.{rowOf};
-use crate::cellrows::inner::low_yz;
-use crate::cellrows::inner::next_rest;
-use crate::cellrows::inner::row_inside;
-use crate::cellrows::inner::row_length;
+ghost use Rattle.morton.specs.plan.Parts.{Planned};
+ghost use Rattle.morton.specs.rows.Row.{rowOf};
 use crate::grid::Cell;
 use crate::grid::Extents;
 use crate::grid::Volume;
 use crate::grid::inner::grid;
 use crate::grid::inner::zero_extent;
-use crate::inner::too_many_bits;
-use crate::keyplan::Plan;
-use crate::keyplan::inner::plan;
-use crate::keyplan::inner::rest_key;
-use crate::spread::inner::spread_bits;
+use crate::plan::Plan;
+use crate::plan::inner::plan;
+use crate::plan::inner::rest_key;
+use crate::rows::low_yz;
+use crate::rows::next_rest;
+use crate::rows::row_inside;
+use crate::rows::row_length;
+use crate::spread::spread_bits;
 use crate::spread::table::spread_bytes;
+use crate::steps::too_many_bits;
 use refusal::Written;
 
 fn fill(plan: Plan, table: &[u32], from: u32, to: u32, y: u32, z: u32, keys: &mut [u64])

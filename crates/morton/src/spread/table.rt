@@ -1,4 +1,5 @@
 // The table of spread bytes: bit k of b is at place 3 × k of entry b.
+
 ghost use Rattle.morton.specs.spread.Spread.{Spreads};
 
 const SPREAD: [u32; 256] = [

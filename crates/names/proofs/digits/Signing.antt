@@ -13,8 +13,8 @@ use mir.Facts.{toZ-ofZ}
 use Rattle.endian.specs.Place.{paste}
 use Rattle.endian.proofs.Paste.{paste-then, length-paste}
 use Rattle.names.specs.digits.Digits.{digits, decimal}
-use Rattle.names.specs.digits.Signs.{negative, signed, signedText}
-use Rattle.names.specs.declared.digits.inner.Signed.{Signed}
+use Rattle.names.specs.digits.Signs.{negative, signParts, signedText}
+use Rattle.names.specs.declared.digits.Signed.{Signed}
 use Rattle.names.proofs.digits.Numerals.{decimal-length}
 
 -- ---- digits by their count
@@ -70,13 +70,13 @@ module _ (n : Signed) where
 
 pub ruleset signing = (length-neg, length-pos, sign-room, digits-room, whole-room, signed-put, whole-put, signed-end, whole-end, needs)
 
--- ---- from signed numbers; an i64 that is handed on is read back from its bits, `back z`
+-- ---- from signParts numbers; an i64 that is handed on is read back from its bits, `back z`
 
 abbrev pub back : ℤ → ℤ
 back z = toZ w64 (ofZ w64 z)
 
-pub signed-is : (z : ℤ) (r : Bool) (n : ℕ) → SFits w64 z → r ≡ negative (back z) → n ≡ natAbs (back z) → record { negative = r; magnitude = n } ≡ signed z
-unfolding signed
+pub signed-is : (z : ℤ) (r : Bool) (n : ℕ) → SFits w64 z → r ≡ negative (back z) → n ≡ natAbs (back z) → record { negative = r; magnitude = n } ≡ signParts z
+unfolding signParts
 signed-is z r n f p q =
     let p′ : r ≡ negative z = rw (toZ-ofZ f) at p in
     let q′ : n ≡ natAbs z = rw (toZ-ofZ f) at q in

@@ -1,11 +1,11 @@
--- `opened::lookup` meets its contract, which is that of `lookup::lookup` at the struct's fields: by the walk that such functions share (`Ask`).
+-- `opened::lookup` meets its contract, which is that of `opened::lookup` at the struct's fields: by the walk that such functions share (`Ask`).
 use base.Logic.{id⊢}
 use contract.Running.{givenOf, tables, tablesOf}
 use denote.Enum.Laws as EL
 use denote.Triple.Spec.{tripleOf}
 use denote.Triple.Table.{entered, cited}
-use Rattle.lookup.proofs.idsearch.LookupAnswer as S
-use Rattle.lookup.proofs.idsearch.LookupAnswer.Laws as S′
+use Rattle.lookup.proofs.id_search.LookupAnswer as S
+use Rattle.lookup.proofs.id_search.LookupAnswer.Laws as S′
 use Rattle.lookup.proofs.lookup as plain
 use Rattle.lookup.proofs.lookup.Symbol as plain-def
 use Rattle.lookup.proofs.lookup.Symbol.{name as #lookup·lookup}

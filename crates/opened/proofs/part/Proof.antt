@@ -1,4 +1,4 @@
--- `opened::part` meets its contract, which is that of `lookup::part` at the struct's fields: by the walk that such functions share (`Ask`).
+-- `opened::part` meets its contract, which is that of `opened::part` at the struct's fields: by the walk that such functions share (`Ask`).
 use base.Logic.{id⊢}
 use mir.Syntax.{named, imm, w8, tyInt, tyRef}
 use contract.Running.{givenOf, tables, tablesOf}

@@ -16,9 +16,9 @@ use Rattle.sharding.specs.declared.Sharding.{Sharding}
 use Rattle.shard.specs.index.Index.{sizes, startSteps, idSteps, idAt, startAt, chunkAt, mostShardBytes}
 use Rattle.shard.specs.Items.{itemAt, leadLength, leads, NoLeads, MayLead, Led}
 use Rattle.shard.proofs.Items.{item-size, item-lead}
-use Rattle.settled_form.specs.form.Form.{chunksLength}
-use Rattle.settled_form.specs.form.Content.{itemsFrom, itemsAt}
-use Rattle.settle.specs.minishard.Writing.{Readable, LeadsIn, minishardLength, capped}
+use Rattle.settled_form.specs.Form.{chunksLength}
+use Rattle.settled_form.specs.Content.{itemsFrom, itemsAt}
+use Rattle.settle.specs.minishard.Writing.{ReadableIndex, LeadsIn, minishardLength, capped}
 use Rattle.settle.proofs.minishard.Walk.{Walk, walk-first, walk-chunk, walk-inside, walk-led, walk-fits, walk-next}
 
 -- ---- the chunks are as long as their leads and sizes together
@@ -27,7 +27,7 @@ sum-next : (f : ℕ → ℕ) (i : ℕ) → sumTo f (suc i) ≡ sumTo f i + f i
 unfolding sumTo
 sum-next f i = refl
 
-module _ (spec : Sharding) {d : List ℕ} {s n : ℕ} (r : Readable d s n) (before : (i : ℕ) → i < n → leads spec d s n i ≤ startAt (startSteps d s n) (sizes d s n) i) where
+module _ (spec : Sharding) {d : List ℕ} {s n : ℕ} (r : ReadableIndex d s n) (before : (i : ℕ) → i < n → leads spec d s n i ≤ startAt (startSteps d s n) (sizes d s n) i) where
   lengths-from : (i k : ℕ) → i + k ≤ n → chunksLength (itemsFrom spec d s n i k) + (sumTo (leads spec d s n) i + sumTo (sizes d s n) i) ≡ sumTo (leads spec d s n) (i + k) + sumTo (sizes d s n) (i + k)
   unfolding chunksLength itemsFrom itemAt
   lengths-from i zero l = rw (add-zero i) (omega arith)
@@ -77,7 +77,7 @@ pub record Leading (spec : Sharding) (d : List ℕ) (s n i from sum : ℕ) : Typ
 pub leading-first : (spec : Sharding) (d : List ℕ) (s n : ℕ) → Leading spec d s n 0 0 0
 leading-first spec d s n = record { walk = walk-first d s n; sums = adding-first (leads spec d s n) n }
 
-module _ {spec : Sharding} {d : List ℕ} {s n i from sum : ℕ} (r : Readable d s n) (h : Leading spec d s n i from sum) (l : i < n)
+module _ {spec : Sharding} {d : List ℕ} {s n i from sum : ℕ} (r : ReadableIndex d s n) (h : Leading spec d s n i from sum) (l : i < n)
     (u v t : ℕ) (eu : u ≡ leAt 8 d (s + 8 * n + 8 * i)) (et : t ≡ (from + u) % 2 ^ 64) (ev : v ≡ leAt 8 d (s + 16 * n + 8 * i)) where
   pub lead-inside : t + v ≤ length d
   lead-inside = walk-inside r (h .walk) l u v t eu et ev
@@ -110,10 +110,10 @@ no-sum f zero z = refl
 no-sum f (suc n) z = omega (arith, no-sum f n z, z n)
 
 -- without leads
-pub lengths-alone : (spec : Sharding) {d : List ℕ} {s n : ℕ} → Readable d s n → NoLeads spec → chunksLength (itemsAt spec d s n) ≡ sumTo (sizes d s n) n
+pub lengths-alone : (spec : Sharding) {d : List ℕ} {s n : ℕ} → ReadableIndex d s n → NoLeads spec → chunksLength (itemsAt spec d s n) ≡ sumTo (sizes d s n) n
 lengths-alone spec {d} {s} {n} r none = let w = no-sum (leads spec d s n) n (λ i. none (chunkAt d s n i)) in omega (arith, lengths spec r (λ i l. rw (none (chunkAt d s n i)) (omega arith)))
 
-module _ (spec : Sharding) {d : List ℕ} {s n : ℕ} (r : Readable d s n) {sizes′ listed : ℕ} (e : sizes′ ≡ capped (sumTo (sizes d s n) n)) (f : listed ≡ capped (sizes′ + 24 * n)) where
+module _ (spec : Sharding) {d : List ℕ} {s n : ℕ} (r : ReadableIndex d s n) {sizes′ listed : ℕ} (e : sizes′ ≡ capped (sumTo (sizes d s n) n)) (f : listed ≡ capped (sizes′ + 24 * n)) where
   -- with leads
   pub length-led : LeadsIn spec d s n → {lead total : ℕ} → lead ≡ capped (sumTo (leads spec d s n) n) → total ≡ capped (listed + lead) → total ≡ capped (minishardLength spec d s n)
   length-led g {lead} {total} u v = step _ _ (24 * n) _ _ _ _ e f u v ∙ ap (λ (z : ℕ). capped (z + 24 * n)) (omega (arith, lengths spec r (λ i l. g .led i l .before)))

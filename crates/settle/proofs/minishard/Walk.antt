@@ -12,7 +12,7 @@ use Rattle.endian.proofs.Ranges.{sum-step}
 use Rattle.sharding.specs.declared.Sharding.{Sharding}
 use Rattle.shard.specs.index.Index.{startSteps, sizes, startAt, chunkAt}
 use Rattle.shard.specs.Items.{Led}
-use Rattle.settle.specs.minishard.Writing.{Readable, LeadsIn}
+use Rattle.settle.specs.minishard.Writing.{ReadableIndex, LeadsIn}
 
 -- entry i is next, and `from` is where the chunk before it ends
 pub record Walk (d : List ℕ) (s n i from : ℕ) : Type 0 where
@@ -28,7 +28,7 @@ walk-on : (a b from u v t : ℕ) → from ≡ (a + b) % 2 ^ 64 → t ≡ (from +
 walk-on a b from u v t p q l = omega arith
 
 -- u and v are its start step and its size as they were read, t is the sum
-module _ {d : List ℕ} {s n i from : ℕ} (r : Readable d s n) (h : Walk d s n i from) (l : i < n)
+module _ {d : List ℕ} {s n i from : ℕ} (r : ReadableIndex d s n) (h : Walk d s n i from) (l : i < n)
     (u v t : ℕ) (eu : u ≡ leAt 8 d (s + 8 * n + 8 * i)) (et : t ≡ (from + u) % 2 ^ 64) (ev : v ≡ leAt 8 d (s + 16 * n + 8 * i)) where
   walk-start : startAt (startSteps d s n) (sizes d s n) i ≡ t
   unfolding startAt sumTo

@@ -10,9 +10,9 @@ use lib.Seq.{getD-set-same, getD-set-other, ext-getD}
 use Rattle.endian.specs.Little.{leAt}
 use Rattle.shard.specs.index.Index.{idSteps, startSteps, sizes}
 use Rattle.shard.proofs.index.Tally.{Tally, tally-start, tally-id, tally-place, tally-turn}
-use Rattle.index_sort.specs.threerows.Rows.{entriesAt, FitEntry, Only, noEntry, nth}
-use Rattle.index_sort.proofs.threerows.Cases.{Either, is, not, either}
-use Rattle.index_sort.proofs.threerows.Bytes.{length-entries, entry-eq, only-none, only-then}
+use Rattle.index_sort.specs.three_rows.Rows.{entriesAt, FitEntry, Only, noEntry, nth}
+use Rattle.index_sort.proofs.three_rows.Cases.{Either, is, not, either}
+use Rattle.index_sort.proofs.three_rows.Bytes.{length-entries, entry-eq, only-none, only-then}
 use Rattle.settle.specs.sorted.Reordered.{storedAt, storedFrom, storedEntries}
 
 -- ---- the entries in rows

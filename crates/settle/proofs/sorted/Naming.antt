@@ -11,16 +11,16 @@ use Rattle.refusal.specs.Choice.{pick}
 use Rattle.sharding.specs.declared.Sharding.{Sharding}
 use Rattle.shard.specs.index.Index.{idSteps, idAt}
 use Rattle.shard.specs.Items.{Item, itemOf, itemAt, Led}
-use Rattle.settled_form.specs.form.Sorted.{notAbove, insertBy, sortBy, Member, Distinct}
-use Rattle.settled_form.specs.form.Content.{itemsFrom, itemsAt, byId}
-use Rattle.settled_form.proofs.form.Sorting.{sort-mem, length-sort}
-use Rattle.index_sort.specs.declared.threerows.Entry.{Entry}
-use Rattle.index_sort.specs.threerows.Rows.{idOf, noEntry}
-use Rattle.index_sort.specs.heapturns.Rows.{sortById}
-use Rattle.index_sort.proofs.threerows.Cases.{Either, is, not, either, apart}
-use Rattle.index_sort.proofs.heapturns.Places.{at-mem, apart-distinct}
-use Rattle.settle.specs.minishard.Writing.{Readable, LeadsIn, Apart}
-use Rattle.settle.specs.itemruns.Named.{itemFrom, named, InData}
+use Rattle.settled_form.specs.Sorted.{notAbove, insertBy, sortBy, Member, Distinct}
+use Rattle.settled_form.specs.Content.{itemsFrom, itemsAt, byId}
+use Rattle.settled_form.proofs.Sorting.{sort-mem, length-sort}
+use Rattle.index_sort.specs.declared.three_rows.Entry.{Entry}
+use Rattle.index_sort.specs.three_rows.Rows.{idOf, noEntry}
+use Rattle.index_sort.specs.phases.Rows.{sortById}
+use Rattle.index_sort.proofs.three_rows.Cases.{Either, is, not, either, apart}
+use Rattle.index_sort.proofs.phases.Places.{at-mem, apart-distinct}
+use Rattle.settle.specs.minishard.Writing.{ReadableIndex, LeadsIn, Apart}
+use Rattle.settle.specs.item_runs.Named.{itemFrom, named, InData}
 use Rattle.settle.specs.sorted.Reordered.{storedAt, storedFrom, storedEntries}
 use Rattle.settle.proofs.sorted.Filling.{length-stored, nth-stored}
 
@@ -88,7 +88,7 @@ module _ (d : List ℕ) (s n : ℕ) where
       let l : t .0 < n = omega (arith, t .1, length-stored d s n) in
       subst P (sym (t .2 ∙ nth-stored d s n (t .0) l)) (h (t .0) l)
 
-  pub inside-sorted : {spec : Sharding} → Readable d s n → LeadsIn spec d s n → InData spec d (sortById (storedEntries d s n))
+  pub inside-sorted : {spec : Sharding} → ReadableIndex d s n → LeadsIn spec d s n → InData spec d (sortById (storedEntries d s n))
   unfolding storedAt
   inside-sorted {spec} r g = record {
     inside = λ e m. stored-at (sort-mem idOf (storedEntries d s n) m) (λ (x : Entry). x .start + x .size ≤ length d) (r .inside);

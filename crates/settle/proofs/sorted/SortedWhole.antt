@@ -14,20 +14,20 @@ use Rattle.endian.proofs.Paste.{paste-then, paste-on, paste-apart, length-paste
 use Rattle.sharding.specs.declared.Sharding.{Sharding}
 use Rattle.shard.specs.index.Index.{mostShardBytes}
 use Rattle.shard.proofs.Items.{item-size}
-use Rattle.settled_form.specs.form.Form.{chunksOf, chunksLength, idRow, startRow, sizeRow, indexOf, partOf}
-use Rattle.settled_form.specs.form.Sorted.{Member, Distinct}
-use Rattle.settled_form.specs.form.Content.{itemsAt, byId}
-use Rattle.settled_form.proofs.form.Sorting.{rising-sort, rising-later}
-use Rattle.settled_form.proofs.form.Measures.{length-chunks, length-ids, length-starts, chunks-by-id}
-use Rattle.index_sort.specs.declared.threerows.Entry.{Entry}
-use Rattle.index_sort.specs.threerows.Rows.{idOf, entriesAt, rowsOf, Only, noEntry, nth}
-use Rattle.index_sort.specs.heapturns.Rows.{sortById}
-use Rattle.index_sort.proofs.threerows.Bytes.{length-entries, entry-is, only-then, rows-written}
-use Rattle.settle.specs.minishard.Writing.{Readable, LeadsIn, Apart, minishardLength, capped}
-use Rattle.settle.specs.itemruns.Named.{itemFrom, named, InData}
+use Rattle.settled_form.specs.Form.{chunksOf, chunksLength, idRow, startRow, sizeRow, indexOf, partOf}
+use Rattle.settled_form.specs.Sorted.{Member, Distinct}
+use Rattle.settled_form.specs.Content.{itemsAt, byId}
+use Rattle.settled_form.proofs.Sorting.{rising-sort, rising-later}
+use Rattle.settled_form.proofs.Measures.{length-chunks, length-ids, length-starts, chunks-by-id}
+use Rattle.index_sort.specs.declared.three_rows.Entry.{Entry}
+use Rattle.index_sort.specs.three_rows.Rows.{idOf, entriesAt, rowsOf, Only, noEntry, nth}
+use Rattle.index_sort.specs.phases.Rows.{sortById}
+use Rattle.index_sort.proofs.three_rows.Bytes.{length-entries, entry-is, only-then, rows-written}
+use Rattle.settle.specs.minishard.Writing.{ReadableIndex, LeadsIn, Apart, minishardLength, capped}
+use Rattle.settle.specs.item_runs.Named.{itemFrom, named, InData}
 use Rattle.settle.specs.sorted.Reordered.{storedEntries, SortedRows, RisingRow, stepsFrom}
 use Rattle.settle.proofs.sorted.Naming.{named-sorted, length-sorted, distinct-stored, inside-sorted}
-use Rattle.settle.proofs.itemruns.Copying.{read-after, read-before}
+use Rattle.settle.proofs.item_runs.Copying.{read-after, read-before}
 use Rattle.settle.proofs.sorted.Stepping.{steps-ids, steps-same}
 
 -- ---- the rows, sorted
@@ -68,7 +68,7 @@ paste-cover at q U F Z o h e l =
     rw (x, y, k) (simp append-assoc)
 
 module _ (spec : Sharding) {d : List ℕ} {s n : ℕ} {o : List ℕ} {q : ℕ} {o₂ : List ℕ} (t : SortedRows d s n o q o₂) where
-  pub sorted-inside : Readable d s n → LeadsIn spec d s n → InData spec d (entriesAt o₂ q n)
+  pub sorted-inside : ReadableIndex d s n → LeadsIn spec d s n → InData spec d (entriesAt o₂ q n)
   sorted-inside r g = rw (t .entries) (inside-sorted d s n r g)
 
   chunks-are : chunksLength (named spec d (entriesAt o₂ q n)) ≡ chunksLength (itemsAt spec d s n)
@@ -135,7 +135,7 @@ module _ (spec : Sharding) {d : List ℕ} {s n : ℕ} {o : List ℕ} {q : ℕ} {
             ap length steps-are ∙ length-row (idRow 0 (named spec d (entriesAt o₂ q n)))
             ∙ ap (λ (z : ℕ). 8 * z) (length-ids 0 (named spec d (entriesAt o₂ q n)) ∙ named-length spec d (entriesAt o₂ q n) ∙ length-entries o₂ q n)
 
-        pub sorted-written : Readable d s n → LeadsIn spec d s n → ((j : ℕ) → Fits w8 (getD o₂ j 0)) → o₄ ≡ paste at (partOf p (byId (itemsAt spec d s n))) o
+        pub sorted-written : ReadableIndex d s n → LeadsIn spec d s n → ((j : ℕ) → Fits w8 (getD o₂ j 0)) → o₄ ≡ paste at (partOf p (byId (itemsAt spec d s n))) o
         unfolding partOf indexOf rowsOf
         sorted-written r g b =
             let es = sortById (storedEntries d s n) in

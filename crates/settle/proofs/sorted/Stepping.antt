@@ -12,10 +12,10 @@ use Rattle.endian.proofs.Little.{length-le}
 use Rattle.endian.proofs.Paste.{paste-nil, paste-on}
 use Rattle.sharding.specs.declared.Sharding.{Sharding}
 use Rattle.shard.specs.Items.{itemOf}
-use Rattle.settled_form.specs.form.Form.{idRow}
-use Rattle.index_sort.specs.threerows.Rows.{entriesFrom, entriesAt}
-use Rattle.index_sort.proofs.threerows.Bytes.{kept}
-use Rattle.settle.specs.itemruns.Named.{named}
+use Rattle.settled_form.specs.Form.{idRow}
+use Rattle.index_sort.specs.three_rows.Rows.{rowEntriesFrom, entriesAt}
+use Rattle.index_sort.proofs.three_rows.Bytes.{kept}
+use Rattle.settle.specs.item_runs.Named.{named}
 use Rattle.settle.specs.sorted.Reordered.{RisingRow, stepsFrom}
 
 -- ---- ids turned into steps
@@ -75,8 +75,8 @@ module _ {n : ℕ} {out₀ : List ℕ} {q : ℕ} {out : List ℕ} {i before : �
 pub ruleset stepping = (step-first, step-room, step-low, step-next, stepped, needs)
 
 -- the steps are those of the items
-steps-row : (spec : Sharding) (d o : List ℕ) (q n before i k : ℕ) → stepsFrom (rowAt o q) before i k ≡ idRow before (named spec d (entriesFrom o q n i k))
-unfolding stepsFrom idRow named entriesFrom itemOf
+steps-row : (spec : Sharding) (d o : List ℕ) (q n before i k : ℕ) → stepsFrom (rowAt o q) before i k ≡ idRow before (named spec d (rowEntriesFrom o q n i k))
+unfolding stepsFrom idRow named rowEntriesFrom itemOf
 steps-row spec d o q n before i zero = refl
 steps-row spec d o q n before i (suc k) = rw (steps-row spec d o q n (leAt 8 o (q + 8 * i)) (suc i) k)
 

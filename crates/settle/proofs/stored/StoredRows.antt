@@ -18,10 +18,10 @@ use Rattle.sharding.specs.declared.Sharding.{Sharding}
 use Rattle.shard.specs.index.Index.{idSteps, startSteps, sizes, idAt, endAt, chunkAt}
 use Rattle.shard.specs.Items.{Item, NoLeads}
 use Rattle.shard.proofs.Chunks.{pair, item-pair}
-use Rattle.settled_form.specs.form.Form.{chunksOf, idRow, startRow, sizeRow, indexOf, partOf}
-use Rattle.settled_form.specs.form.Content.{itemsFrom, itemsAt}
-use Rattle.settled_form.proofs.form.Measures.{length-chunks}
-use Rattle.settle.specs.minishard.Writing.{Readable, Stored, chunksFrom}
+use Rattle.settled_form.specs.Form.{chunksOf, idRow, startRow, sizeRow, indexOf, partOf}
+use Rattle.settled_form.specs.Content.{itemsFrom, itemsAt}
+use Rattle.settled_form.proofs.Measures.{length-chunks}
+use Rattle.settle.specs.minishard.Writing.{ReadableIndex, Stored, chunksFrom}
 use Rattle.settle.proofs.minishard.Lengths.{lengths-alone}
 
 -- ---- the items of a minishard index, one after the other
@@ -120,7 +120,7 @@ alone : (spec : Sharding) (d : List ℕ) (s n : ℕ) → NoLeads spec → chunks
 alone spec d s n none = ap (λ (z : List Item). chunksOf z) (items-all spec d s n) ∙ alone-from spec d s n 0 n none
 
 -- as it is written
-part-is : (spec : Sharding) (d : List ℕ) (s n p : ℕ) → Readable d s n → Stored spec d s n → ((i : ℕ) → getD d i 0 < 256)
+part-is : (spec : Sharding) (d : List ℕ) (s n p : ℕ) → ReadableIndex d s n → Stored spec d s n → ((i : ℕ) → getD d i 0 < 256)
     → partOf p (itemsAt spec d s n) ≡ chunksOf (itemsAt spec d s n) ++ (take (8 * n) (drop s d) ++ ((le 8 p ++ replicate (8 * n - 8) 0) ++ take (8 * n) (drop (s + 16 * n) d)))
 unfolding partOf indexOf itemsAt
 part-is spec d s n p r t b =
@@ -132,7 +132,7 @@ part-is spec d s n p r t b =
     rw (a, z, row-raw d s n b (omega arith), row-raw d (s + 16 * n) n b (omega arith), starts-bytes spec d s n p (t .alone) (r .some))
 
 -- four writes make it
-pub part-written : (spec : Sharding) (d : List ℕ) (s n p at ids : ℕ) (o : List ℕ) {o₁ o₂ o₃ o₄ : List ℕ} → Readable d s n → Stored spec d s n → ((i : ℕ) → Fits w8 (getD d i 0))
+pub part-written : (spec : Sharding) (d : List ℕ) (s n p at ids : ℕ) (o : List ℕ) {o₁ o₂ o₃ o₄ : List ℕ} → ReadableIndex d s n → Stored spec d s n → ((i : ℕ) → Fits w8 (getD d i 0))
     → at + (sumTo (sizes d s n) n + 24 * n) ≤ length o → ids ≡ at + sumTo (sizes d s n) n
     → o₁ ≡ paste at (chunksFrom d s n 0 n) o
     → o₂ ≡ paste ids (take (8 * n) (drop s d)) o₁

@@ -7,11 +7,11 @@ use lib.ListN.{length}
 use Rattle.sharding.specs.declared.Sharding.{Sharding}
 use Rattle.shard.specs.index.Index.{idSteps, startSteps, sizes, idAt, startAt, endAt, chunkAt, mostShardBytes}
 use Rattle.shard.specs.Items.{Led, NoLeads}
-use Rattle.settled_form.specs.form.Form.{chunksLength}
-use Rattle.settled_form.specs.form.Content.{itemsAt}
+use Rattle.settled_form.specs.Form.{chunksLength}
+use Rattle.settled_form.specs.Content.{itemsAt}
 
 -- the minishard index, and each chunk that it lists, lie within d
-pub record Readable (d : List ℕ) (s n : ℕ) : Type 0 where
+pub record ReadableIndex (d : List ℕ) (s n : ℕ) : Type 0 where
   pub some : 0 < n
   pub index : s + 24 * n ≤ length d
   pub inside : (i : ℕ) → i < n → endAt (startSteps d s n) (sizes d s n) i ≤ length d

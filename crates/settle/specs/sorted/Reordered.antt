@@ -3,9 +3,9 @@ use Prim.Native.Nat.{ℕ, zero, suc, _*_, _-_, _<_}
 use mathlib.Core.Path.{_≡_}
 use mathlib.Core.List.{List, [], _∷_}
 use Rattle.shard.specs.index.Index.{idSteps, startSteps, sizes, idAt, startAt}
-use Rattle.index_sort.specs.declared.threerows.Entry.{Entry}
-use Rattle.index_sort.specs.threerows.Rows.{entriesAt, Only}
-use Rattle.index_sort.specs.heapturns.Rows.{sortById}
+use Rattle.index_sort.specs.declared.three_rows.Entry.{Entry}
+use Rattle.index_sort.specs.three_rows.Rows.{entriesAt, Only}
+use Rattle.index_sort.specs.phases.Rows.{sortById}
 
 -- entry i of the minishard index of n entries at s
 unfoldable pub storedAt : List ℕ → ℕ → ℕ → ℕ → Entry

@@ -16,14 +16,14 @@ use Rattle.shard.specs.Sound.{SoundShard}
 use Rattle.unlisted.specs.ranges.Ranges.{chunkRange, leadRange, indexRange, countIn, chunkStart, leadIn, begin, finish, Has, Listed}
 use Rattle.unlisted.specs.ranges.Covered.{fileUnlisted}
 use Rattle.unlisted.proofs.ranges.Meaning.{none-counted}
-use Rattle.settled_form.specs.form.Form.{chunksLength, partLength, partsFrom, partsLength, entryBegin, entryFinish, entriesFrom, settled}
-use Rattle.settled_form.specs.form.Content.{formOf, fileForm}
-use Rattle.settled_form.proofs.form.Sorting.{member-at}
-use Rattle.settled_form.proofs.form.Measures.{length-parts}
-use Rattle.settled_form.proofs.form.Rows.{noItem, offset}
-use Rattle.settled_form.proofs.form.ReadBack.{Readable, index-back, data-back, placeFrom, reads-part}
-use Rattle.settled_form.proofs.form.SoundContent.{readable-content}
-use Rattle.settled_form.proofs.form.Demand3.{Short, file-form-length}
+use Rattle.settled_form.specs.Form.{chunksLength, partLength, partsFrom, partsLength, entryBegin, entryFinish, shardIndexFrom, settled}
+use Rattle.settled_form.specs.Content.{formOf, fileForm}
+use Rattle.settled_form.proofs.Sorting.{member-at}
+use Rattle.settled_form.proofs.Measures.{length-parts}
+use Rattle.settled_form.proofs.Rows.{noItem, offset}
+use Rattle.settled_form.proofs.ReadBack.{Readable, index-back, data-back, placeFrom, reads-part}
+use Rattle.settled_form.proofs.SoundContent.{readable-content}
+use Rattle.settled_form.proofs.Demand3.{Short, file-form-length}
 
 -- ---- what stands at a place of the form
 
@@ -73,7 +73,7 @@ entry-at p q (x ∷ xs) h k = (h, k)
 
 module _ {spec : Sharding} {c : List (List Item)} (good : Readable spec c) (q : ℕ) where
   abbrev index : List ℕ
-  index = row (entriesFrom 0 c)
+  index = row (shardIndexFrom 0 c)
 
   abbrev d : List ℕ
   d = partsFrom 0 c
@@ -118,7 +118,7 @@ module _ {spec : Sharding} {c : List (List Item)} (good : Readable spec c) (q : 
 
 settled-listed : {spec : Sharding} {c : List (List Item)} → Readable spec c → fileUnlisted spec (settled c) ≡ 0
 settled-listed {spec} {c} good =
-    rw (index-back spec c (good .count), data-back spec c (good .count)) (none-counted spec (row (entriesFrom 0 c)) (partsFrom 0 c) .1 (λ q l. byte-listed good q l))
+    rw (index-back spec c (good .count), data-back spec c (good .count)) (none-counted spec (row (shardIndexFrom 0 c)) (partsFrom 0 c) .1 (λ q l. byte-listed good q l))
 
 -- of a sound shard, where it is at most 1 GiB long
 pub form-listed : {spec : Sharding} {shard : ℕ} {a : List ℕ} → SoundShard spec shard a → Short spec a → fileUnlisted spec (fileForm spec a) ≡ 0

@@ -18,9 +18,9 @@ use Rattle.shard.proofs.Leads.{sound-led}
 use Rattle.shard.proofs.Items.{item-size, item-lead}
 use Rattle.unlisted.specs.ranges.Ranges.{Range, chunkRange, leadRange, indexRange, countIn, chunkStart, chunkEnd, begin, finish, Has, LiesIn}
 use Rattle.unlisted.specs.ranges.Covered.{itemStart, inItem, coveredBy, coveredIn, coveredAt, unlistedBytes}
-use Rattle.settled_form.specs.form.Form.{chunksLength, partLength, partsLength}
-use Rattle.settled_form.specs.form.Content.{itemsFrom, itemsAt, itemsOf, contentFrom, contentOf}
-use Rattle.settled_form.proofs.form.Measures.{length-items, part-by-id}
+use Rattle.settled_form.specs.Form.{chunksLength, partLength, partsLength}
+use Rattle.settled_form.specs.Content.{itemsFrom, itemsAt, itemsOf, contentFrom, contentOf}
+use Rattle.settled_form.proofs.Measures.{length-items, part-by-id}
 use Rattle.settled_form.proofs.shortest.Overlaps.{misses-any, misses-within}
 use Rattle.settled_form.proofs.shortest.Slots.{inSlot, overlapIn, overlap, covered-slots}
 

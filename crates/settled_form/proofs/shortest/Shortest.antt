@@ -10,10 +10,10 @@ use Rattle.shard.specs.File.{indexLength, indexPart, dataPart}
 use Rattle.shard.specs.Sound.{SoundShard}
 use Rattle.shard.specs.Lists.{SameListing}
 use Rattle.unlisted.specs.ranges.Covered.{fileUnlisted}
-use Rattle.settled_form.specs.form.Form.{settledLength}
-use Rattle.settled_form.specs.form.Content.{formLength, fileForm}
-use Rattle.settled_form.proofs.form.Measures.{length-content, length-form}
-use Rattle.settled_form.proofs.form.Demand3.{Short, demand-3-one-form, demand-3-form-sound, demand-3-form-same}
+use Rattle.settled_form.specs.Form.{settledLength}
+use Rattle.settled_form.specs.Content.{formLength, fileForm}
+use Rattle.settled_form.proofs.Measures.{length-content, length-form}
+use Rattle.settled_form.proofs.Demand3.{Short, demand-3-one-form, demand-3-form-sound, demand-3-form-same}
 use Rattle.settled_form.specs.shortest.Shares.{SharesNone}
 use Rattle.settled_form.proofs.shortest.Listed.{form-listed}
 use Rattle.settled_form.proofs.shortest.Slots.{overlap, apart-none, none-apart}

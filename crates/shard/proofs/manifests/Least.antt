@@ -12,7 +12,7 @@ use Rattle.endian.specs.Range.{anyBelow, first}
 use Rattle.endian.proofs.Ranges.{first-lt}
 use Rattle.shard.specs.index.Tests.{EntryTest, firstOf}
 use Rattle.shard.specs.declared.manifests.Failed.{Failed}
-use Rattle.shard.specs.manifests.Each.{failed, leastOf, numberAt, lesser, placed}
+use Rattle.shard.specs.manifests.Each.{failed, leastOf, failedNumberAt, lesser, placed}
 
 -- the numbers are above k and rise
 abbrev pub Above : ℕ → List EntryTest → Type 0
@@ -30,10 +30,10 @@ far-pick false k v w l h = h
 far-less : {k l v : ℕ} → k < l → Far l v → Far k v
 far-less h f = ⊎-elim (λ e. inl e) (λ g. inr (omega arith)) f
 
-pub number-far : (k : ℕ) (ts : List EntryTest) (i : ℕ) → Above k ts → Far k (numberAt ts i)
-unfolding numberAt
+pub number-far : (k : ℕ) (ts : List EntryTest) (i : ℕ) → Above k ts → Far k (failedNumberAt ts i)
+unfolding failedNumberAt
 number-far k [] i a = inl refl
-number-far k (t ∷ ts) i a = far-pick (t .fails i) k (t .number) (numberAt ts i) (a .0) (far-less (a .0) (number-far (t .number) ts i (a .1)))
+number-far k (t ∷ ts) i a = far-pick (t .fails i) k (t .number) (failedNumberAt ts i) (a .0) (far-less (a .0) (number-far (t .number) ts i (a .1)))
 
 pub first-far : (k n : ℕ) (ts : List EntryTest) → Above k ts → Far k (leastOf n ts .number)
 unfolding leastOf
@@ -72,16 +72,16 @@ far-at : (b : Bool) (k w : ℕ) → Far k w → (pick b k w ≡ 0) ⊎ (k ≤ pi
 far-at true k w h = inr (omega arith)
 far-at false k w h = ⊎-elim (λ e. inl e) (λ l. inr (omega arith)) h
 
-pub entry-more : (k n : ℕ) (ts : List EntryTest) → Above k ts → leastOf (suc n) ts ≡ lesser (leastOf n ts) (numberAt ts n) n
-unfolding leastOf numberAt anyBelow first
+pub entry-more : (k n : ℕ) (ts : List EntryTest) → Above k ts → leastOf (suc n) ts ≡ lesser (leastOf n ts) (failedNumberAt ts n) n
+unfolding leastOf failedNumberAt anyBelow first
 entry-more k n [] a = sym (lesser-none (failed 0 0) 0 n refl)
 entry-more k n (t ∷ ts) a =
     go (anyBelow n (t .fails)) (t .fails n) refl refl (number-far (t .number) ts n (a .1)) (first-far (t .number) n ts (a .1)) (entry-more (t .number) n ts (a .1))
   where
-    go : (p q : Bool) → anyBelow n (t .fails) ≡ p → t .fails n ≡ q → Far (t .number) (numberAt ts n) → Far (t .number) (leastOf n ts .number)
-        → leastOf (suc n) ts ≡ lesser (leastOf n ts) (numberAt ts n) n
-        → leastOf (suc n) (t ∷ ts) ≡ lesser (leastOf n (t ∷ ts)) (numberAt (t ∷ ts) n) n
-    go true q e f u v ih = rw (e, f) (sym (lesser-far (failed (t .number) (first (t .fails) n)) (pick q (t .number) (numberAt ts n)) n (omega (arith, a .0)) (far-at q (t .number) (numberAt ts n) u)))
+    go : (p q : Bool) → anyBelow n (t .fails) ≡ p → t .fails n ≡ q → Far (t .number) (failedNumberAt ts n) → Far (t .number) (leastOf n ts .number)
+        → leastOf (suc n) ts ≡ lesser (leastOf n ts) (failedNumberAt ts n) n
+        → leastOf (suc n) (t ∷ ts) ≡ lesser (leastOf n (t ∷ ts)) (failedNumberAt (t ∷ ts) n) n
+    go true q e f u v ih = rw (e, f) (sym (lesser-far (failed (t .number) (first (t .fails) n)) (pick q (t .number) (failedNumberAt ts n)) n (omega (arith, a .0)) (far-at q (t .number) (failedNumberAt ts n) u)))
     go false true e f u v ih = rw (e, f) (sym (lesser-new (leastOf n ts) (t .number) n (omega (arith, a .0)) v))
     go false false e f u v ih = rw (e, f) ih
 

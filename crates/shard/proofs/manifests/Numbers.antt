@@ -10,7 +10,7 @@ use borrow.Author.Needs.{needs}
 use borrow.Author.Tests.{lt-ltb, le-ltb, ne-eqb}
 use Rattle.refusal.specs.Choice.{pick}
 use Rattle.refusal.specs.Checks.{firstNumber}
-use Rattle.mesh_manifest.specs.manifest.Verdict.{rightLength, realsFit, nodesRise, manifestChecks, verdict}
+use Rattle.mesh_manifest.specs.sound.Verdict.{rightLength, realsFit, nodesRise, manifestChecks, manifestVerdict}
 use Rattle.mesh_manifest.specs.nodes.Nodes.{fragmentsLength}
 use Rattle.shard.specs.declared.manifests.Failed.{Failed}
 use Rattle.shard.specs.manifests.Each.{failed, lesser}
@@ -27,16 +27,16 @@ three false true c x = refl
 three false false true x = refl
 three false false false x = refl
 
-by-verdict : (start : ℕ) (body : List ℕ) → manifestNumber start body ≡ pick (eqb (verdict body) 0) (pick (ltb start (fragmentsLength body)) 21 0) (verdict body)
-unfolding manifestNumber verdict manifestChecks firstNumber of-three
+by-verdict : (start : ℕ) (body : List ℕ) → manifestNumber start body ≡ pick (eqb (manifestVerdict body) 0) (pick (ltb start (fragmentsLength body)) 21 0) (manifestVerdict body)
+unfolding manifestNumber manifestVerdict manifestChecks firstNumber of-three
 by-verdict start body = three (not (rightLength body)) (not (realsFit body)) (not (nodesRise body)) (pick (ltb start (fragmentsLength body)) 21 0)
 
-module _ (start : ℕ) (body : List ℕ) {v : ℕ} (e : v ≡ verdict body) where
+module _ (start : ℕ) (body : List ℕ) {v : ℕ} (e : v ≡ manifestVerdict body) where
   pub judged-bad : (v ≡ 0 → ⊥) → v ≡ manifestNumber start body
-  judged-bad n = e ∙ sym (by-verdict start body ∙ rw (ne-eqb (verdict body) 0 (λ z. n (e ∙ z))) refl)
+  judged-bad n = e ∙ sym (by-verdict start body ∙ rw (ne-eqb (manifestVerdict body) 0 (λ z. n (e ∙ z))) refl)
 
   module _ (z : v ≡ 0) {f : ℕ} (g : f ≡ fragmentsLength body) where
-    none : verdict body ≡ 0
+    none : manifestVerdict body ≡ 0
     none = sym e ∙ z
 
     pub judged-outside : start < f → 21 ≡ manifestNumber start body
@@ -45,7 +45,7 @@ module _ (start : ℕ) (body : List ℕ) {v : ℕ} (e : v ≡ verdict body) wher
     pub judged-whole : f ≤ start → 0 ≡ manifestNumber start body
     judged-whole l = sym (by-verdict start body ∙ rw (none, le-ltb start (fragmentsLength body) (omega arith)) refl)
 
-pub told-sound : (body : List ℕ) {v : ℕ} → v ≡ verdict body → v ≡ 0 → verdict body ≡ 0
+pub told-sound : (body : List ℕ) {v : ℕ} → v ≡ manifestVerdict body → v ≡ 0 → manifestVerdict body ≡ 0
 told-sound body e z = sym e ∙ z
 
 pub ruleset numbers = (judged-bad, judged-outside, judged-whole, told-sound, needs)

@@ -15,7 +15,7 @@ use Rattle.shard.specs.declared.manifests.Failed.{Failed}
 use Rattle.shard.specs.index.Index.{startSteps, sizes, startAt, chunkAt, mostShardBytes}
 use Rattle.shard.specs.index.Tests.{fault, firstOf}
 use Rattle.shard.specs.index.Reading.{Readable}
-use Rattle.shard.specs.manifests.Each.{failed, leastOf, numberAt, lesser, placed}
+use Rattle.shard.specs.manifests.Each.{failed, leastOf, failedNumberAt, lesser, placed}
 use Rattle.shard.specs.manifests.Mesh.{manifestTests, manifestNumber, wrongLength, badReal, unorderedNodes, fragmentsOutside}
 use Rattle.shard.proofs.manifests.Least.{entry-more, placed-least, entry-most}
 
@@ -33,11 +33,11 @@ walked-start d p n =
     record { within = omega arith; total = omega (arith, sum-none (startSteps d p n), sum-none (sizes d p n)); so-far = sym (none-yet d p n) }
 
 -- the tests of entry i, by its start and its bytes
-at-entry : (d : List ℕ) (p n i : ℕ) → numberAt (manifestTests d p n) i ≡ manifestNumber (startAt (startSteps d p n) (sizes d p n) i) (chunkAt d p n i)
-unfolding numberAt manifestTests manifestNumber wrongLength badReal unorderedNodes fragmentsOutside
+at-entry : (d : List ℕ) (p n i : ℕ) → failedNumberAt (manifestTests d p n) i ≡ manifestNumber (startAt (startSteps d p n) (sizes d p n) i) (chunkAt d p n i)
+unfolding failedNumberAt manifestTests manifestNumber wrongLength badReal unorderedNodes fragmentsOutside
 at-entry d p n i = refl
 
-tests-more : (d : List ℕ) (p n i : ℕ) → leastOf (suc i) (manifestTests d p n) ≡ lesser (leastOf i (manifestTests d p n)) (numberAt (manifestTests d p n) i) i
+tests-more : (d : List ℕ) (p n i : ℕ) → leastOf (suc i) (manifestTests d p n) ≡ lesser (leastOf i (manifestTests d p n)) (failedNumberAt (manifestTests d p n) i) i
 unfolding manifestTests
 tests-more d p n i = entry-more 0 i (manifestTests d p n) (omega arith, (omega arith, (omega arith, (omega arith, tt))))
 

@@ -6,7 +6,7 @@ use lib.ListN.{take, drop}
 use Rattle.endian.specs.Little.{leAt, rowAt}
 use Rattle.endian.specs.Range.{sumTo}
 -- an id is the sum of the id steps so far, modulo 2^64 (RULES F4)
-unfoldable pub use Rattle.duplicate_ids.specs.twice.Twice.{idAt}
+unfoldable pub use Rattle.duplicate_ids.specs.Twice.{idAt}
 
 -- the longest shard (RULES F1)
 abbrev pub mostShardBytes : ℕ

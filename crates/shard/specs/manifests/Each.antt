@@ -18,9 +18,9 @@ leastOf n [] = failed 0 0
 leastOf n (t ∷ ts) = pick (anyBelow n (t .fails)) (failed (t .number) (first (t .fails) n)) (leastOf n ts)
 
 -- the number of the first test that entry i fails; 0 where it passes all
-unfoldable pub numberAt : List EntryTest → ℕ → ℕ
-numberAt [] i = 0
-numberAt (t ∷ ts) i = pick (t .fails i) (t .number) (numberAt ts i)
+unfoldable pub failedNumberAt : List EntryTest → ℕ → ℕ
+failedNumberAt [] i = 0
+failedNumberAt (t ∷ ts) i = pick (t .fails i) (t .number) (failedNumberAt ts i)
 
 -- what failed so far, or entry i, which fails the number v, where that is the lesser
 unfoldable pub lesser : Failed → ℕ → ℕ → Failed

@@ -4,7 +4,7 @@ use mathlib.Core.Bool.{Bool, not}
 use mathlib.Core.List.{List, [], _∷_}
 use lib.Dec.{ltb}
 use Rattle.refusal.specs.Choice.{pick}
-use Rattle.mesh_manifest.specs.manifest.Verdict.{rightLength, realsFit, nodesRise}
+use Rattle.mesh_manifest.specs.sound.Verdict.{rightLength, realsFit, nodesRise}
 use Rattle.mesh_manifest.specs.nodes.Nodes.{fragmentsLength}
 use Rattle.shard.specs.index.Index.{startSteps, sizes, startAt, chunkAt}
 use Rattle.shard.specs.index.Tests.{EntryTest, entryTest}

@@ -1,13 +1,14 @@
 // For callers that judge the specification once and then place many ids.
+
 ghost use mathlib.Core.Path.{_≡_};
 ghost use mathlib.Core.Bool.{true};
 ghost use Prim.Native.Nat.{_/_, _%_, _^_, _<_};
 ghost use Rattle.sharding.specs.Specification.{allowed, minishardCount, shardCount};
 ghost use Rattle.sharding.specs.placement.Place.{hashedId, shardOf, minishardOf, placeOf};
 use crate::Sharding;
-use crate::inner::MURMUR;
-use crate::inner::minishard_count;
-use crate::inner::shard_count;
+use crate::limits::MURMUR;
+use crate::limits::minishard_count;
+use crate::limits::shard_count;
 use crate::placement::Place;
 
 fn shifted(spec: Sharding, id: u64) -> u64

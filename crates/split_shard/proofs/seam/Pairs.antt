@@ -21,13 +21,13 @@ use Rattle.shard.specs.index.Index.{mostShardBytes}
 use Rattle.shard.specs.File.{indexLength, indexPart, dataPart, badFileLength, fileChecks}
 use Rattle.shard.proofs.Numbers.{pick-zero, unless-some, unless-none, file-picks}
 use Rattle.shard.proofs.Split.{restOf, rest-whole, length-long, length-good}
-use Rattle.split_shard.specs.seam.Pair.{badSeam, pairChecks, pairAnswer, lengthChecks, lengthNumber}
+use Rattle.split_shard.specs.seam.Pair.{badSeam, pairChecks, pairAnswer, pairLengthChecks, lengthNumber}
 
 -- ---- the lengths, as the code tests them
 
 module _ (spec : Sharding) (index d : List ℕ) {n : ℕ} (w : n ≡ indexLength spec) where
   pub number-seam : not (eqb (length index) n) ≡ true → 23 ≡ lengthNumber spec index d
-  unfolding lengthNumber lengthChecks firstNumber badSeam
+  unfolding lengthNumber pairLengthChecks firstNumber badSeam
   number-seam t = rw (← w, t)
 
   module _ (t : not (eqb (length index) n) ≡ false) where
@@ -35,13 +35,13 @@ module _ (spec : Sharding) (index d : List ℕ) {n : ℕ} (w : n ≡ indexLength
     same = eqb-true (length index) n (not-false _ t)
 
     pub number-long : ltb (mostShardBytes - n) (length d) ≡ true → 6 ≡ lengthNumber spec index d
-    unfolding lengthNumber lengthChecks firstNumber badSeam
+    unfolding lengthNumber pairLengthChecks firstNumber badSeam
     number-long u =
         let h = ltb-true (mostShardBytes - n) (length d) u in
         rw (← w, t, length-long spec (length (index ++ d)) (omega (arith, same, length-append index d)))
 
     pub number-none : n ≤ 1048576 → ltb (mostShardBytes - n) (length d) ≡ false → 0 ≡ lengthNumber spec index d
-    unfolding lengthNumber lengthChecks firstNumber badSeam
+    unfolding lengthNumber pairLengthChecks firstNumber badSeam
     number-none l u =
         let h = ltb-false (mostShardBytes - n) (length d) u in
         rw (
@@ -59,7 +59,7 @@ pub record Seamed (spec : Sharding) (index d : List ℕ) : Type 0 where
   pub short : length (index ++ d) ≤ mostShardBytes
 
 pub number-seamed : (spec : Sharding) (index d : List ℕ) → lengthNumber spec index d ≡ 0 → Seamed spec index d
-unfolding lengthNumber lengthChecks firstNumber badSeam badFileLength
+unfolding lengthNumber pairLengthChecks firstNumber badSeam badFileLength
 number-seamed spec index d e =
     let p = pick-zero (not (eqb (length index) (indexLength spec))) 22 _ e in
     let q = pick-zero (badFileLength spec (length (index ++ d))) 5 _ (p .1) in
@@ -121,10 +121,10 @@ once false false c e x y z w v = refl
 -- where the joined file's answer is one by 1, 5 and 6
 module _ {A : Type 0} (r : ℕ → A) (spec : Sharding) (five : Bool) (index d : List ℕ) (inside : A) {joined : A} (j : joined ≡ answered r (fileChecks spec five (index ++ d)) inside) where
   pub pair-picks : pairAnswer r spec five index joined ≡ pick (not (allowed spec)) (r 1) (pick five (r 5) (unless r (lengthNumber spec index d) inside))
-  unfolding pairChecks lengthNumber lengthChecks
+  unfolding pairChecks lengthNumber pairLengthChecks
   pair-picks =
       by-picks r (pairChecks spec five index) joined refl
-      ∙ rw (j, file-picks spec five (index ++ d) r inside, by-picks r (lengthChecks spec index d) inside refl)
+      ∙ rw (j, file-picks spec five (index ++ d) r inside, by-picks r (pairLengthChecks spec index d) inside refl)
       (once (not (allowed spec)) five (badSeam spec index) (badFileLength spec (length (index ++ d))) (r 1) (r 5) (r 23) (r 6) inside)
 
   module _ {b : Bool} (p : b ≡ allowed spec) where

@@ -17,11 +17,11 @@ use Rattle.sharding.specs.declared.Sharding.{Sharding}
 use Rattle.sharding.specs.Specification.{allowed}
 use Rattle.shard.specs.File.{badFileLength}
 use Rattle.shard.proofs.Numbers.{pick-zero, unless-some, unless-none}
-use Rattle.split_shard.specs.declared.heldrange.RangeAnswer.{RangeAnswer}
-use Rattle.split_shard.specs.declared.heldrange.RangeAnswer.the-variants.{InIndex, InData, Refused}
-use Rattle.split_shard.specs.heldrange.Held.{badRange, heldRange, rangeIn, either, rangeStart, rangeBytes, Held}
-use Rattle.split_shard.proofs.heldrange.Held.{in-picks, refused-held, held-in}
-use Rattle.split_shard.specs.seam.Pair.{badSeam, lengthChecks, lengthNumber}
+use Rattle.split_shard.specs.declared.held_range.RangeAnswer.{RangeAnswer}
+use Rattle.split_shard.specs.declared.held_range.RangeAnswer.the-variants.{InIndex, InData, Refused}
+use Rattle.split_shard.specs.held_range.Held.{badRange, heldRange, rangeIn, either, rangeStart, rangeBytes, Held}
+use Rattle.split_shard.proofs.held_range.Held.{in-picks, refused-held, held-in}
+use Rattle.split_shard.specs.seam.Pair.{badSeam, pairLengthChecks, lengthNumber}
 use Rattle.split_shard.specs.seam.Range.{rangeChecks, rangeAnswer}
 use Rattle.split_shard.proofs.seam.Pairs.{seam-fits, joined-front, joined-rest}
 
@@ -30,13 +30,13 @@ use Rattle.split_shard.proofs.seam.Pairs.{seam-fits, joined-front, join
 module _ (spec : Sharding) (index d : List ℕ) (start end : ℕ) where
   range-picks : rangeAnswer spec index d start end
       ≡ pick (not (allowed spec)) (Refused 1) (unless Refused (lengthNumber spec index d) (rangeIn (length index) (length (index ++ d)) start end))
-  unfolding rangeAnswer rangeChecks lengthNumber lengthChecks rangeIn
+  unfolding rangeAnswer rangeChecks lengthNumber pairLengthChecks rangeIn
   range-picks =
       let first = check 1 (not (allowed spec)) ∷ [] in
       let last = check 24 (badRange (length index) (length (index ++ d)) start end) ∷ [] in
-      answered-both Refused first (lengthChecks spec index d ++ last) _ (all-in first refl)
+      answered-both Refused first (pairLengthChecks spec index d ++ last) _ (all-in first refl)
       ∙ by-picks Refused first _ refl
-      ∙ rw (answered-both Refused (lengthChecks spec index d) last (heldRange (length index) start end) (all-in (lengthChecks spec index d) refl))
+      ∙ rw (answered-both Refused (pairLengthChecks spec index d) last (heldRange (length index) start end) (all-in (pairLengthChecks spec index d) refl))
 
   pub range-refuses : Refuses (rangeAnswer spec index d start end) Refused (rangeChecks spec index d start end)
   unfolding rangeAnswer rangeChecks heldRange

@@ -23,9 +23,9 @@ abbrev pub pairAnswer : {A : Type 0} → (ℕ → A) → Sharding → Bool → L
 pairAnswer refused spec five index joined = answered refused (pairChecks spec five index) joined
 
 -- 23, then 6 of the joined length
-unfoldable pub lengthChecks : Sharding → List ℕ → List ℕ → List Check
-lengthChecks spec index d = check 23 (badSeam spec index) ∷ check 6 (badFileLength spec (length (index ++ d))) ∷ []
+unfoldable pub pairLengthChecks : Sharding → List ℕ → List ℕ → List Check
+pairLengthChecks spec index d = check 23 (badSeam spec index) ∷ check 6 (badFileLength spec (length (index ++ d))) ∷ []
 
 -- the number of the first that holds
 unfoldable pub lengthNumber : Sharding → List ℕ → List ℕ → ℕ
-lengthNumber spec index d = firstNumber (lengthChecks spec index d)
+lengthNumber spec index d = firstNumber (pairLengthChecks spec index d)

@@ -8,9 +8,9 @@ use Rattle.refusal.specs.Checks.{Check, check, answered}
 use Rattle.sharding.specs.declared.Sharding.{Sharding}
 use Rattle.sharding.specs.Specification.{allowed}
 use Rattle.shard.specs.File.{badFileLength}
-use Rattle.split_shard.specs.declared.heldrange.RangeAnswer.{RangeAnswer}
-use Rattle.split_shard.specs.declared.heldrange.RangeAnswer.the-variants.{Refused}
-use Rattle.split_shard.specs.heldrange.Held.{badRange, heldRange}
+use Rattle.split_shard.specs.declared.held_range.RangeAnswer.{RangeAnswer}
+use Rattle.split_shard.specs.declared.held_range.RangeAnswer.the-variants.{Refused}
+use Rattle.split_shard.specs.held_range.Held.{badRange, heldRange}
 use Rattle.split_shard.specs.seam.Pair.{badSeam}
 
 -- "a range request tests 1, 23, 6, 24"

@@ -1,10 +1,11 @@
 // The lengths of the two files.
+
 ghost use mathlib.Core.Path.{_≡_};
 ghost use mathlib.Core.Bool.{true};
 ghost use Rattle.sharding.specs.Specification.{allowed};
 ghost use Rattle.split_shard.specs.seam.Pair.{lengthNumber};
-use shard::inner::MOST_SHARD_BYTES;
-use shard::inner::index_length;
+use shard::lengths::MOST_SHARD_BYTES;
+use shard::lengths::index_length;
 use sharding::Sharding;
 
 // 23, or 6 of the joined length, or 0. The two lengths are not added: nothing bounds them yet.

@@ -6,7 +6,7 @@ use lib.Dec.{eqb}
 use lib.IntN.{ℤ, pos, negsuc}
 use lib.Ieee.{Float, binary32, ofInt, toBits}
 use Rattle.refusal.specs.Choice.{pick}
-use Rattle.endian.specs.Little.{le, row}
+use Rattle.endian.specs.Little.{row, row32}
 use Rattle.refusal.specs.declared.Written.{Written}
 use Rattle.refusal.specs.declared.Written.the-variants.{Length}
 use Rattle.morton.specs.declared.grid.Extents.{Extents}
@@ -32,14 +32,14 @@ use Rattle.sharding.specs.declared.placement.PlaceAnswer.the-variants.{At as Pl
 use Rattle.sharding.specs.Specification.{identity, volume}
 use Rattle.sharding.specs.placement.Place.{placeAnswer}
 use Rattle.names.specs.Shards.{shardNameAnswer, shardNameLeft}
-use Rattle.lookup.specs.declared.idsearch.LookupAnswer.{LookupAnswer}
-use Rattle.lookup.specs.declared.idsearch.LookupAnswer.the-variants.{Found, Refused as NotFound}
+use Rattle.lookup.specs.declared.id_search.LookupAnswer.{LookupAnswer}
+use Rattle.lookup.specs.declared.id_search.LookupAnswer.the-variants.{Found, Refused as NotFound}
 use Rattle.lookup.specs.Find.{lookupAnswer}
 use Rattle.shard.specs.Items.{Item}
-use Rattle.settled_form.specs.form.Content.{fileContent, fileForm, fileFormLength}
-use Rattle.settle.specs.declared.settleanswers.SettleAnswer.{SettleAnswer}
-use Rattle.settle.specs.declared.settleanswers.SettleAnswer.the-variants.{Length as SettledLength, Refused as NotSettled}
-use Rattle.settle.specs.settleanswers.Answers.{settleAnswer, settleLeft}
+use Rattle.settled_form.specs.Content.{fileContent, fileForm, fileFormLength}
+use Rattle.settle.specs.declared.answers.SettleAnswer.{SettleAnswer}
+use Rattle.settle.specs.declared.answers.SettleAnswer.the-variants.{Length as SettledLength, Refused as NotSettled}
+use Rattle.settle.specs.answers.Answers.{settleAnswer, settleLeft}
 use Rattle.mesh_manifest.specs.declared.corners.Corner.{Corner}
 use Rattle.mesh_manifest.specs.declared.corners.CornersAnswer.{CornersAnswer}
 use Rattle.mesh_manifest.specs.declared.corners.CornersAnswer.the-variants.{Corners}
@@ -132,18 +132,13 @@ zeros (suc n) = 0 ∷ zeros n
 unfoldable pub real : ℕ → Float
 real n = ofInt binary32 (pos n)
 
--- numbers one after the other, each as an item of a manifest
-unfoldable pub items : List ℕ → List ℕ
-items [] = []
-items (n ∷ ns) = le 4 n ++ items ns
-
 -- shape 8, origin 10, three levels with scale 1 and vertex offset 0, and one node, in level 2, at position 3, on each axis
 unfoldable pub manifest : List ℕ
 manifest =
     let eight = toBits binary32 (real 8) in
     let ten = toBits binary32 (real 10) in
     let one = toBits binary32 (real 1) in
-    items
+    row32
     (eight ∷ eight ∷ eight ∷ ten ∷ ten ∷ ten ∷ 3
     ∷ one ∷ one ∷ one
     ∷ 0 ∷ 0 ∷ 0 ∷ 0 ∷ 0 ∷ 0 ∷ 0 ∷ 0 ∷ 0

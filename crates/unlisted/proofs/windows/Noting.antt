@@ -11,19 +11,19 @@ use lib.Dec.{ltb, leb}
 use lib.ListN.{length, take, drop}
 use Rattle.endian.specs.Little.{leAt}
 use Rattle.bitmap.specs.Positions.{within, after, misses}
-use Rattle.bitmap.specs.noted.Window.{span, noted, Notes, Clear}
+use Rattle.bitmap.specs.window.Window.{span, noted, Notes, Clear}
 use Rattle.bitmap.proofs.Within.{same-test, within-yes, within-before, within-past, within-from, within-to, within-empty}
 use Rattle.bitmap.proofs.Counts.{misses-le, misses-same, misses-after}
-use Rattle.bitmap.proofs.noted.Windows.{notes-none, notes-as, notes-then}
+use Rattle.bitmap.proofs.window.Windows.{notes-none, notes-as, notes-then}
 use Rattle.sharding.specs.declared.Sharding.{Sharding}
 use Rattle.sharding.specs.Specification.{minishardCount}
 use Rattle.shard.specs.index.Index.{entryStart, entryEnd, mostShardBytes}
 use Rattle.shard.specs.Items.{leadLength, MayLead}
 use Rattle.unlisted.specs.ranges.Covered.{inItems, inMinishard, coveredIn, coveredAt}
-use Rattle.unlisted.specs.stretch.Reading.{Ranged}
+use Rattle.unlisted.specs.runs.Reading.{Ranged}
 use Rattle.unlisted.specs.windows.Windows.{Limit, Meets}
-use Rattle.unlisted.proofs.stretch.Covering.{items-none, none-read, some-read, covered-none, covered-next, each-ranged}
-use Rattle.unlisted.proofs.stretch.Walk.{Walk, walk-all, walk-inside, walk-led, walk-fits, walk-next, walk-test}
+use Rattle.unlisted.proofs.runs.Covering.{items-none, none-read, some-read, covered-none, covered-next, each-ranged}
+use Rattle.unlisted.proofs.runs.Walk.{Walk, walk-all, walk-inside, walk-led, walk-fits, walk-next, walk-test}
 
 after-then : (lo : ℕ) (f g h : ℕ → Bool) → ((p : ℕ) → f p || g p ≡ h p) → (i : ℕ) → after lo f i || after lo g i ≡ after lo h i
 unfolding after

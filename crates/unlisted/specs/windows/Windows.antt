@@ -4,7 +4,7 @@ use mathlib.Core.Path.{_≡_}
 use mathlib.Core.Bool.{Bool, false}
 use mathlib.Core.Logic.{_⊎_}
 use mathlib.Core.List.{List}
-use Rattle.bitmap.specs.noted.Window.{span}
+use Rattle.bitmap.specs.window.Window.{span}
 use Rattle.sharding.specs.declared.Sharding.{Sharding}
 use Rattle.shard.specs.index.Index.{mostShardBytes}
 use Rattle.shard.specs.Items.{leadLength}

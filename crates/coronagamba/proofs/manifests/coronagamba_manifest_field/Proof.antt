@@ -1,5 +1,5 @@
 use borrow.Author.Needs.{needs}
-use Rattle.mesh_manifest.proofs.manifestread.Fields.{field-number}
+use Rattle.mesh_manifest.proofs.Fields.{field-number}
 use Rattle.coronagamba.specs.Manifests.{fieldWord, kindAfter, valueAfter}
 use Rattle.coronagamba.proofs.Told.{told, after}
 use Rattle.coronagamba.proofs.manifests.coronagamba_manifest_field.Statement.{statement}

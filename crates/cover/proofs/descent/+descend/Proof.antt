@@ -1,4 +1,4 @@
--- `descent::descend` meets its contract. The measure is how many key bits are left.
+-- `cover::descent::descend` meets its contract. The measure is how many key bits are left.
 use Prim.Native.Nat.{ℕ, _<_}
 use borrow.Fn.Kinds.{In}
 use borrow.Fn.PlainCycle.{Measures, is, falls, and}

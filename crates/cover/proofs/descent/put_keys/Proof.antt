@@ -1,4 +1,4 @@
--- `descent::put_keys` meets its contract. What is left to write, over what stands there now, gives what is to stand there.
+-- `cover::descent::put_keys` meets its contract. What is left to write, over what stands there now, gives what is to stand there.
 use Prim.Native.Nat.{_+_, _-_, _≤_}
 use mathlib.Core.Path.{_≡_}
 use lib.ListN.{length}

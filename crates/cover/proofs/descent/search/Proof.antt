@@ -1,4 +1,4 @@
--- `descent::search` meets its contract.
+-- `cover::descent::search` meets its contract.
 use Rattle.cover.proofs.descent.Ways.{searching}
 use Rattle.cover.proofs.descent.search.Statement.{statement}
 use Rattle.cover.proofs.descent.search.Tie as tie

@@ -1,4 +1,4 @@
--- `halves::first_above` meets its contract.
+-- `cover::halves::first_above` meets its contract.
 use Rattle.cover.proofs.halves.Ways.{corner}
 use Rattle.cover.proofs.halves.first_above.Statement.{statement}
 use Rattle.cover.proofs.halves.first_above.Tie as tie

@@ -1,4 +1,4 @@
--- `halves::full` meets its contract.
+-- `cover::halves::full` meets its contract.
 use Rattle.cover.proofs.halves.Ways.{corner}
 use Rattle.cover.proofs.halves.full.Statement.{statement}
 use Rattle.cover.proofs.halves.full.Tie as tie

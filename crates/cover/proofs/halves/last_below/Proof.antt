@@ -1,4 +1,4 @@
--- `halves::last_below` meets its contract.
+-- `cover::halves::last_below` meets its contract.
 use Rattle.cover.proofs.halves.Ways.{corner}
 use Rattle.cover.proofs.halves.last_below.Statement.{statement}
 use Rattle.cover.proofs.halves.last_below.Tie as tie

@@ -1,4 +1,4 @@
--- `halves::owner` meets its contract.
+-- `cover::halves::owner` meets its contract.
 use Rattle.cover.proofs.halves.Ways.{bits}
 use Rattle.cover.proofs.halves.owner.Statement.{statement}
 use Rattle.cover.proofs.halves.owner.Tie as tie

@@ -1,4 +1,4 @@
--- `halves::power` meets its contract.
+-- `cover::halves::power` meets its contract.
 use Rattle.cover.proofs.halves.Ways.{powers}
 use Rattle.cover.proofs.halves.power.Statement.{statement}
 use Rattle.cover.proofs.halves.power.Tie as tie

@@ -1,4 +1,4 @@
--- `halves::split_bit` meets its contract.
+-- `cover::halves::split_bit` meets its contract.
 use Rattle.cover.proofs.halves.Ways.{bits}
 use Rattle.cover.proofs.halves.split_bit.Statement.{statement}
 use Rattle.cover.proofs.halves.split_bit.Tie as tie

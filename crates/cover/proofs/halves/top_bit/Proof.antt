@@ -1,4 +1,4 @@
--- `halves::top_bit` meets its contract.
+-- `cover::halves::top_bit` meets its contract.
 use Rattle.cover.proofs.halves.Ways.{bits}
 use Rattle.cover.proofs.halves.top_bit.Statement.{statement}
 use Rattle.cover.proofs.halves.top_bit.Tie as tie

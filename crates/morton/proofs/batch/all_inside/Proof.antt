@@ -1,4 +1,4 @@
--- `batch::all_inside` meets its contract. The cells before i are inside.
+-- `morton::batch::all_inside` meets its contract. The cells before i are inside.
 use Prim.Native.Nat.{_-_, _/_}
 use mathlib.Core.Path.{_≡_}
 use native.Mathlib.Omega.{arith}

@@ -1,4 +1,4 @@
--- `batch::fill_keys` meets its contract. The keys of the cells from i on are left to write.
+-- `morton::batch::fill_keys` meets its contract. The keys of the cells from i on are left to write.
 use Prim.Native.Nat.{_-_, _/_, _≤_}
 use mathlib.Core.Path.{_≡_}
 use mathlib.Core.List.{map}

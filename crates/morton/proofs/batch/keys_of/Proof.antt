@@ -1,4 +1,4 @@
--- `batch::keys_of` meets its contract: each way out is a check's number, or none.
+-- `morton::batch::keys_of` meets its contract: each way out is a check's number, or none.
 use native.Mathlib.Omega.{arith}
 use borrow.Author.Needs.{needs}
 use Rattle.morton.proofs.grid.Ways.{tested}

@@ -1,4 +1,4 @@
--- `scan::fill` meets its contract. The keys of the cells from i on are left to write.
+-- `morton::scan::fill` meets its contract. The keys of the cells from i on are left to write.
 use Prim.Native.Nat.{_-_, _/_, _≤_}
 use mathlib.Core.Path.{_≡_}
 use mathlib.Core.List.{map}

@@ -1,4 +1,4 @@
--- `scan::fill_keys` meets its contract.
+-- `morton::scan::fill_keys` meets its contract.
 use borrow.Author.Needs.{needs}
 use Rattle.morton.proofs.scan.Filled.{planned-keys}
 use Rattle.morton.proofs.scan.fill_keys.Statement.{statement}

@@ -1,4 +1,4 @@
--- `scan::keys_of` meets its contract, which is that of `batch::keys_of`: each way out is a check's number, or none.
+-- `morton::scan::keys_of` meets its contract, which is that of `morton::scan::keys_of`: each way out is a check's number, or none.
 use native.Mathlib.Omega.{arith}
 use borrow.Author.Needs.{needs}
 use Rattle.morton.proofs.grid.Ways.{tested}

@@ -1,8 +1,8 @@
 use borrow.Author.Needs.{needs}
 use native.Mathlib.Omega.{arith}
-use Rattle.compressed_segmentation.proofs.segmentation.Shapes.{block-x}
-use Rattle.compressed_segmentation.proofs.packed.Mild.{block-flat}
-use Rattle.compressed_segmentation.proofs.packed.Inside.{inside-x-at, inside-y-at, inside-z-at}
+use Rattle.compressed_segmentation.proofs.Shapes.{block-x}
+use Rattle.compressed_segmentation.proofs.block.Mild.{block-flat}
+use Rattle.compressed_segmentation.proofs.block.Inside.{inside-x-at, inside-y-at, inside-z-at}
 use Rattle.compressed_segmentation.proofs.readable.Read.{width-read, block-read}
 use Rattle.compressed_segmentation.proofs.readable.blocks.block_refusal.Statement.{statement}
 use Rattle.compressed_segmentation.proofs.readable.blocks.block_refusal.Tie as tie

@@ -2,10 +2,10 @@ use Prim.Native.Nat.{_-_}
 use mathlib.Core.Path.{_≡_, refl}
 use native.Mathlib.Omega.{arith}
 use lib.ListN.{length}
-use Rattle.compressed_segmentation.proofs.segmentation.Shapes.{channels-some}
-use Rattle.bitmap.proofs.seen.Noted.{sees-same}
+use Rattle.compressed_segmentation.proofs.Shapes.{channels-some}
+use Rattle.bitmap.proofs.visited.Noted.{sees-same}
 use Rattle.compressed_segmentation.proofs.readable.Offsets.{offset-whole, headers-none-at, count-whole}
-use Rattle.compressed_segmentation.proofs.packed.Mild.{Passed, passed-start, passed-count, passed-known, passed-end, passed-hit, passed-on}
+use Rattle.compressed_segmentation.proofs.block.Mild.{Passed, passed-start, passed-count, passed-known, passed-end, passed-hit, passed-on}
 use borrow.Author.Needs.{needs}
 use Rattle.compressed_segmentation.proofs.readable.blocks.blocks_refusal.Statement.{statement}
 use Rattle.compressed_segmentation.proofs.readable.blocks.blocks_refusal.Tie as tie

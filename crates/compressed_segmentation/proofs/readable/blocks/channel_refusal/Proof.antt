@@ -1,9 +1,9 @@
 use Prim.Native.Nat.{_-_, _≤_}
 use mathlib.Core.Path.{_≡_}
 use native.Mathlib.Omega.{arith}
-use Rattle.compressed_segmentation.specs.packed.Checks.{greatest, blockRefusal}
-use Rattle.compressed_segmentation.proofs.packed.Greatest.{greatest-none, greatest-still, greatest-all}
-use Rattle.compressed_segmentation.proofs.packed.Mild.{blocks-hit}
+use Rattle.compressed_segmentation.specs.block.Checks.{greatest, blockRefusal}
+use Rattle.compressed_segmentation.proofs.block.Greatest.{greatest-none, greatest-still, greatest-all}
+use Rattle.compressed_segmentation.proofs.block.Mild.{blocks-hit}
 use Rattle.compressed_segmentation.proofs.readable.Offsets.{each-whole, each-width}
 use borrow.Author.Needs.{needs}
 use Rattle.compressed_segmentation.proofs.readable.blocks.channel_refusal.Statement.{statement}

@@ -1,6 +1,6 @@
 use borrow.Author.Needs.{needs}
-use Rattle.compressed_segmentation.proofs.segmentation.Shapes.{block-x, block-y, some-blocks}
-use Rattle.compressed_segmentation.proofs.packed.Inside.{some-rows, rest-of-fits, layer-fits}
+use Rattle.compressed_segmentation.proofs.Shapes.{block-x, block-y, some-blocks}
+use Rattle.compressed_segmentation.proofs.block.Inside.{some-rows, rest-of-fits, layer-fits}
 use Rattle.compressed_segmentation.proofs.readable.Read.{inside-read}
 use Rattle.compressed_segmentation.proofs.readable.blocks.inside_of.Statement.{statement}
 use Rattle.compressed_segmentation.proofs.readable.blocks.inside_of.Tie as tie

@@ -1,6 +1,6 @@
 use native.Mathlib.Omega.{arith}
 use borrow.Author.Needs.{needs}
-use Rattle.compressed_segmentation.proofs.packed.Mild.{block-none}
+use Rattle.compressed_segmentation.proofs.block.Mild.{block-none}
 use Rattle.compressed_segmentation.proofs.readable.blocks.next_refusal.Statement.{statement}
 use Rattle.compressed_segmentation.proofs.readable.blocks.next_refusal.Tie as tie
 

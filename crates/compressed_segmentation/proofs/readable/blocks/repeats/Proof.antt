@@ -2,7 +2,7 @@ use mathlib.Core.Path.{sym}
 use mathlib.Core.Bool.{true≢false}
 use borrow.Author.Needs.{needs}
 use borrow.Author.Tests.{not-false}
-use Rattle.compressed_segmentation.proofs.packed.Mild.{block-like}
+use Rattle.compressed_segmentation.proofs.block.Mild.{block-like}
 use Rattle.compressed_segmentation.proofs.readable.blocks.repeats.Statement.{statement}
 use Rattle.compressed_segmentation.proofs.readable.blocks.repeats.Tie as tie
 

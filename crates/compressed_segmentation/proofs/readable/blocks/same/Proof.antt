@@ -1,4 +1,4 @@
-use Rattle.compressed_segmentation.proofs.packed.Mild.{same-extents}
+use Rattle.compressed_segmentation.proofs.block.Mild.{same-extents}
 use Rattle.compressed_segmentation.proofs.readable.blocks.same.Statement.{statement}
 use Rattle.compressed_segmentation.proofs.readable.blocks.same.Tie as tie
 

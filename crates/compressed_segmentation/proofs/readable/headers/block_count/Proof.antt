@@ -1,5 +1,5 @@
 use borrow.Author.Needs.{needs}
-use Rattle.compressed_segmentation.proofs.segmentation.Shapes.{block-x, block-y, block-z, some-blocks}
+use Rattle.compressed_segmentation.proofs.Shapes.{block-x, block-y, block-z, some-blocks}
 use Rattle.compressed_segmentation.proofs.readable.Offsets.{count-past, count-fits, count-all}
 use Rattle.compressed_segmentation.proofs.readable.headers.block_count.Statement.{statement}
 use Rattle.compressed_segmentation.proofs.readable.headers.block_count.Tie as tie

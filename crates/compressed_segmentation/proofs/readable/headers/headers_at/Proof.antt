@@ -1,8 +1,8 @@
 use Prim.Native.Nat.{_-_, _≤_}
 use mathlib.Core.Path.{_≡_}
 use native.Mathlib.Omega.{arith}
-use Rattle.compressed_segmentation.specs.packed.Checks.{greatest, headerRefusal}
-use Rattle.compressed_segmentation.proofs.packed.Greatest.{greatest-none, greatest-still, greatest-all}
+use Rattle.compressed_segmentation.specs.block.Checks.{greatest, headerRefusal}
+use Rattle.compressed_segmentation.proofs.block.Greatest.{greatest-none, greatest-still, greatest-all}
 use Rattle.compressed_segmentation.proofs.readable.Offsets.{headers-hit}
 use Rattle.compressed_segmentation.proofs.readable.headers.headers_at.Statement.{statement}
 use Rattle.compressed_segmentation.proofs.readable.headers.headers_at.Tie as tie

@@ -2,7 +2,7 @@ use Prim.Native.Nat.{_-_}
 use mathlib.Core.Path.{_≡_, refl}
 use native.Mathlib.Omega.{arith}
 use lib.ListN.{length}
-use Rattle.bitmap.proofs.seen.Noted.{sees-same}
+use Rattle.bitmap.proofs.visited.Noted.{sees-same}
 use Rattle.compressed_segmentation.proofs.readable.Offsets.{Walked, walked-start, walked-known, walked-29, walked-on, walked-end}
 use borrow.Author.Needs.{needs}
 use Rattle.compressed_segmentation.proofs.readable.headers.headers_of.Statement.{statement}

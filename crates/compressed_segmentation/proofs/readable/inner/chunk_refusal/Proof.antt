@@ -1,5 +1,5 @@
 use borrow.Author.Needs.{needs}
-use Rattle.bitmap.proofs.seen.Noted.{blank-zeros}
+use Rattle.bitmap.proofs.visited.Noted.{blank-zeros}
 use Rattle.compressed_segmentation.proofs.readable.inner.chunk_refusal.Statement.{statement}
 use Rattle.compressed_segmentation.proofs.readable.inner.chunk_refusal.Tie as tie
 

@@ -1,5 +1,5 @@
 use borrow.Author.Needs.{needs}
-use Rattle.compressed_segmentation.proofs.packed.Inside.{span-none, span-cut, span-full}
+use Rattle.compressed_segmentation.proofs.block.Inside.{span-none, span-cut, span-full}
 use Rattle.compressed_segmentation.proofs.readable.inner.span_of.Statement.{statement}
 use Rattle.compressed_segmentation.proofs.readable.inner.span_of.Tie as tie
 

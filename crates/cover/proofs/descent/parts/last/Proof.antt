@@ -1,4 +1,4 @@
--- `descent::parts::last` meets its contract.
+-- `cover::descent::parts::last` meets its contract.
 use Rattle.cover.proofs.descent.Ways.{ways}
 use Rattle.cover.proofs.descent.parts.last.Statement.{statement}
 use Rattle.cover.proofs.descent.parts.last.Tie as tie

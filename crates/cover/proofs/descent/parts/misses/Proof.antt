@@ -1,4 +1,4 @@
--- `descent::parts::misses` meets its contract.
+-- `cover::descent::parts::misses` meets its contract.
 use Rattle.cover.proofs.descent.Ways.{ways}
 use Rattle.cover.proofs.descent.parts.misses.Statement.{statement}
 use Rattle.cover.proofs.descent.parts.misses.Tie as tie

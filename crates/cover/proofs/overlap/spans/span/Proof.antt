@@ -1,4 +1,4 @@
--- `overlap::spans::span` meets its contract.
+-- `cover::overlap::spans::span` meets its contract.
 use borrow.Author.Needs.{needs}
 use Rattle.cover.proofs.overlap.Ways.{none-spanned, some-spanned}
 use Rattle.cover.proofs.overlap.spans.span.Statement.{statement}

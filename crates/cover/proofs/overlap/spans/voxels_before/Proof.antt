@@ -1,4 +1,4 @@
--- `overlap::spans::voxels_before` meets its contract.
+-- `cover::overlap::spans::voxels_before` meets its contract.
 use borrow.Author.Needs.{needs}
 use Rattle.morton.proofs.bounds.Signed.{widened}
 use Rattle.cover.proofs.overlap.Voxels.{end-fits, none-before, all-before, apart-fits, apart-pos, apart-fit, apart-is}

@@ -1,4 +1,4 @@
--- `overlap::spans::whole` meets its contract.
+-- `cover::overlap::spans::whole` meets its contract.
 use Rattle.cover.proofs.overlap.Ways.{spanning}
 use Rattle.cover.proofs.overlap.spans.whole.Statement.{statement}
 use Rattle.cover.proofs.overlap.spans.whole.Tie as tie

@@ -1,4 +1,4 @@
--- `grid::inner::grid` meets its contract.
+-- `morton::grid::inner::grid` meets its contract.
 use Rattle.morton.proofs.grid.Ways.{chunk-x, chunk-y, chunk-z, grid-made}
 use Rattle.morton.proofs.grid.inner.grid.Statement.{statement}
 use Rattle.morton.proofs.grid.inner.grid.Tie as tie

@@ -1,4 +1,4 @@
--- `grid::inner::grid_size` meets its contract.
+-- `morton::grid::inner::grid_size` meets its contract.
 use native.Mathlib.Omega.{arith}
 use borrow.Author.Needs.{needs}
 use Rattle.morton.proofs.grid.Covers.{grid-size-whole, grid-size-cut, cut-fits}

@@ -1,4 +1,4 @@
--- `grid::inner::has_zero` meets its contract.
+-- `morton::grid::inner::has_zero` meets its contract.
 use Rattle.morton.proofs.grid.Ways.{zero-x, zero-y, zero-z}
 use Rattle.morton.proofs.grid.inner.has_zero.Statement.{statement}
 use Rattle.morton.proofs.grid.inner.has_zero.Tie as tie

@@ -1,4 +1,4 @@
--- `grid::inner::inside` meets its contract.
+-- `morton::grid::inner::inside` meets its contract.
 use Rattle.morton.proofs.grid.Ways.{out-x, out-y, in-z}
 use Rattle.morton.proofs.grid.inner.inside.Statement.{statement}
 use Rattle.morton.proofs.grid.inner.inside.Tie as tie

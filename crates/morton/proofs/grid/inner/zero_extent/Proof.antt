@@ -1,4 +1,4 @@
--- `grid::inner::zero_extent` meets its contract.
+-- `morton::grid::inner::zero_extent` meets its contract.
 use borrow.Author.Needs.{needs}
 use mathlib.Core.Path.{_∙_}
 use Rattle.morton.proofs.grid.Ways.{zero-size, zero-chunk}

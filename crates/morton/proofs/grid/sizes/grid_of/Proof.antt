@@ -1,4 +1,4 @@
--- `grid::sizes::grid_of` meets its contract.
+-- `morton::grid::sizes::grid_of` meets its contract.
 use borrow.Author.Needs.{needs}
 use Rattle.morton.proofs.grid.Ways.{tested, grid-2, grid-yes}
 use Rattle.morton.proofs.grid.sizes.grid_of.Statement.{statement}

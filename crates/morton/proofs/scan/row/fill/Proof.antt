@@ -1,4 +1,4 @@
--- `scan::row::fill` meets its contract. The keys of the cells from x on are left to write.
+-- `morton::scan::row::fill` meets its contract. The keys of the cells from x on are left to write.
 use Prim.Native.Nat.{_+_, _-_, _*_, _^_, _≤_, _<_}
 use mathlib.Core.Path.{_≡_}
 use mathlib.Core.List.{map}
@@ -8,10 +8,10 @@ use lib.ListN.{length}
 use Rattle.endian.specs.Place.{paste}
 use Rattle.morton.specs.Key.{keyOf}
 use Rattle.morton.specs.spread.Spread.{spread}
-use Rattle.morton.specs.keyplan.Parts.{restKey}
-use Rattle.morton.specs.cellrows.Row.{cellsFrom}
-use Rattle.morton.proofs.keyplan.Sums.{key-sum, key-sum-fits}
-use Rattle.morton.proofs.cellrows.Rows.{low-row, row-start, row-next, row-end}
+use Rattle.morton.specs.plan.Parts.{restKey}
+use Rattle.morton.specs.rows.Row.{cellsFrom}
+use Rattle.morton.proofs.plan.Sums.{key-sum, key-sum-fits}
+use Rattle.morton.proofs.rows.Rows.{low-row, row-start, row-next, row-end}
 use Rattle.morton.proofs.scan.row.fill.Statement.{statement}
 use Rattle.morton.proofs.scan.row.fill.Tie as tie
 

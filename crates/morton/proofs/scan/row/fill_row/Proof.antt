@@ -1,4 +1,4 @@
--- `scan::row::fill_row` meets its contract.
+-- `morton::scan::row::fill_row` meets its contract.
 use borrow.Author.Needs.{needs}
 use Rattle.morton.proofs.scan.Filled.{planned-keys}
 use Rattle.morton.proofs.scan.row.fill_row.Statement.{statement}

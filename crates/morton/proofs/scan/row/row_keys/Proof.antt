@@ -1,10 +1,10 @@
--- `scan::row::row_keys` meets its contract: each way out is a check's number, or none.
+-- `morton::scan::row::row_keys` meets its contract: each way out is a check's number, or none.
 use native.Mathlib.Omega.{arith}
 use borrow.Author.Needs.{needs}
 use Rattle.morton.proofs.grid.Ways.{tested}
 use Rattle.morton.proofs.Ways.{few}
 use Rattle.morton.proofs.batch.Threes.{keys-refused, keys-kept, keys-over}
-use Rattle.morton.proofs.cellrows.Rows.{row-2-extent, row-2-cell, row-3, row-13, row-0, too-short, long-enough, room, row-written}
+use Rattle.morton.proofs.rows.Rows.{row-2-extent, row-2-cell, row-3, row-13, row-0, too-short, long-enough, room, row-written}
 use Rattle.morton.proofs.scan.row.row_keys.Statement.{statement}
 use Rattle.morton.proofs.scan.row.row_keys.Tie as tie
 

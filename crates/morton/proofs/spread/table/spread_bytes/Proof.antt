@@ -1,6 +1,6 @@
--- `spread::table::spread_bytes` meets its contract: all entries are computed here.
+-- `morton::spread::table::spread_bytes` meets its contract: all entries are computed here.
 use mathlib.Core.Path.{refl}
-use Rattle.morton.specs.axisbits.Axis.{bitOf}
+use Rattle.morton.specs.axis.Axis.{bitOf}
 use Rattle.morton.specs.spread.Spread.{spread}
 use Rattle.morton.proofs.spread.Entries.{spreads}
 use Rattle.morton.proofs.spread.table.spread_bytes.Statement.{statement}

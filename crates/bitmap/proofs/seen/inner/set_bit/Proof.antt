@@ -1,7 +1,0 @@
-use borrow.Author.Needs.{needs}
-use Rattle.bitmap.proofs.seen.Noted.{one-marked}
-use Rattle.bitmap.proofs.seen.inner.set_bit.Statement.{statement}
-use Rattle.bitmap.proofs.seen.inner.set_bit.Tie as tie
-
-pub set-bit-spec : {M : Type 1} → statement M
-set-bit-spec = tie.close (tie.spec (λ c. search needs) (λ c. search needs) (λ c. search needs) (λ c. search needs) (λ c. search needs) (λ c. search needs) (λ c. search one-marked))

@@ -1,2 +1,0 @@
-// A window of positions, in which a range is noted in constant time.
-pub mod inner;

@@ -1,2 +1,0 @@
-// Places that were looked at, in a map.
-pub mod inner;

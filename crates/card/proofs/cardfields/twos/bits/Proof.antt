@@ -1,7 +1,0 @@
--- `cardfields::twos::bits` meets its contract.
-use Rattle.card.proofs.cardfields.Words.{words}
-use Rattle.card.proofs.cardfields.twos.bits.Statement.{statement}
-use Rattle.card.proofs.cardfields.twos.bits.Tie as tie
-
-pub bits-spec : {M : Type 1} → statement M
-bits-spec = tie.close (tie.spec (λ c. search words) (λ c. search words) (λ c. search words) (λ c. search words) (λ c. search words) (λ c. search words))

@@ -1,2 +1,0 @@
-// Writing the fields that each deposit card has.
-pub mod inner;

@@ -1,9 +1,0 @@
-use borrow.Author.Needs.{needs}
-use Rattle.compressed_segmentation.proofs.rawform.Lengths.{labels-fit, bytes-fit, bytes-held}
-use Rattle.compressed_segmentation.proofs.rawform.inner.all_bytes.Statement.{statement}
-use Rattle.compressed_segmentation.proofs.rawform.inner.all_bytes.Tie as tie
-
-pub all-bytes-spec : {M : Type 1} → statement M
-all-bytes-spec =
-    tie.close
-    (tie.spec (λ c κs. search needs) (λ c κs. search needs) (λ c κs. search needs) (λ c. search labels-fit) (λ c. search bytes-fit) (λ c. search bytes-held))

@@ -1,7 +1,0 @@
-use borrow.Author.Needs.{needs}
-use Rattle.compressed_segmentation.proofs.segmentation.Shapes.{none-is}
-use Rattle.compressed_segmentation.proofs.segmentation.inner.has_none.Statement.{statement}
-use Rattle.compressed_segmentation.proofs.segmentation.inner.has_none.Tie as tie
-
-pub has-none-spec : {M : Type 1} → statement M
-has-none-spec = tie.close (tie.spec (λ c κs. search needs) (λ c κs. search needs) (λ c. search none-is))

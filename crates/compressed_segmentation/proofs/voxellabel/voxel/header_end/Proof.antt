@@ -1,8 +1,0 @@
-use borrow.Author.Needs.{needs}
-use Rattle.compressed_segmentation.proofs.values.Numbers.{twice}
-use Rattle.compressed_segmentation.proofs.voxellabel.voxel.header_end.Statement.{statement}
-use Rattle.compressed_segmentation.proofs.voxellabel.voxel.header_end.Tie as tie
-
-pub header-end-spec : {M : Type 1} → statement M
-header-end-spec =
-    tie.close (tie.spec (λ c. search needs) (λ c. search needs) (λ c. search needs) (λ c κs. search needs) (λ c κs. search needs) (λ c. search twice))

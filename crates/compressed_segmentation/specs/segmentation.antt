@@ -1,4 +1,0 @@
-pub mod Words
-pub mod Layout
-pub mod Labels
-pub mod Steps

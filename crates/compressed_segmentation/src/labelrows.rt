@@ -1,2 +1,0 @@
-// Rows of labels in the raw form.
-pub mod inner;

@@ -1,2 +1,0 @@
-// Runs of labels in the raw form.
-pub mod inner;

@@ -1,2 +1,0 @@
-// Whether each voxel of a packed block has a label.
-pub mod inner;

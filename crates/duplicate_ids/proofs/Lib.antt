@@ -1,0 +1,2 @@
+pub mod RowIds
+mod Soon

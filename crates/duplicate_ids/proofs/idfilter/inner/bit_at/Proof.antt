@@ -1,8 +1,0 @@
--- One bit, which a shift does not push out.
-use borrow.Author.Needs.{needs}
-use Rattle.duplicate_ids.proofs.idfilter.Filters.{bit-is}
-use Rattle.duplicate_ids.proofs.idfilter.inner.bit_at.Statement.{statement}
-use Rattle.duplicate_ids.proofs.idfilter.inner.bit_at.Tie as tie
-
-pub bit-at-spec : {M : Type 1} → statement M
-bit-at-spec = tie.close (tie.spec (λ c. search needs) (λ c. bit-is _))

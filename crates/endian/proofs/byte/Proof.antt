@@ -1,0 +1,15 @@
+use borrow.Author.Needs.{needs}
+use Rattle.endian.specs.Little.{leAt}
+use native.Mathlib.Omega.{arith}
+use Rattle.endian.proofs.byte.Statement.{statement}
+use Rattle.endian.proofs.byte.Tie as tie
+
+cast-result : tie.Need-cast-result
+cast-result c = omega (arith, c .shared-slice-known .given (c .before .args .at))
+
+returns : tie.Need-returns
+unfolding leAt
+returns c = omega (arith, c .shared-slice-known .given (c .before .args .at))
+
+pub byte-spec : {M : Type 1} → statement M
+byte-spec = tie.close (tie.spec (λ c. search needs) cast-result returns)

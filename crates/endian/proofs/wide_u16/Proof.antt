@@ -1,0 +1,11 @@
+use borrow.Author.Needs.{needs}
+use Rattle.endian.proofs.Little.{leAt-join}
+use Rattle.endian.proofs.wide_u16.Statement.{statement}
+use Rattle.endian.proofs.wide_u16.Tie as tie
+
+returns : tie.Need-returns
+returns c = (search (leAt-join 1 1, needs), search needs)
+
+pub wide-u16-spec : {M : Type 1} → statement M
+wide-u16-spec =
+    tie.close (tie.spec (λ c κs. search needs) (λ c. search needs) (λ c κs. search needs) (λ c. search needs) (λ c. search needs) returns)

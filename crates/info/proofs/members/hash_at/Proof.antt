@@ -1,6 +1,0 @@
-use Rattle.info.proofs.members.Ways.{shardings}
-use Rattle.info.proofs.members.hash_at.Statement.{statement}
-use Rattle.info.proofs.members.hash_at.Tie as tie
-
-pub hash-at-spec : {M : Type 1} → statement M
-hash-at-spec = tie.close (tie.spec (λ c κs. search shardings) (λ c. search shardings) (λ c. search shardings) (λ c κs. search shardings) (λ c. search shardings) (λ c. search shardings) (λ c κs. search shardings) (λ c. search shardings) (λ c. search shardings))

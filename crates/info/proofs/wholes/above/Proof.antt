@@ -1,6 +1,0 @@
-use Rattle.info.proofs.wholes.Numbering.{numbering}
-use Rattle.info.proofs.wholes.above.Statement.{statement}
-use Rattle.info.proofs.wholes.above.Tie as tie
-
-pub above-spec : {M : Type 1} → statement M
-above-spec = tie.close (tie.spec (λ c κs. search numbering) (λ c. search numbering) (λ c. search numbering) (λ c. search numbering) (λ c. search numbering) (λ c. search numbering))

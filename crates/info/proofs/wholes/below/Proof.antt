@@ -1,6 +1,0 @@
-use Rattle.info.proofs.wholes.Numbering.{numbering}
-use Rattle.info.proofs.wholes.below.Statement.{statement}
-use Rattle.info.proofs.wholes.below.Tie as tie
-
-pub below-spec : {M : Type 1} → statement M
-below-spec = tie.close (tie.spec (λ c κs. search numbering) (λ c. search numbering) (λ c. search numbering) (λ c. search numbering) (λ c. search numbering) (λ c. search numbering) (λ c. search numbering) (λ c. search numbering) (λ c. search numbering))

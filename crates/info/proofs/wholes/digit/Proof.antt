@@ -1,6 +1,0 @@
-use Rattle.info.proofs.wholes.Numbering.{numbering}
-use Rattle.info.proofs.wholes.digit.Statement.{statement}
-use Rattle.info.proofs.wholes.digit.Tie as tie
-
-pub digit-spec : {M : Type 1} → statement M
-digit-spec = tie.close (tie.spec (λ c. search numbering) (λ c. search numbering) (λ c. search numbering))

@@ -1,7 +1,0 @@
-use mathlib.Core.Path.{refl}
-use Rattle.info.specs.wholes.Numbers.{goesOn}
-use Rattle.info.proofs.wholes.goes_on.Statement.{statement}
-use Rattle.info.proofs.wholes.goes_on.Tie as tie
-
-pub goes-on-spec : {M : Type 1} → statement M
-goes-on-spec = tie.close (tie.spec (λ c. unfold goesOn in refl))

@@ -1,9 +1,0 @@
-use Rattle.intake.proofs.intakesanity.States.{testing}
-use Rattle.intake.proofs.intakesanity.inner.has_begun.Statement.{statement}
-use Rattle.intake.proofs.intakesanity.inner.has_begun.Tie as tie
-
-pub has-begun-spec : {M : Type 1} → statement M
-has-begun-spec =
-    tie.close
-    (tie.spec
-    (λ c. search testing))

@@ -1,9 +1,0 @@
-use Rattle.intake.proofs.intakesanity.States.{testing}
-use Rattle.intake.proofs.intakesanity.inner.is_fresh.Statement.{statement}
-use Rattle.intake.proofs.intakesanity.inner.is_fresh.Tie as tie
-
-pub is-fresh-spec : {M : Type 1} → statement M
-is-fresh-spec =
-    tie.close
-    (tie.spec
-    (λ c. search testing))

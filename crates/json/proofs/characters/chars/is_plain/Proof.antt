@@ -1,8 +1,0 @@
-use mathlib.Core.Path.{refl}
-use Rattle.json.specs.text.Bytes.{same, inside}
-use Rattle.json.specs.characters.Chars.{isPlain}
-use Rattle.json.proofs.characters.chars.is_plain.Statement.{statement}
-use Rattle.json.proofs.characters.chars.is_plain.Tie as tie
-
-pub is-plain-spec : {M : Type 1} → statement M
-is-plain-spec = tie.close (tie.spec (λ c. unfold same inside isPlain in refl))

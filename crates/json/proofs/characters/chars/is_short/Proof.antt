@@ -1,8 +1,0 @@
-use mathlib.Core.Path.{refl}
-use Rattle.json.specs.text.Bytes.{same}
-use Rattle.json.specs.characters.Chars.{isShort}
-use Rattle.json.proofs.characters.chars.is_short.Statement.{statement}
-use Rattle.json.proofs.characters.chars.is_short.Tie as tie
-
-pub is-short-spec : {M : Type 1} → statement M
-is-short-spec = tie.close (tie.spec (λ c. unfold same isShort in refl))

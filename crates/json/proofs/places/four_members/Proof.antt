@@ -1,6 +1,0 @@
-use Rattle.json.proofs.places.Items.{walking}
-use Rattle.json.proofs.places.four_members.Statement.{statement}
-use Rattle.json.proofs.places.four_members.Tie as tie
-
-pub four-members-spec : {M : Type 1} → statement M
-four-members-spec = tie.close (tie.spec (λ c κs. search walking) (λ c. search walking) (λ c. search walking) (λ c. search walking) (λ c κs. search walking) (λ c. search walking))

@@ -1,6 +1,0 @@
-use Rattle.json.proofs.places.Items.{walking}
-use Rattle.json.proofs.places.more.Statement.{statement}
-use Rattle.json.proofs.places.more.Tie as tie
-
-pub more-spec : {M : Type 1} → statement M
-more-spec = tie.close (tie.spec (λ c. search walking) (λ c. search walking) (λ c. search walking) (λ c. search walking) (λ c. search walking) (λ c. search walking))

@@ -1,6 +1,0 @@
-use Rattle.json.proofs.places.Items.{walking}
-use Rattle.json.proofs.places.needed.Statement.{statement}
-use Rattle.json.proofs.places.needed.Tie as tie
-
-pub needed-spec : {M : Type 1} → statement M
-needed-spec = tie.close (tie.spec (λ c κs. search walking) (λ c κs. search walking) (λ c. search walking))

@@ -1,6 +1,0 @@
-use Rattle.json.proofs.places.Items.{steps}
-use Rattle.json.proofs.places.next_element.Statement.{statement}
-use Rattle.json.proofs.places.next_element.Tie as tie
-
-pub next-element-spec : {M : Type 1} → statement M
-next-element-spec = tie.close (tie.spec (λ c κs. search steps) (λ c. search steps) (λ c κs. search steps) (λ c. search steps))

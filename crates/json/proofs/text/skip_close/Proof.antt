@@ -1,8 +1,0 @@
-use Rattle.json.proofs.text.Steps.{marking}
-use Rattle.json.proofs.text.skip_close.Statement.{statement}
-use Rattle.json.proofs.text.skip_close.Tie as tie
-
-pub skip-close-spec : {M : Type 1} → statement M
-skip-close-spec =
-    tie.close
-    (tie.spec (λ c κs. search marking) (λ c κs. search marking) (λ c. search marking) (λ c. search marking) (λ c. search marking))

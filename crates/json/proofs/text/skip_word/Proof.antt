@@ -1,9 +1,0 @@
-use Rattle.json.proofs.text.Steps.{marking}
-use Rattle.json.proofs.text.skip_word.Statement.{statement}
-use Rattle.json.proofs.text.skip_word.Tie as tie
-
-pub skip-word-spec : {M : Type 1} → statement M
-skip-word-spec =
-    tie.close
-    (tie.spec (λ c κs. search marking) (λ c. search marking) (λ c κs. search marking) (λ c. search marking) (λ c κs. search marking)
-    (λ c. search marking) (λ c κs. search marking) (λ c. search marking) (λ c. search marking) (λ c. search marking))

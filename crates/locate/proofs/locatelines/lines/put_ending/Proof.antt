@@ -1,9 +1,0 @@
--- `locatelines::lines::put_ending` meets its contract.
-use Rattle.locate.specs.locatelines.Lines.{ending}
-use Rattle.locate.proofs.locatelines.Printing.{ended}
-use Rattle.locate.proofs.locatelines.lines.put_ending.Statement.{statement}
-use Rattle.locate.proofs.locatelines.lines.put_ending.Tie as tie
-
-pub put-ending-spec : {M : Type 1} → statement M
-unfolding ending
-put-ending-spec = tie.close (tie.spec (λ c κs. search ended) (λ c κs. search ended) (λ c. search ended) (λ c. search ended) (λ c. search ended))

@@ -1,7 +1,0 @@
--- `locatelines::lines::put_line` meets its contract.
-use Rattle.locate.proofs.locatelines.Printing.{lining}
-use Rattle.locate.proofs.locatelines.lines.put_line.Statement.{statement}
-use Rattle.locate.proofs.locatelines.lines.put_line.Tie as tie
-
-pub put-line-spec : {M : Type 1} → statement M
-put-line-spec = tie.close (tie.spec (λ c κs. search lining) (λ c κs. search lining) (λ c. search lining) (λ c. search lining) (λ c κs. search lining) (λ c κs. search lining) (λ c κs. search lining) (λ c. search lining) (λ c. search lining))

@@ -1,7 +1,0 @@
--- `locatetext::blocks::grid_of` meets its contract.
-use Rattle.locate.proofs.locatetext.Printing.{judged}
-use Rattle.locate.proofs.locatetext.blocks.grid_of.Statement.{statement}
-use Rattle.locate.proofs.locatetext.blocks.grid_of.Tie as tie
-
-pub grid-of-spec : {M : Type 1} → statement M
-grid-of-spec = tie.close (tie.spec (λ c κs. search judged) (λ c. search judged))

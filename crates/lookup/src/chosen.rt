@@ -1,2 +1,0 @@
-// The lookup in a shard of two parts.
-pub mod inner;

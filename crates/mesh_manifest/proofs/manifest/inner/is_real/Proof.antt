@@ -1,9 +1,0 @@
--- An item's kind, test by test.
-use Rattle.mesh_manifest.proofs.manifest.Ways.{ways}
-use Rattle.mesh_manifest.proofs.manifest.inner.is_real.Statement.{statement}
-use Rattle.mesh_manifest.proofs.manifest.inner.is_real.Tie as tie
-
-pub is-real-spec : {M : Type 1} → statement M
-is-real-spec =
-    tie.close
-    (tie.spec (λ c. search ways) (λ c. search ways) (λ c. search ways) (λ c. search ways) (λ c. search ways))

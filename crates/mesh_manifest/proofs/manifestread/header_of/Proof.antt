@@ -1,9 +1,0 @@
--- The header's answer, by what the judge gave.
-use Rattle.mesh_manifest.proofs.manifestread.Asked.{asked}
-use Rattle.mesh_manifest.proofs.manifestread.header_of.Statement.{statement}
-use Rattle.mesh_manifest.proofs.manifestread.header_of.Tie as tie
-
-pub header-of-spec : {M : Type 1} → statement M
-header-of-spec =
-    tie.close
-    (tie.spec (λ c κs. search asked) (λ c. search asked) (λ c κs. search asked) (λ c. search asked))

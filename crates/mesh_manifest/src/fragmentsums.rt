@@ -1,2 +1,0 @@
-// Sums of the sizes of a manifest's fragments.
-pub mod inner;

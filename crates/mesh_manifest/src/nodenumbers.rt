@@ -1,2 +1,0 @@
-// The nodes of a level as numbers, written at the front of lent ones.
-pub mod inner;

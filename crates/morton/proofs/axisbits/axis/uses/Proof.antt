@@ -1,8 +1,0 @@
--- `axisbits::axis::uses` meets its contract.
-use borrow.Author.Needs.{needs}
-use Rattle.morton.proofs.axisbits.Used.{below-size}
-use Rattle.morton.proofs.axisbits.axis.uses.Statement.{statement}
-use Rattle.morton.proofs.axisbits.axis.uses.Tie as tie
-
-pub uses-spec : {M : Type 1} → statement M
-uses-spec = tie.close (tie.spec (λ c. search needs) (λ c. search below-size))

@@ -1,8 +1,0 @@
--- `cellrows::inner::row_inside` meets its contract.
-use borrow.Author.Needs.{needs}
-use Rattle.morton.proofs.cellrows.Rows.{row-none, row-last}
-use Rattle.morton.proofs.cellrows.inner.row_inside.Statement.{statement}
-use Rattle.morton.proofs.cellrows.inner.row_inside.Tie as tie
-
-pub row-inside-spec : {M : Type 1} → statement M
-row-inside-spec = tie.close (tie.spec (λ c. search (row-none, needs)) (λ c. search needs) (λ c κs. search needs) (λ c. search (row-last, needs)))

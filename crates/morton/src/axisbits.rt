@@ -1,2 +1,0 @@
-// One axis of a grid: which bits of its coordinates a key has.
-pub mod axis;

@@ -1,2 +1,0 @@
-// Writing the names of shard files.
-pub mod inner;

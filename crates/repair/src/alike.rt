@@ -1,2 +1,0 @@
-// Whether two minishards list the same.
-pub mod inner;

@@ -1,9 +1,0 @@
-use Rattle.settle.proofs.chunkruns.StoredStarts.{writing}
-use Rattle.settle.proofs.chunkruns.inner.put_starts.Statement.{statement}
-use Rattle.settle.proofs.chunkruns.inner.put_starts.Tie as tie
-
-pub put-starts-spec : {M : Type 1} → statement M
-put-starts-spec =
-    tie.close
-    (tie.spec (λ c κs. search writing) (λ c. search writing) (λ c. search writing) (λ c. search writing) (λ c κs. search writing)
-    (λ c. search writing) (λ c. search writing))

@@ -1,8 +1,0 @@
-use Rattle.settle.proofs.formwriting.WriteWhole.{counting}
-use Rattle.settle.proofs.formwriting.inner.settle_parts.Statement.{statement}
-use Rattle.settle.proofs.formwriting.inner.settle_parts.Tie as tie
-
-pub settle-parts-spec : {M : Type 1} → statement M
-settle-parts-spec =
-    tie.close
-    (tie.spec (λ c κs. search counting) (λ c κs. search counting) (λ c. search counting) (λ c. search counting))

@@ -1,8 +1,0 @@
-use Rattle.settle.proofs.standing.Climbing.{standing}
-use Rattle.settle.proofs.standing.inner.may_stand.Statement.{statement}
-use Rattle.settle.proofs.standing.inner.may_stand.Tie as tie
-
-pub may-stand-spec : {M : Type 1} → statement M
-may-stand-spec =
-    tie.close
-    (tie.spec (λ c κs. search standing) (λ c. search standing) (λ c κs. search standing) (λ c. search standing))

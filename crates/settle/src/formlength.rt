@@ -1,2 +1,0 @@
-// The length of the settled form of a shard.
-pub mod inner;

@@ -1,2 +1,0 @@
-// Writing the settled form of a shard.
-pub mod inner;

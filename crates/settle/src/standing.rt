@@ -1,2 +1,0 @@
-// Whether a minishard may be written as it stands.
-pub mod inner;

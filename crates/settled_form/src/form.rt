@@ -1,1 +1,0 @@
-// The settled form: definitions in specs/, laws in proofs/. No code of its own.

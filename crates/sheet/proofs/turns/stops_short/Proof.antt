@@ -1,6 +1,0 @@
-use Rattle.sheet.proofs.turns.Turning.{telling}
-use Rattle.sheet.proofs.turns.stops_short.Statement.{statement}
-use Rattle.sheet.proofs.turns.stops_short.Tie as tie
-
-pub stops-short-spec : {M : Type 1} → statement M
-stops-short-spec = tie.close (tie.spec (λ c. search telling))

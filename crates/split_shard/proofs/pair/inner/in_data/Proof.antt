@@ -1,9 +1,0 @@
--- The place behind the seam, by what was found.
-use Rattle.split_shard.proofs.pair.Parts.{moving}
-use Rattle.split_shard.proofs.pair.inner.in_data.Statement.{statement}
-use Rattle.split_shard.proofs.pair.inner.in_data.Tie as tie
-
-pub in-data-spec : {M : Type 1} → statement M
-in-data-spec =
-    tie.close
-    (tie.spec (λ c. search moving) (λ c. search moving) (λ c. search moving) (λ c. search moving) (λ c. search moving) (λ c. search moving) (λ c. search moving))

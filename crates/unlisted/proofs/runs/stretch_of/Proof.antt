@@ -1,0 +1,20 @@
+use borrow.Author.Needs.{needs}
+use Rattle.unlisted.proofs.runs.Stretches.{stretch-none, stretch-told}
+use Rattle.unlisted.proofs.runs.stretch_of.Statement.{statement}
+use Rattle.unlisted.proofs.runs.stretch_of.Tie as tie
+
+pub stretch-of-spec : {M : Type 1} → statement M
+stretch-of-spec =
+    tie.close
+    (tie.spec
+    (λ c κs. search needs)
+    (λ c κs. search needs)
+    (λ c. search stretch-none)
+    (λ c κs. search needs)
+    (λ c. search stretch-none)
+    (λ c κs. search needs)
+    (λ c. search needs)
+    (λ c. search needs)
+    (λ c κs. search needs)
+    (λ c κs. search needs)
+    (λ c. search stretch-told))
