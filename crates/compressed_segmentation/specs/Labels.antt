@@ -56,7 +56,7 @@ module _ (s : List ℕ) (e c n m : ℕ) where
 
 -- ---- the answer
 
--- "2 for a zero extent, block size or channel count, and for a voxel or channel outsideShape; 2 first, 29 before 28"
+-- "2 for a zero extent, block size or channel count, and for a voxel or channel outside; 2 first, 29 before 28"
 unfoldable pub labelChecks : List ℕ → Shape → ℕ → ℕ → ℕ → ℕ → List Check
 labelChecks s sh x y z c =
     check 2 (noVoxels sh || outsideShape sh x y z c)

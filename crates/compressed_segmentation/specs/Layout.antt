@@ -9,7 +9,7 @@ use Rattle.compressed_segmentation.specs.declared.Shape.{Shape}
 unfoldable pub noVoxels : Shape → Bool
 noVoxels sh = hasZero (sh .extents) || (hasZero (sh .block) || eqb (sh .channels) 0)
 
--- refusal 2: "a voxel or channel outsideShape" (RULES E1)
+-- refusal 2: "a voxel or channel outside" (RULES E1)
 unfoldable pub outsideShape : Shape → ℕ → ℕ → ℕ → ℕ → Bool
 outsideShape sh x y z c = leb (sh .extents .x) x || (leb (sh .extents .y) y || (leb (sh .extents .z) z || leb (sh .channels) c))
 

@@ -1,4 +1,4 @@
--- A shard as one file, and the checkVerdict of the whole-shard check (RULES F13: 1, 5, 6, then by minishards 7 to 11, for a
+-- A shard as one file, and the verdict of the whole-shard check (RULES F13: 1, 5, 6, then by minishards 7 to 11, for a
 -- mesh also 15 to 17 and 21).
 use Prim.Native.Nat.{ℕ, _*_}
 use mathlib.Core.Bool.{Bool, not, _||_}

@@ -107,7 +107,7 @@ measureChecks spec shard file = shardChecks spec shard file ++ (check 27 (passes
 abbrev pub faultyAt : Sharding → ℕ → List ℕ → ℕ → ℕ → MeasureAnswer
 faultyAt spec shard file number position = Ms.Faulty number (shardFault spec shard (indexPart spec file) (dataPart spec file) .minishard) position
 
--- the one check of two sheets that are allFragments: "27 a total would pass 2^64-1"
+-- the one check of two sheets that are joined: "27 a total would pass 2^64-1"
 abbrev pub joinChecks : Sheet → Sheet → List Check
 joinChecks a b = check 27 (anyPasses (rows (both a b))) ∷ []
 
@@ -138,7 +138,7 @@ pub record Demand1 : Type 0 where
   pub formLength : (spec : Sharding) (shard : ℕ) (file : List ℕ) (dropping : Bool) → RefusesAt (lengthAnswer spec shard file dropping) S.Refused S.Faulty (settledLengthChecks spec shard file dropping)
   pub settle : (spec : Sharding) (shard : ℕ) (file : List ℕ) (dropping : Bool) (out : List ℕ) → RefusesAt (settleAnswer spec shard file dropping out) S.Refused S.Faulty (settleChecks spec shard file dropping out)
   pub unlisted : (spec : Sharding) (shard : ℕ) (file : List ℕ) → RefusesAt (unlistedAnswer spec shard file) U.Refused U.Faulty (shardChecks spec shard file)
-  -- (of a pair: 1, 5, 23, then those of the allFragments file, whose 1 and 5 are the same tests; order 10)
+  -- (of a pair: 1, 5, 23, then those of the joined file, whose 1 and 5 are the same tests; order 10)
   pub checkOfPair : (spec : Sharding) (shard : ℕ) (index d : List ℕ) → Refuses (pairCheck spec shard index d) CheckRefused (pairChecks spec (noSuchShard spec shard) index ++ fileChecks spec (noSuchShard spec shard) (index ++ d))
   pub checkedOfPair : (spec : Sharding) (shard : ℕ) (index d : List ℕ) → checkNumber (pairCheck spec shard index d) ≡ firstNumber (pairChecks spec (noSuchShard spec shard) index ++ shardChecks spec shard (index ++ d))
   pub passedOfPair : (spec : Sharding) (shard : ℕ) (index d : List ℕ) → (pairCheck spec shard index d ≡ Sound) ↔ (firstNumber (pairChecks spec (noSuchShard spec shard) index ++ shardChecks spec shard (index ++ d)) ≡ 0)

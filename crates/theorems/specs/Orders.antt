@@ -126,7 +126,7 @@ pub record Order5 : Type 0 where
       → List·Memᴰ k (coverKeys v lower upper) ↔ SharesVoxel v lower upper c
   -- Each is above the one before it, so none stands twice.
   pub rising : (v : Volume) (lower upper : Point) → RisingFrom 0 (coverKeys v lower upper)
-  -- "an empty or reversed one, or one outsideVolume the volume, lists none".
+  -- "an empty or reversed one, or one outside the volume, lists none".
   pub empty : (v : Volume) (lower upper : Point) → reversed lower upper ≡ true → coverKeys v lower upper ≡ []
   pub beside : (v : Volume) (lower upper : Point) → outsideVolume v lower upper ≡ true → coverKeys v lower upper ≡ []
   -- Where nothing is refused, the keys stand at the front of the output, which is as it was past them, and "the count returned is the

@@ -10,7 +10,7 @@ use Rattle.endian.specs.Place.{paste}
 use Rattle.endian.proofs.Paste.{paste-nil, length-paste, paste-then}
 use Rattle.compressed_segmentation.specs.raw_form.Raw.{concatTo}
 
--- ---- concatTo pieces
+-- ---- joined pieces
 
 pub length-joined : (f : ℕ → List ℕ) (k : ℕ) → ((i : ℕ) → length (f i) ≡ k) → (n : ℕ) → length (concatTo f n) ≡ n * k
 unfolding concatTo

@@ -219,7 +219,7 @@ module _ (v : Volume) (lower upper : Point) where
   unfolding reversed
   reversed-lists-none t = none-listed (λ c. unfold meets beginPoint endPoint in one-axis _ _ _ _ _ _ t (reversed-shares _ _ _ _ _ _) (reversed-shares _ _ _ _ _ _) (reversed-shares _ _ _ _ _ _))
 
-  -- "or one outsideVolume the volume"
+  -- "or one outside the volume"
   pub outside-lists-none : outsideVolume v lower upper ≡ true → coverKeys v lower upper ≡ []
   unfolding outsideVolume
   outside-lists-none t = none-listed (λ c. unfold meets beginPoint endPoint in one-axis _ _ _ _ _ _ t (apart-shares _ _ _ _ _ _) (apart-shares _ _ _ _ _ _) (apart-shares _ _ _ _ _ _))

@@ -40,7 +40,7 @@ reversed lower upper = leZ (upper .x) (lower .x) || (leZ (upper .y) (lower .y) |
 unfoldable pub apart : ℤ → ℕ → ℤ → ℤ → Bool
 apart offset size lower upper = leZ upper offset || leZ (offset +ℤ pos size) lower
 
--- "or one outsideVolume the volume" (RULES B4)
+-- "or one outside the volume" (RULES B4)
 unfoldable pub outsideVolume : Volume → Point → Point → Bool
 outsideVolume v lower upper =
     apart (v .offset .x) (v .size .x) (lower .x) (upper .x)

@@ -1,4 +1,4 @@
--- The manifestVerdict is 0 exactly of the sound manifests, and what is known of them.
+-- The verdict is 0 exactly of the sound manifests, and what is known of them.
 use Prim.Native.Nat.{ℕ, zero, suc, _+_, _-_, _*_, _≤_, _<_}
 use mathlib.Core.Path.{_≡_, refl, sym, subst}
 use mathlib.Core.Bool.{Bool, true, false, not, _&&_, _||_}

@@ -128,7 +128,7 @@ module _ (s : List ℕ) (l : ℕ) where
   unfolding nodesRise
   nodes-done p e h k = every-done (riseAt s) (levelsOf s) l p (omega arith) (omega arith)
 
--- ---- the manifestVerdict
+-- ---- the verdict
 
 module _ (s : List ℕ) {p : Bool} (e : p ≡ rightLength s) where
   pub verdict-15 : not p ≡ true → 15 ≡ manifestVerdict s

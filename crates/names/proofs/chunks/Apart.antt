@@ -112,7 +112,7 @@ line-no-digit : isDigit 95 ≡ false
 unfolding isDigit
 line-no-digit = refl
 
--- a signParts number's text is its own
+-- a signed number's text is its own
 pub same-signed : (y z : ℤ) → signedText (signParts y) ≡ signedText (signParts z) → y ≡ z
 same-signed y z e = signed-apart 45 minus-no-digit [] [] y z (ap (λ (t : List ℕ). t ++ (45 ∷ [])) e) .0
 

@@ -70,7 +70,7 @@ module _ (n : Signed) where
 
 pub ruleset signing = (length-neg, length-pos, sign-room, digits-room, whole-room, signed-put, whole-put, signed-end, whole-end, needs)
 
--- ---- from signParts numbers; an i64 that is handed on is read back from its bits, `back z`
+-- ---- from signed numbers; an i64 that is handed on is read back from its bits, `back z`
 
 abbrev pub back : ℤ → ℤ
 back z = toZ w64 (ofZ w64 z)
