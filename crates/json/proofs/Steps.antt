@@ -1,20 +1,20 @@
 -- What the functions of this crate need: each way out as a case of its definition. b, i, r are what was read or what calls gave.
 use Prim.Native.Nat.{ℕ, zero, suc, _+_, _-_, _<_, _≤_}
-use mathlib.Core.Path.{_≡_, refl, sym, ap, _∙_}
+use mathlib.Core.Path.{_≡_, refl, sym, ap, _∙_, subst}
 use mathlib.Core.List.{List}
 use native.Mathlib.Omega.{arith}
 use native.Mathlib.Numerals.{sub-one}
-use borrow.Author.Needs.{needs}
 use lib.ListN.{length, getD}
 use Rattle.json.specs.tokens.Bytes.{choose, same}
-use Rattle.json.specs.tokens.Parts.{ws, markAt, closeAt, wordAt}
+use Rattle.json.specs.tokens.Parts.{follow, ws, markAt, closeAt, wordAt}
 use Rattle.json.specs.tokens.Numbers.{numberAt}
 use Rattle.json.specs.declared.tokens.Found.{Found}
 use Rattle.json.specs.declared.tokens.Found.the-variants.{At, Nothing}
-use Rattle.json.proofs.tokens.Laws.{if-eq, if-ne, then-at, then-nothing, at-byte}
-use Rattle.json.proofs.tokens.Steps.{mark-room}
+use Rattle.json.proofs.tokens.Laws.{if-eq, if-ne, then-at, then-nothing, follow-at, follow-nothing, at-byte}
+use Rattle.json.specs.declared.Next.{Next}
+use Rattle.json.specs.declared.Next.the-variants.{Item, End}
 use Rattle.json.specs.strings.Chars.{stringAt}
-use Rattle.json.specs.Grammar.{endOf, scalarAt, itemsAt, listAt, memberAt, valueAt}
+use Rattle.json.specs.Grammar.{endOf, scalarAt, nextAt, itemsAt, listAt, memberAt, valueAt}
 use Rattle.json.proofs.Ahead.{Ahead, value-ahead, member-ahead, mark-ahead}
 use Rattle.json.proofs.Turns.{items-none, items-last, items-on, mark-most}
 
@@ -39,7 +39,21 @@ unfolding endOf
 some-end (At n) h z = ap At (sym h)
 some-end Nothing h z = absurd (z h)
 
-pub ruleset ends = (end-at, end-none, needs)
+-- ---- one step along a list
+
+module _ (close : ℕ) (s : List ℕ) (e : ℕ) where
+  pub next-none : e ≡ 0 → End 0 ≡ nextAt close s e
+  unfolding nextAt
+  next-none z = sym (if-eq _ _ _ _ z)
+
+  module _ (z : e ≡ 0 → ⊥) {q : Found} (eq : q ≡ markAt 44 s e) where
+    pub next-on : {j : ℕ} → q ≡ At j → Item j ≡ nextAt close s e
+    unfolding nextAt
+    next-on t = sym (if-ne _ _ _ _ z ∙ follow-at _ _ _ _ (sym eq ∙ t))
+
+    pub next-end : {x : Found} {r : ℕ} → q ≡ Nothing → x ≡ closeAt close s e → r ≡ endOf x → End r ≡ nextAt close s e
+    unfolding nextAt
+    next-end t ex er = ap End (er ∙ ap endOf ex) ∙ sym (if-ne _ _ _ _ z ∙ follow-nothing _ _ _ (sym eq ∙ t))
 
 -- ---- a scalar
 
@@ -75,8 +89,6 @@ module _ (s : List ℕ) (i : ℕ) {b : ℕ} (eb : b ≡ getD s i 0) {r : Found} 
         scalar-number k er =
             er ∙ sym (if-ne _ _ _ _ (λ q. n (eb ∙ q)) ∙ if-ne _ _ _ _ (λ q. m (eb ∙ q)) ∙ if-ne _ _ _ _ (λ q. l (eb ∙ q)) ∙ if-ne _ _ _ _ (λ q. k (eb ∙ q)))
 
-pub ruleset scalars = (mark-room, byte-most, byte-next, scalar-string, scalar-true, scalar-null, scalar-false, scalar-number, needs)
-
 -- ---- a value
 
 value-some : (d : ℕ) (s : List ℕ) (i : ℕ) → (d ≡ 0 → ⊥) → valueAt d s i ≡
@@ -102,8 +114,6 @@ module _ (d : ℕ) (s : List ℕ) (i : ℕ) where
       pub value-scalar : {x : Found} → (b ≡ 91 → ⊥) → x ≡ scalarAt s i → r ≡ endOf x → r ≡ endOf (valueAt d s i)
       value-scalar m ex er = er ∙ ap endOf (ex ∙ sym (value-some d s i h ∙ if-ne _ _ _ _ (λ q. n (eb ∙ q)) ∙ if-ne _ _ _ _ (λ q. m (eb ∙ q))))
 
-pub ruleset values = (mark-room, value-none, value-object, value-array, value-scalar, needs)
-
 -- ---- a member
 
 module _ (value : ℕ → Found) (s : List ℕ) (i : ℕ) {p : Found} (ep : p ≡ stringAt s i) where
@@ -119,8 +129,6 @@ module _ (value : ℕ → Found) (s : List ℕ) (i : ℕ) {p : Found} (ep : p �
     pub member-valued : {j r : ℕ} → q ≡ At j → r ≡ endOf (value j) → r ≡ endOf (memberAt value s i)
     unfolding memberAt
     member-valued {j} t er = er ∙ ap endOf (sym (then-at _ _ e (sym ep ∙ ee) ∙ then-at _ _ j (sym eq ∙ t)))
-
-pub ruleset members = (member-unnamed, member-unmarked, member-valued, needs)
 
 -- ---- the list that begins at `at` is passed up to i
 
@@ -154,27 +162,35 @@ module _ (d : ℕ) (close : ℕ) (s : List ℕ) (at : ℕ) {i b : ℕ} (ei : i �
   pub object-start : Listing (memberAt (valueAt d s) s) close s at i
   object-start = list-start (memberAt (valueAt d s) s) close s at ei eb (member-ahead (valueAt d s) s (value-ahead d s)) n
 
-module _ {item : ℕ → Found} {close : ℕ} {s : List ℕ} {at i : ℕ} (k : Listing item close s at i) {e : ℕ} (ei : e ≡ endOf (item i)) where
-  pub list-bad : e ≡ 0 → 0 ≡ endOf (listAt item close s at)
-  list-bad z = end-none _ (k .left ∙ items-none item close s (k .fuel) i (no-end i (item i) (k .ahead i) ei z))
+-- what a step from i comes to: a later item, from where the same is left, or the end of the list
+abbrev pub Stepped : (ℕ → Found) → ℕ → List ℕ → ℕ → ℕ → Next → Type 0
+Stepped item close s at i (Item j) = Listing item close s at j × (length s - j < length s - i)
+Stepped item close s at i (End r) = r ≡ endOf (listAt item close s at)
 
-  module _ (z : e ≡ 0 → ⊥) {q : Found} (eq : q ≡ markAt 44 s e) where
-    here : item i ≡ At e
-    here = some-end (item i) ei z
+module _ {item : ℕ → Found} {close : ℕ} {s : List ℕ} {at i : ℕ} (k : Listing item close s at i) (h : 0 < close) where
+  by-mark : (e : ℕ) (m : Found) → item i ≡ At e → markAt 0x2C s e ≡ m → Stepped item close s at i (follow m Item (End (endOf (closeAt close s e))))
+  unfolding follow
+  by-mark e (At j) p q =
+      let onward : i < j = omega (arith, k .ahead i e p, mark-ahead 0x2C s e j q) in
+      let x = items-on item close s (k .ahead) (k .fuel) i e j (listAt item close s at) (k .enough) (k .left) p q onward in
+      (record { ahead = k .ahead; fuel = x .0; enough = x .1; left = x .2 }, omega (arith, onward, mark-most 0x2C s e j (omega arith) q))
+  by-mark e Nothing p q = ap endOf (sym (k .left ∙ items-last item close s (k .ahead) (k .fuel) i e (k .enough) h p q))
 
-    pub list-last : {x : Found} {r : ℕ} → q ≡ Nothing → 0 < close → x ≡ closeAt close s e → r ≡ endOf x → r ≡ endOf (listAt item close s at)
-    list-last n h ex er = er ∙ ap endOf (ex ∙ sym (k .left ∙ items-last item close s (k .ahead) (k .fuel) i e (k .enough) h here (sym eq ∙ n)))
+  by-item : (f : Found) → item i ≡ f → Stepped item close s at i (nextAt close s (endOf f))
+  unfolding nextAt endOf
+  by-item (At e) p = rw (if-ne e 0 (End 0) (follow (markAt 0x2C s e) Item (End (endOf (closeAt close s e)))) (λ z. omega (arith, k .ahead i e p))) (by-mark e (markAt 0x2C s e) p refl)
+  by-item Nothing p = rw (if-eq 0 0 (End 0) (follow (markAt 0x2C s 0) Item (End (endOf (closeAt close s 0)))) refl) (end-none _ (k .left ∙ items-none item close s (k .fuel) i p))
 
-    module _ {j : ℕ} (t : q ≡ At j) where
-      onward : i < j
-      onward = omega (arith, k .ahead i e here, mark-ahead 44 s e j (sym eq ∙ t))
+  -- the law of the two loops, over the item and the closing bracket
+  module _ {e : ℕ} (ee : e ≡ endOf (item i)) {q : Next} (eq : q ≡ nextAt close s e) where
+    pub list-step : {n : Next} → q ≡ n → Stepped item close s at i n
+    list-step t = subst (Stepped item close s at i) (ap (nextAt close s) (sym ee) ∙ sym eq ∙ t) (by-item (item i) refl)
 
-      pub list-on : Listing item close s at j
-      list-on =
-          let x = items-on item close s (k .ahead) (k .fuel) i e j (listAt item close s at) (k .enough) (k .left) here (sym eq ∙ t) onward in
-          record { ahead = k .ahead; fuel = x .0; enough = x .1; left = x .2 }
+    pub list-end : {r : ℕ} → q ≡ End r → r ≡ endOf (listAt item close s at)
+    list-end t = list-step t
 
-      pub list-less : length s - j < length s - i
-      list-less = omega (arith, onward, mark-most 44 s e j (omega arith) (sym eq ∙ t))
+    pub list-on : {j : ℕ} → q ≡ Item j → Listing item close s at j
+    list-on t = list-step t .0
 
-pub ruleset listing = (mark-room, list-empty, array-start, object-start, list-bad, list-last, list-on, list-less, needs)
+    pub list-less : {j : ℕ} → q ≡ Item j → length s - j < length s - i
+    list-less t = list-step t .1

@@ -8,6 +8,8 @@ use Rattle.json.specs.tokens.Parts.{andThen, follow, ws, markAt, closeAt
 use Rattle.json.specs.tokens.Numbers.{numberAt}
 use Rattle.json.specs.declared.tokens.Found.{Found}
 use Rattle.json.specs.declared.tokens.Found.the-variants.{At, Nothing}
+use Rattle.json.specs.declared.Next.{Next}
+use Rattle.json.specs.declared.Next.the-variants.{Item, End}
 use Rattle.json.specs.strings.Chars.{stringAt}
 
 -- "to a depth of 32" (order 1) (RULES I2)
@@ -33,6 +35,10 @@ unfoldable pub itemsAt : (ℕ → Found) → ℕ → List ℕ → ℕ → ℕ �
 itemsAt item close s zero i = Nothing
 itemsAt item close s (suc n) i =
     andThen (item i) (λ e. follow (markAt 0x2C s e) (λ j. itemsAt item close s n j) (closeAt close s e))
+
+-- one step along the items, from where one ends (0: nowhere): ws "," ws to the next item, or ws close to the end (0: nowhere)
+unfoldable pub nextAt : ℕ → List ℕ → ℕ → Next
+nextAt close s e = choose (same e 0) (End 0) (follow (markAt 0x2C s e) Item (End (endOf (closeAt close s e))))
 
 -- ws [ items ] ws close: what stands behind "[" or "{"
 unfoldable pub listAt : (ℕ → Found) → ℕ → List ℕ → ℕ → Found

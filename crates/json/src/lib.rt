@@ -6,9 +6,16 @@ pub mod text;
 pub mod tokens;
 
 ghost use mathlib.Core.Path.{_≡_};
-ghost use Rattle.json.specs.Grammar.{endOf, scalarAt, listAt, memberAt, valueAt};
+ghost use Prim.Native.Nat.{_<_};
+ghost use Rattle.json.specs.Grammar.{endOf, scalarAt, nextAt, listAt, memberAt, valueAt};
 use crate::tokens::Found;
 pub use text::is_json;
+
+// Where a walk along the items of an array or object goes on: at the next item, or at the end of the whole. End(0): it has no end.
+enum Next {
+    Item(usize),
+    End(usize),
+}
 
 fn skip_scalar(s: &[u8], at: usize) -> Found
     ensures { λ r. ⌜ r ≡ scalarAt (now (s .entry)) at ⌝ }
@@ -39,6 +46,20 @@ fn end_of(f: Found) -> usize
     }
 }
 
+// One step of the walk, from where an item ends (0: there is none): to the item behind the comma, or behind the closing bracket.
+fn next_item(s: &[u8], e: usize, close: u8) -> Next
+    requires { ⌜ 0 < close ⌝ }
+    ensures { λ r. ⌜ r ≡ nextAt close (now (s .entry)) e ⌝ }
+{
+    if e == 0 {
+        return Next::End(0);
+    }
+    let Found::At(j) = crate::tokens::skip_mark(s, e, b',') else {
+        return Next::End(end_of(crate::tokens::skip_close(s, e, close)));
+    };
+    Next::Item(j)
+}
+
 // The cycle: a value, what stands in an array and in an object, and one member of an object. 0: there is none.
 pub fn skip_value(s: &[u8], at: usize, depth: usize) -> usize
     ensures { λ r. ⌜ r ≡ endOf (valueAt depth (now (s .entry)) at) ⌝ }
@@ -64,14 +85,10 @@ fn skip_array(s: &[u8], at: usize, depth: usize) -> usize
         return i + 1;
     }
     loop {
-        let e = skip_value(s, i, depth);
-        if e == 0 {
-            return 0;
+        match next_item(s, skip_value(s, i, depth), b']') {
+            Next::Item(j) => i = j,
+            Next::End(e) => return e,
         }
-        let Found::At(j) = crate::tokens::skip_mark(s, e, b',') else {
-            return end_of(crate::tokens::skip_close(s, e, b']'));
-        };
-        i = j;
     }
 }
 
@@ -83,14 +100,10 @@ fn skip_object(s: &[u8], at: usize, depth: usize) -> usize
         return i + 1;
     }
     loop {
-        let e = skip_member(s, i, depth);
-        if e == 0 {
-            return 0;
+        match next_item(s, skip_member(s, i, depth), b'}') {
+            Next::Item(j) => i = j,
+            Next::End(e) => return e,
         }
-        let Found::At(j) = crate::tokens::skip_mark(s, e, b',') else {
-            return end_of(crate::tokens::skip_close(s, e, b'}'));
-        };
-        i = j;
     }
 }
 

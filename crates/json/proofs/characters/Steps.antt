@@ -4,14 +4,12 @@ use mathlib.Core.Path.{_≡_, refl, sym, ap, _∙_}
 use mathlib.Core.List.{List}
 use mathlib.Core.Bool.{Bool, true, false, not, _&&_}
 use native.Mathlib.Omega.{arith}
-use borrow.Author.Needs.{needs}
 use borrow.Author.Tests.{leb-true, lt-ltb, le-ltb, not-true}
 use lib.ListN.{length, getD}
 use lib.Dec.{ltb, leb, eqb}
 use Rattle.refusal.proofs.Tests.{both}
 use Rattle.json.specs.tokens.Bytes.{choose, same, under, inside}
 use Rattle.json.proofs.tokens.Laws.{if-yes, if-no, if-eq, if-ne, not-same, within}
-use Rattle.json.proofs.tokens.Steps.{along-start, along-end, along-fits, along-less, along-on}
 use Rattle.json.specs.characters.Chars.{isHex, isShort, isPlain, isTail, isSecond, utf8Len, escapeLen, charLen}
 
 pub if-lt : {A : Type 0} (m n : ℕ) (a b : A) → m < n → choose (under m n) a b ≡ a
@@ -98,8 +96,6 @@ module _ (s : List ℕ) (i : ℕ) {b : ℕ} (eb : b ≡ getD s i 0) where
           er ∙ ap (λ (x : ℕ). utf8Len x (getD s (i + 1) 0) (getD s (i + 2) 0) (getD s (i + 3) 0)) eb
           ∙ sym (if-ge _ _ _ _ low-no ∙ if-ne _ _ _ _ (λ q. n (eb ∙ q)) ∙ if-ne _ _ _ _ (λ q. m (eb ∙ q)))
 
-pub ruleset measuring = (utf8-1, utf8-2, utf8-3, utf8-4, utf8-0, escape-2, escape-6, escape-0, escape-read, utf8-read, char-low, char-text, char-quote, char-escape, char-plain, needs)
-
 -- ---- plain characters
 
 pub plain-zero : isPlain 0 ≡ false
@@ -129,5 +125,3 @@ module _ (s : List ℕ) (i : ℕ) (e : isPlain (getD s i 0) ≡ true) where
   pub plain-one : charLen s i ≡ 1
   unfolding charLen utf8Len
   plain-one = if-ge _ _ _ _ (plain-low .0) ∙ if-ne _ _ _ _ plain-mark ∙ if-ne _ _ _ _ plain-slash ∙ if-lt _ _ _ _ (omega (arith, plain-low .1))
-
-pub ruleset plainly = (plain-zero, along-start, along-end, along-fits, along-less, along-on, needs)

@@ -5,7 +5,6 @@ use mathlib.Core.Bool.{Bool, true, false}
 use mathlib.Core.List.{List, [], _∷_}
 use native.Mathlib.Omega.{arith}
 use native.Mathlib.Numerals.{sub-one}
-use borrow.Author.Needs.{needs}
 use borrow.Author.Tests.{eqb-true, eq-eqb, ne-eqb}
 use lib.Dec.{eqb}
 use lib.ListN.{length, getD}
@@ -17,7 +16,6 @@ use Rattle.json.specs.tokens.Parts.{andThen, ws, markAt}
 use Rattle.json.specs.declared.tokens.Found.{Found}
 use Rattle.json.specs.declared.tokens.Found.the-variants.{At, Nothing}
 use Rattle.json.proofs.tokens.Laws.{within, le-span, ws-most, then-at, then-nothing, then-case}
-use Rattle.json.proofs.tokens.Steps.{mark-room}
 use Rattle.json.specs.strings.Chars.{stringAt}
 use Rattle.json.specs.strings.Names.{unescaped, textAt, eqList}
 use Rattle.json.specs.Grammar.{deepest, endOf, memberAt, valueAt}
@@ -442,11 +440,3 @@ module _ (s : List ℕ) (p : ℕ) {q : Found} (eq : q ≡ firstIn 0x5B 0x5D s p)
               let l : elements s p ≡ x ∷ y ∷ z ∷ n ∷ elementsFrom s (nextElement s n) =
               three-on ∙ ap (λ (l : List ℕ). x ∷ y ∷ z ∷ l) (rw e (items-cons (nextElement s) s (element-onward s) n (o .1))) in
               sym (ap threeOf l)
-
-pub ruleset steps = (mark-room, element-none, element-next, member-none, member-next, value-unnamed, value-unmarked, value-there, first-none, first-empty, first-some, text-none, text-same, needs)
-
-pub ruleset walking = (more-first, more-second, more-later, note-room, noted-yes, noted-no, walk-start, walk-end, walk-on, walk-less, four-none, four-room, four-some, once-once, once-never, once-twice, needed-is, needs)
-
-pub ruleset reaching = (reach-start, reach-end, reach-gone, reach-on, one-less, needs)
-
-pub ruleset arrays = (no-array, array-room, element-is, three-none, three-one, three-two, three-are, three-many, lone-none, lone-one, lone-many, needs)

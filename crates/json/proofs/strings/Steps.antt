@@ -4,7 +4,6 @@ use mathlib.Core.Path.{_≡_, refl, sym, ap, _∙_}
 use mathlib.Core.List.{List, [], _∷_}
 use mathlib.Core.Bool.{Bool, true, false, not, _&&_}
 use native.Mathlib.Omega.{arith}
-use borrow.Author.Needs.{needs}
 use borrow.Author.Tests.{eqb-true, eqb-false, ltb-true, ltb-false, leb-true, not-true, not-false}
 use lib.ListN.{length, getD, drop}
 use lib.Dec.{ltb, leb, eqb}
@@ -14,7 +13,6 @@ use Rattle.refusal.proofs.Tests.{both}
 use Rattle.json.specs.tokens.Bytes.{inside, isDigit, span}
 use Rattle.json.specs.declared.tokens.Found.the-variants.{At, Nothing}
 use Rattle.json.proofs.tokens.Laws.{if-yes, if-no, if-eq, if-ne, in-text, span-on, span-stop, le-span}
-use Rattle.json.proofs.tokens.Steps.{mark-room}
 use Rattle.json.proofs.characters.Steps.{if-lt, if-ge, plain-zero, plain-low, plain-mark, plain-slash, plain-one}
 use Rattle.json.specs.characters.Chars.{isPlain, charLen}
 use Rattle.json.specs.strings.Chars.{charsAt, stringAt}
@@ -80,8 +78,6 @@ module _ (s : List ℕ) (i : ℕ) {c : ℕ} (ec : c ≡ charLen s i) (z : c ≡ 
 
   pub char-less : length s - (i + c) < length s - i
   char-less = omega (arith, char-here s i c ec z, z)
-
-pub ruleset strings = (mark-room, pass-none, pass-start, pass-end, pass-bad, pass-on, pass-less, char-room, needs)
 
 -- ---- what a character stands for
 
@@ -167,8 +163,6 @@ module _ (s : List ℕ) (i : ℕ) {b : ℕ} (eb : b ≡ getD s i 0) {r w : ℕ} 
     ascii-short n er ew ex =
         er ∙ ap asciiOf (ew ∙ ex ∙ ap shortByte ec) ∙ sym (if-eq _ _ _ _ (sym eb ∙ e) ∙ if-ne _ _ _ _ (λ q. n (ec ∙ q)))
 
-pub ruleset naming = (digit-least, hex-digit, hex-upper, hex-lower, hex-low, upper-least, short-8, short-12, short-10, short-13, short-9, short-self, ascii-low, ascii-high, unit-read, ascii-plain, ascii-unit, ascii-short, needs)
-
 -- ---- the characters from `at` on agree with the name up to i and k
 
 ascii-below : (l : List ℕ) → ascii l ≡ true → (k : ℕ) → getD l k 0 < 128
@@ -240,7 +234,3 @@ name-differs s i name small et e =
     let n = eqb-false (getD s i 0) (getD name 0 0) (not-true _ (p .1)) in
     let z : charLen s i ≡ 0 → ⊥ = λ q. omega (arith, plain-one s i (p .0), q) in
     sym (name-no s name (length s + 1) i 0 (omega arith) z (ascii-below name small) (λ q. n (sym (plain-itself s i (p .0)) ∙ q)))
-
-pub ruleset firsts = (differs-is, name-differs, needs)
-
-pub ruleset comparing = (agrees-is, agree-start, agree-end, agree-no, agree-on, agree-room, char-inside, char-room, char-less, needs)

@@ -54,11 +54,11 @@ pub then-nothing : (r : Found) (f : ℕ → Found) → r ≡ Nothing → andThen
 unfolding andThen
 then-nothing r f e = rw e
 
-pub follow-at : (r : Found) (f : ℕ → Found) (o : Found) (n : ℕ) → r ≡ At n → follow r f o ≡ f n
+pub follow-at : {A : Type 0} (r : Found) (f : ℕ → A) (o : A) (n : ℕ) → r ≡ At n → follow r f o ≡ f n
 unfolding follow
 follow-at r f o n e = rw e
 
-pub follow-nothing : (r : Found) (f : ℕ → Found) (o : Found) → r ≡ Nothing → follow r f o ≡ o
+pub follow-nothing : {A : Type 0} (r : Found) (f : ℕ → A) (o : A) → r ≡ Nothing → follow r f o ≡ o
 unfolding follow
 follow-nothing r f o e = rw e
 

@@ -4,7 +4,6 @@ use mathlib.Core.Path.{_≡_, refl, sym, ap, _∙_}
 use mathlib.Core.List.{List}
 use mathlib.Core.Bool.{Bool, true, false, _&&_}
 use native.Mathlib.Omega.{arith}
-use borrow.Author.Needs.{needs}
 use lib.ListN.{length, getD, List·getD-eq-default}
 use lib.Dec.{eqb}
 use mir.Syntax.{w64}
@@ -14,7 +13,7 @@ use Rattle.json.specs.tokens.Parts.{ws, digits, markAt, closeAt, wordAt}
 use Rattle.json.specs.tokens.Numbers.{isSign, isE, someDigits, intAt, fracAt, signAt, expAt, unsignedAt, numberAt}
 use Rattle.json.specs.declared.tokens.Found.{Found}
 use Rattle.json.specs.declared.tokens.Found.the-variants.{At, Nothing}
-use Rattle.json.proofs.tokens.Laws.{if-yes, if-no, if-eq, if-ne, then-at, then-nothing, at-byte, in-text, ws-zero, digit-zero, span-on, span-stop}
+use Rattle.json.proofs.tokens.Laws.{if-yes, if-no, if-eq, if-ne, then-at, then-nothing, at-byte, in-text, span-on, span-stop}
 
 pub past-end : (s : List ℕ) (i : ℕ) → length s ≤ i → 0 ≡ getD s i 0
 past-end s i h = sym (List·getD-eq-default s 0 h)
@@ -46,8 +45,6 @@ module _ {class : ℕ → Bool} {s : List ℕ} {at i : ℕ} (k : Along class s a
 
     pub along-on : Along class s at (i + 1)
     along-on = record { left = k .left ∙ span-on class s i z (here ∙ e) }
-
-pub ruleset passing = (ws-zero, digit-zero, along-start, along-end, along-fits, along-less, along-on, needs)
 
 -- ---- marks and words
 
@@ -84,8 +81,6 @@ module _ (s : List ℕ) (i a b c d : ℕ) {p q u v : ℕ} where
       → Nothing ≡ wordAt s i a b c d
   unfolding wordAt same
   word-no e ep eq eu ev = sym (if-no _ _ _ (rw (← ep, ← eq, ← eu, ← ev) e))
-
-pub ruleset marking = (past-end, mark-room, mark-no, mark-yes, close-no, close-yes, word-yes, word-no, needs)
 
 -- ---- numbers
 
@@ -171,5 +166,3 @@ module _ (s : List ℕ) (i : ℕ) {p : Found} (ep : p ≡ intAt s i) where
     pub unsigned-some : {k : ℕ} {r : Found} → q ≡ At k → r ≡ expAt s k → r ≡ unsignedAt s i
     unfolding unsignedAt
     unsigned-some {k} e er = er ∙ sym (then-at _ _ j (sym ep ∙ ej) ∙ then-at _ _ k (sym eq ∙ e))
-
-pub ruleset counting = (mark-room, digits-none, digits-some, sign-room, sign-none, sign-some, exp-room, exp-none, exp-some, int-zero, int-some, frac-none, frac-some, number-minus, number-plain, unsigned-none, unsigned-cut, unsigned-some, needs)

@@ -12,7 +12,7 @@ andThen (At e) next = next e
 andThen Nothing next = Nothing
 
 -- where a part is found, what follows it, and else another
-unfoldable pub follow : Found → (ℕ → Found) → Found → Found
+unfoldable pub follow : {A : Type 0} → Found → (ℕ → A) → A → A
 follow (At e) next other = next e
 follow Nothing next other = other
 

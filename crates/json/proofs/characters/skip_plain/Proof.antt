@@ -1,8 +1,10 @@
+-- What is kept: the plain characters from `at` on end where those from i on end. The length that remains falls.
 use Prim.Native.Nat.{_-_}
 use lib.ListN.{length}
-use Rattle.json.proofs.tokens.Steps.{Along}
+use borrow.Author.Needs.{needs}
 use Rattle.json.specs.characters.Chars.{isPlain}
-use Rattle.json.proofs.characters.Steps.{plainly}
+use Rattle.json.proofs.tokens.Steps.{Along, along-start, along-fits, along-less, along-on, along-end}
+use Rattle.json.proofs.characters.Steps.{plain-zero}
 use Rattle.json.proofs.characters.skip_plain.Statement.{statement}
 use Rattle.json.proofs.characters.skip_plain.Tie as tie
 
@@ -12,8 +14,20 @@ Inv-loop s at i₀ i = Along isPlain s at i
 abbrev μ-loop : tie.MeasureT-loop
 μ-loop s at i₀ i = length s - i
 
+loop-holds : tie.Need-loop-holds Inv-loop μ-loop
+loop-holds c = search along-start
+
+add-i : tie.Need-add-i Inv-loop μ-loop
+add-i c = search (along-fits, plain-zero, needs)
+
+loop-less : tie.Need-loop-less Inv-loop μ-loop
+loop-less c = search (along-less, plain-zero)
+
+loop-again : tie.Need-loop-again Inv-loop μ-loop
+loop-again c = search (along-on, plain-zero)
+
+returns : tie.Need-returns Inv-loop μ-loop
+returns c = search along-end
+
 pub skip-plain-spec : {M : Type 1} → statement M
-skip-plain-spec =
-    tie.close
-    (tie.spec Inv-loop μ-loop (λ c. search plainly) (λ c κs. search plainly) (λ c κs. search plainly) (λ c. search plainly) (λ c. search plainly)
-    (λ c. search plainly) (λ c. search plainly))
+skip-plain-spec = tie.close (tie.spec Inv-loop μ-loop loop-holds (λ c κs. search needs) (λ c κs. search needs) add-i loop-less loop-again returns)

@@ -1,7 +1,10 @@
+-- What is kept: the digits from `at` on end where those from i on end. The length that remains falls.
 use Prim.Native.Nat.{_-_}
 use lib.ListN.{length}
+use borrow.Author.Needs.{needs}
 use Rattle.json.specs.tokens.Bytes.{isDigit}
-use Rattle.json.proofs.tokens.Steps.{Along, passing}
+use Rattle.json.proofs.tokens.Steps.{Along, along-start, along-fits, along-less, along-on, along-end}
+use Rattle.json.proofs.tokens.Laws.{digit-zero}
 use Rattle.json.proofs.tokens.numbers.skip_digits.Statement.{statement}
 use Rattle.json.proofs.tokens.numbers.skip_digits.Tie as tie
 
@@ -11,8 +14,20 @@ Inv-loop s at i₀ i = Along isDigit s at i
 abbrev μ-loop : tie.MeasureT-loop
 μ-loop s at i₀ i = length s - i
 
+loop-holds : tie.Need-loop-holds Inv-loop μ-loop
+loop-holds c = search along-start
+
+add-i : tie.Need-add-i Inv-loop μ-loop
+add-i c = search (along-fits, digit-zero, needs)
+
+loop-less : tie.Need-loop-less Inv-loop μ-loop
+loop-less c = search (along-less, digit-zero)
+
+loop-again : tie.Need-loop-again Inv-loop μ-loop
+loop-again c = search (along-on, digit-zero)
+
+returns : tie.Need-returns Inv-loop μ-loop
+returns c = search along-end
+
 pub skip-digits-spec : {M : Type 1} → statement M
-skip-digits-spec =
-    tie.close
-    (tie.spec Inv-loop μ-loop (λ c. search passing) (λ c κs. search passing) (λ c κs. search passing) (λ c. search passing) (λ c. search passing)
-    (λ c. search passing) (λ c. search passing))
+skip-digits-spec = tie.close (tie.spec Inv-loop μ-loop loop-holds (λ c κs. search needs) (λ c κs. search needs) add-i loop-less loop-again returns)
