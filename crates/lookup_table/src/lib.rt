@@ -1,5 +1,5 @@
-// A minishard index of a volume judged once: `fill_table` writes a table of its entries into lent memory, in which `find_in_table` of the crate
-// tablefind finds ids.
+// A minishard index of a volume judged once: `fill_table` writes a table of its entries into lent memory, in which
+// `find_in_table` then finds ids.
 pub mod filling;
 pub mod finding;
 pub mod sorting;

@@ -384,6 +384,19 @@ impl Text<'_> {
 
     /// Whether the string that begins here is this one, escapes undone.
     fn is(&self, at: usize, wanted: &str) -> bool {
+        self.is_by(at, wanted, |found, wanted| found == wanted)
+    }
+
+    /// The same without regard to the case of ASCII letters, as the format compares the names of data types and encodings.
+    fn is_in_any_case(&self, at: usize, wanted: &str) -> bool {
+        let lower = |unit: u32| match unit {
+            0x41..=0x5A => unit + 0x20,
+            _ => unit,
+        };
+        self.is_by(at, wanted, |found, wanted| lower(found) == lower(wanted))
+    }
+
+    fn is_by(&self, at: usize, wanted: &str, same: impl Fn(u32, u32) -> bool) -> bool {
         let mut at = at + 1;
         let mut wanted = wanted.bytes();
         loop {
@@ -393,7 +406,10 @@ impl Text<'_> {
                 Some(byte) => (u32::from(byte), at + 1),
                 None => return false,
             };
-            if wanted.next().map(u32::from) != Some(found) {
+            if !wanted
+                .next()
+                .is_some_and(|wanted| same(found, u32::from(wanted)))
+            {
                 return false;
             }
             at = behind;
@@ -556,7 +572,10 @@ impl Text<'_> {
         const U32: &str = "0 to 4294967295";
         let (whole, scale) = (self.space(0), self.scale(scale)?);
         if let Some(encoding) = self.member(scale, "encoding")? {
-            self.text(encoding, "compressed_segmentation")?;
+            let wanted = "compressed_segmentation";
+            if self.byte(encoding) != Some(b'"') || !self.is_in_any_case(encoding, wanted) {
+                return self.wrong(encoding, format!("\"{wanted}\""));
+            }
         }
         let block = self.member(scale, "compressed_segmentation_block_size")?;
         let channels = self.member(whole, "num_channels")?;
@@ -571,8 +590,8 @@ impl Text<'_> {
     /// The width of a label, by the name of its type.
     fn bits(&self, at: usize) -> Found<LabelBits> {
         match self.byte(at) {
-            Some(b'"') if self.is(at, "uint32") => Ok(LabelBits::B32),
-            Some(b'"') if self.is(at, "uint64") => Ok(LabelBits::B64),
+            Some(b'"') if self.is_in_any_case(at, "uint32") => Ok(LabelBits::B32),
+            Some(b'"') if self.is_in_any_case(at, "uint64") => Ok(LabelBits::B64),
             _ => self.wrong(at, "\"uint32\" or \"uint64\", the types of labels"),
         }
     }
@@ -664,6 +683,11 @@ mod tests {
             bits: Some(LabelBits::B64),
         };
         assert_eq!(of(head, scale), Ok(all));
+        let shouted = (
+            head.replace("uint", "UInt"),
+            scale.replace(": \"comp", ": \"\\u0043omP"),
+        );
+        assert_eq!(of(&shouted.0, &shouted.1), Ok(all));
         let bits = Some(LabelBits::B32);
         assert_eq!(
             of(&head.replace("64", "32"), ""),
