@@ -1,5 +1,6 @@
 pub mod Counting
 pub mod Bits
 pub mod Boxes
-pub mod Differ
+pub mod Missing
+pub mod Halving
 pub mod Ways

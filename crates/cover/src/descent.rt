@@ -7,16 +7,15 @@ ghost use lib.ListN.{length};
 ghost use Rattle.endian.specs.Place.{paste};
 ghost use Rattle.morton.specs.Key.{keyBits};
 ghost use Rattle.cover.specs.overlap.Marked.{Sized, Framed, partKeys};
-ghost use Rattle.cover.specs.halves.Box.{counting, boxKeys, BoxCorners};
-use crate::halves::first_above;
+ghost use Rattle.cover.specs.halves.Box.{counting, boxKeys, InHalf};
+use crate::halves::cut_box;
 use crate::halves::full;
-use crate::halves::last_below;
-use crate::halves::owner;
-use crate::halves::split_bit;
+use crate::halves::halve;
 use crate::overlap::Part;
 use morton::grid::Cell;
 use morton::grid::Extents;
 use morton::steps::key;
+use morton::steps::key_bits;
 
 // n keys one after the other, and where they end.
 fn put_keys(out: &mut [u64], at: usize, first: u64, n: usize) -> usize
@@ -32,23 +31,43 @@ fn put_keys(out: &mut [u64], at: usize, first: u64, n: usize) -> usize
     at + n
 }
 
-// The keys of the box from low to high into `out` from `at` on, rising, and where they end. The highest bit in which the two differ
-// halves the box. Each higher bit halves the grid and leaves one half without a cell of the box: that half is skipped.
-fn descend(x: u64, y: u64, z: u64, low: u64, high: u64, out: &mut [u64], at: usize) -> usize
-    requires { ⌜ BoxCorners x y z low high × (low ≤ high) × (at + length (boxKeys x y z low high) ≤ length (now out)) ⌝ }
+// The keys of the box from low to high into `out` from `at` on, rising, and where they end. The box lies in the part of the grid that
+// has `bits` key bits left and begins at `first`. The highest of them splits that part in two; each half is tested and, unless it
+// misses the box, searched again with one bit fewer. A half that lies in the box whole is counted through.
+fn descend(
+    x: u64,
+    y: u64,
+    z: u64,
+    low: u64,
+    high: u64,
+    first: u64,
+    bits: u32,
+    out: &mut [u64],
+    at: usize,
+) -> usize
+    requires { ⌜ InHalf x y z low high first bits × (at + length (boxKeys x y z low high) ≤ length (now out)) ⌝ }
     ensures next { λ r. ⌜ r ≡ at + length (boxKeys x y z low high) ⌝ }
     ensures out { λ _. ⌜ now (out .exit) ≡ paste at (boxKeys x y z low high) (now (out .entry)) ⌝ }
 {
-    if low == high {
+    if bits == 0 {
         return put_keys(out, at, low, 1);
     }
-    let n = split_bit(low, high);
-    if full(low, high, n) {
+    let left = bits - 1;
+    if full(low, high, left) {
         return put_keys(out, at, low, (high - low) as usize + 1);
     }
-    let own = owner(x, y, z, n);
-    let next = descend(x, y, z, low, last_below(own, high, n), out, at);
-    descend(x, y, z, first_above(own, low, n), high, out, next)
+    let halves = halve(first, left, low, high);
+    let lower = halves.lower;
+    let upper = halves.upper;
+    if lower.misses {
+        return descend(x, y, z, low, high, upper.first, left, out, at);
+    }
+    if upper.misses {
+        return descend(x, y, z, low, high, lower.first, left, out, at);
+    }
+    let parts = cut_box(x, y, z, low, high, left);
+    let next = descend(x, y, z, low, parts.last, lower.first, left, out, at);
+    descend(x, y, z, parts.first, high, upper.first, left, out, next)
 }
 
 // The keys of the marked cells of the whole grid, rising, and how many there are.
@@ -87,5 +106,5 @@ pub fn search(grid: Extents, whole: Part, out: &mut [u64]) -> usize
     );
     let low = key(grid, parts::first(whole));
     let high = key(grid, parts::last(whole));
-    descend(x, y, z, low, high, out, 0)
+    descend(x, y, z, low, high, 0, key_bits(grid), out, 0)
 }

@@ -5,7 +5,7 @@ use mathlib.Core.Bool.{Bool, true, false, _&&_}
 use mathlib.Core.List.{List, [], _++_, append-nil}
 use native.Mathlib.Omega.{arith}
 use native.Mathlib.Decide.{decLt}
-use native.Mathlib.Nat.{le-of-lt, le-refl, zero-add}
+use native.Mathlib.Nat.{le-of-lt, le-refl, zero-add, zero-mul}
 use lib.Bits.{bitAnd}
 use lib.Dec.{leb}
 use Rattle.morton.specs.declared.grid.Extents.{Extents}
@@ -16,7 +16,7 @@ use Rattle.cover.specs.declared.overlap.Along.{Along}
 use Rattle.cover.specs.declared.overlap.Part.{Part}
 use Rattle.cover.specs.overlap.Cover.{passing}
 use Rattle.cover.specs.overlap.Marked.{marked, Fitting, Sized, markedCell, missed, frame, partKeys, firstCell, lastCell, Framed}
-use Rattle.cover.specs.halves.Box.{between, inBox, boxKeys, BoxCorners}
+use Rattle.cover.specs.halves.Box.{between, inBox, boxKeys, BoxCorners, InHalf}
 use Rattle.cover.proofs.overlap.Tests.{leb-same, not-true-false}
 use Rattle.cover.proofs.overlap.Lists.{passing-split, passing-same, passing-nothing}
 use Rattle.cover.proofs.halves.Boxes.{by-axes, inside}
@@ -83,7 +83,7 @@ module _ (g : Extents) (p : Part) (f : Framed g p) (s : Sized p) (m : missed p �
   last-fits : (a : Along) → Fitting a → a .from < a .to → a .to - 1 < 2 ^ (a .bits)
   last-fits a t l = omega (arith, t .within)
 
-  pub corners : BoxCorners bits-x bits-y bits-z low high
+  corners : BoxCorners bits-x bits-y bits-z low high
   corners =
       let q = some-each p m in
       record {
@@ -129,9 +129,24 @@ module _ (g : Extents) (p : Part) (f : Framed g p) (s : Sized p) (m : missed p �
     unfolding markedCell inBox c
     boxed = rw (← frame-cell g p f k, axis-x, axis-y, axis-z)
 
-  pub ordered : low ≤ high
+  ordered : low ≤ high
   unfolding corners
   ordered = by-axes _ _ _ low high corners low high (key-below g (firstCell p)) (key-below g (lastCell p)) (corners .x) (corners .y) (corners .z)
+
+  -- the whole grid holds it
+  pub in-grid : keyBits g ≤ 64 → InHalf bits-x bits-y bits-z low high 0 (keyBits g)
+  unfolding corners
+  in-grid l =
+      record {
+        corners = corners;
+        ordered = ordered;
+        number = 0;
+        begins = sym (zero-mul (2 ^ keyBits g));
+        from = omega arith;
+        to = omega (arith, key-below g (lastCell p));
+        grid = omega arith;
+        most = l;
+      }
 
   in-range : (k : ℕ) → k < 2 ^ keyBits g → inBox bits-x bits-y bits-z low high k ≡ true → (low ≤ k) × (k ≤ high)
   unfolding corners

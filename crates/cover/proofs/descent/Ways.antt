@@ -1,11 +1,12 @@
 -- Each way out of a function, shaped like its needs.
-use Prim.Native.Nat.{ℕ, _+_, _-_, _^_, _≤_, _<_}
+use Prim.Native.Nat.{ℕ, suc, _+_, _-_, _^_, _≤_, _<_}
 use mathlib.Core.Path.{_≡_, sym, ap, _∙_}
 use mathlib.Core.Bool.{Bool, true, false}
 use mathlib.Core.List.{List, _++_}
 use native.Mathlib.Omega.{arith}
 use lib.Dec.{leb, eqb}
 use lib.ListN.{length, length-append}
+use lib.Pow.{pow-pos}
 use borrow.Author.Needs.{needs}
 use borrow.Author.Tests.{lt-leb, le-leb, eqb-true}
 use mir.Syntax.{w64}
@@ -14,17 +15,21 @@ use Rattle.endian.specs.Place.{paste}
 use Rattle.endian.proofs.Paste.{paste-nil, length-paste, paste-then}
 use Rattle.morton.specs.declared.grid.Cell.{Cell}
 use Rattle.morton.specs.declared.grid.Extents.{Extents}
-use Rattle.morton.specs.Key.{keyOf}
+use Rattle.morton.specs.Key.{keyBits, keyOf}
 use Rattle.cover.specs.declared.overlap.Part.{Part}
+use Rattle.cover.specs.declared.halves.Halves.{Halves}
+use Rattle.cover.specs.declared.halves.Cut.{Cut}
 use Rattle.cover.specs.overlap.Marked.{Sized, missed, partKeys, firstCell, lastCell, Framed}
-use Rattle.cover.specs.halves.Box.{counting, boxKeys, BoxCorners, SplitAt, bitsLeft, Axes, Owns, lastBelow, firstAbove}
+use Rattle.cover.specs.halves.Box.{counting, boxKeys, BoxCorners, InHalf, SplitAt}
+use Rattle.cover.specs.halves.Halving.{Halvable, Halved, CutBox}
 use Rattle.cover.proofs.halves.Counting.{length-counting}
 use Rattle.cover.proofs.descent.Counts.{count-first, count-next, count-last}
-use Rattle.cover.proofs.halves.Boxes.{high-is, axes-at, one-key, run-keys, last-div, last-lt, low-last, last-corners, first-div, first-high, first-corners, keys-split}
-use Rattle.cover.proofs.halves.Differ.{left-le, left-gt}
+use Rattle.cover.proofs.halves.Boxes.{one-key, run-keys, keys-split}
+use Rattle.cover.proofs.halves.Missing.{missed-low, met-low, missed-high, met-high}
+use Rattle.cover.proofs.halves.Halving.{within-64, bits-most, no-bits, double, in-lower, in-upper, split-here, lower-part, upper-part}
 use Rattle.cover.proofs.descent.Axis.{on-x, on-y, on-z}
 use Rattle.cover.proofs.descent.Cuts.{missed-none, some-each}
-use Rattle.cover.proofs.descent.Corner.{corners, ordered, box-is}
+use Rattle.cover.proofs.descent.Corner.{in-grid, box-is}
 
 -- ---- marked cells
 module _ (p : Part) where
@@ -51,14 +56,14 @@ module _ (p : Part) (m : missed p ≡ false) where
   some-z = omega (arith, some-each p m .2)
 
 -- ---- the search: the keys of the box from low to high go into d from `at` on
-module _ (x y z low high at : ℕ) (d : List ℕ) where
-  module _ (e : low ≡ high) where
+module _ (x y z low high first bits at : ℕ) (d : List ℕ) (h : InHalf x y z low high first bits) where
+  module _ (e : bits ≡ 0) where
     one : boxKeys x y z low high ≡ counting low 1
     unfolding counting
-    one = rw (← e) (one-key x y z low)
+    one = rw (← no-bits x y z low high first bits h e) (one-key x y z low)
 
     pub one-room : at + length (boxKeys x y z low high) ≤ length d → at + 1 ≤ length d
-    one-room h = let q : at + length (counting low 1) ≤ length d = rw one at h in omega (arith, length-counting low 1)
+    one-room r = let q : at + length (counting low 1) ≤ length d = rw one at r in omega (arith, length-counting low 1)
 
     pub one-next : {r : ℕ} → r ≡ at + 1 → r ≡ at + length (boxKeys x y z low high)
     one-next q = rw (one, length-counting) q
@@ -66,89 +71,119 @@ module _ (x y z low high at : ℕ) (d : List ℕ) where
     pub one-left : {f : List ℕ} → f ≡ paste at (counting low 1) d → f ≡ paste at (boxKeys x y z low high) d
     one-left q = rw one q
 
-  module _ (l : low ≤ high) {n : ℕ} (w : SplitAt low high n) {t : Bool} (et : t ≡ eqb (high - low) (2 ^ n + (2 ^ n - 1))) (k : t ≡ true) where
-    run : boxKeys x y z low high ≡ counting low (high - low + 1)
-    run = run-keys x y z low high n w (eqb-true _ _ (sym et ∙ k)) ∙ ap (counting low) (omega arith)
+  pub box-ordered : low ≤ high
+  box-ordered = h .ordered
 
-    run-long : length (boxKeys x y z low high) ≡ high - low + 1
-    run-long = rw run (length-counting low (high - low + 1))
+  -- one bit fewer
+  module _ (f : bits ≡ 0 → ⊥) where
+    fewer : bits ≡ suc (bits - 1)
+    fewer = omega arith
 
-    pub run-count : at + length (boxKeys x y z low high) ≤ length d → length d < 2 ^ 64 → Fits w64 (high - low + 1)
-    run-count h m = record { fits = omega (arith, run-long) }
+    doubled : 2 ^ bits ≡ 2 ^ (bits - 1) + 2 ^ (bits - 1)
+    doubled = double x y z low high first bits h (bits - 1) fewer
 
-    pub run-room : at + length (boxKeys x y z low high) ≤ length d → at + (high - low + 1) ≤ length d
-    run-room h = omega (arith, run-long)
+    within : first + (2 ^ (bits - 1) + 2 ^ (bits - 1)) ≤ 2 ^ 64
+    within = omega (arith, within-64 x y z low high first bits h, doubled)
 
-    pub run-next : {r : ℕ} → r ≡ at + (high - low + 1) → r ≡ at + length (boxKeys x y z low high)
-    run-next q = omega (arith, run-long)
+    pub left-few : bits - 1 < 64
+    left-few = omega (arith, bits-most x y z low high first bits h)
 
-    pub run-left : {f : List ℕ} → f ≡ paste at (counting low (high - low + 1)) d → f ≡ paste at (boxKeys x y z low high) d
-    run-left q = rw run q
+    pub left-falls : {t : ℕ} → bits ≡ t → bits - 1 < t
+    left-falls e = omega arith
+
+    pub halvable : Halvable low high first (bits - 1)
+    halvable = record { from = h .from; to = omega (arith, h .to, doubled); fits = omega (arith, within) }
+
+    module _ {t : Bool} (et : t ≡ eqb (high - low) (2 ^ (bits - 1) + (2 ^ (bits - 1) - 1))) (k : t ≡ true) where
+      run-split : SplitAt low high (bits - 1)
+      run-split =
+          let e : high - low ≡ 2 ^ (bits - 1) + (2 ^ (bits - 1) - 1) = eqb-true _ _ (sym et ∙ k) in
+          split-here x y z low high first bits h (bits - 1) fewer
+          (omega (arith, h .from, h .to, doubled, pow-pos (bits - 1)))
+          (omega (arith, h .from, h .to, doubled, pow-pos (bits - 1)))
+
+      run : boxKeys x y z low high ≡ counting low (high - low + 1)
+      run = run-keys x y z low high (bits - 1) run-split (eqb-true _ _ (sym et ∙ k)) ∙ ap (counting low) (omega (arith, h .ordered))
+
+      run-long : length (boxKeys x y z low high) ≡ high - low + 1
+      run-long = rw run (length-counting low (high - low + 1))
+
+      pub run-count : at + length (boxKeys x y z low high) ≤ length d → length d < 2 ^ 64 → Fits w64 (high - low + 1)
+      run-count r m = record { fits = omega (arith, run-long) }
+
+      pub run-room : at + length (boxKeys x y z low high) ≤ length d → at + (high - low + 1) ≤ length d
+      run-room r = omega (arith, run-long)
+
+      pub run-next : {r : ℕ} → r ≡ at + (high - low + 1) → r ≡ at + length (boxKeys x y z low high)
+      run-next q = omega (arith, run-long)
+
+      pub run-left : {g : List ℕ} → g ≡ paste at (counting low (high - low + 1)) d → g ≡ paste at (boxKeys x y z low high) d
+      run-left q = rw run q
+
+    module _ {r : Halves} (q : Halved low high first (bits - 1) r) where
+      lower-grid : first + 2 ^ (bits - 1) ≤ 2 ^ h .corners .bits
+      lower-grid = omega (arith, h .grid, doubled)
+
+      upper-grid : first + 2 ^ (bits - 1) + 2 ^ (bits - 1) ≤ 2 ^ h .corners .bits
+      upper-grid = omega (arith, h .grid, doubled)
+
+      pub upper-alone : r .lower .misses ≡ true → InHalf x y z low high (r .upper .first) (bits - 1)
+      upper-alone k =
+          rw (q .above)
+          (in-upper x y z low high first bits h (bits - 1) fewer
+          (missed-low x y z low high (h .corners) (h .ordered) first (bits - 1) lower-grid (q .lower) k (h .from)))
+
+      pub lower-alone : r .upper .misses ≡ true → InHalf x y z low high (r .lower .first) (bits - 1)
+      lower-alone k =
+          let e : high < first + 2 ^ (bits - 1) + 2 ^ (bits - 1) = omega (arith, h .to, doubled) in
+          rw (q .below)
+          (in-lower x y z low high first bits h (bits - 1) fewer
+          (missed-high x y z low high (h .corners) (h .ordered) (first + 2 ^ (bits - 1)) (bits - 1) upper-grid (q .upper) k e))
+
+      module _ (k : r .lower .misses ≡ false) (l : r .upper .misses ≡ false) where
+        low-here : low < first + 2 ^ (bits - 1)
+        low-here = met-low x y z low high (h .corners) (h .ordered) first (bits - 1) lower-grid (q .lower) k
+
+        high-here : first + 2 ^ (bits - 1) ≤ high
+        high-here = met-high x y z low high (h .corners) (h .ordered) (first + 2 ^ (bits - 1)) (bits - 1) upper-grid (q .upper) l
+
+        pub split : SplitAt low high (bits - 1)
+        split = split-here x y z low high first bits h (bits - 1) fewer low-here high-here
+
+        pub box-corners : BoxCorners x y z low high
+        box-corners = h .corners
+
+        module _ {b : Cut} (v : CutBox x y z low high (bits - 1) b) where
+          pub lower-box : InHalf x y z low (b .last) (r .lower .first) (bits - 1)
+          lower-box = rw (v .last, q .below) (lower-part x y z low high first bits h (bits - 1) fewer low-here high-here (v .owns))
+
+          pub upper-box : InHalf x y z (b .first) high (r .upper .first) (bits - 1)
+          upper-box = rw (v .first, q .above) (upper-part x y z low high first bits h (bits - 1) fewer low-here high-here (v .owns))
+
+          halves : boxKeys x y z low high ≡ boxKeys x y z low (b .last) ++ boxKeys x y z (b .first) high
+          halves = rw (v .last, v .first) (keys-split x y z low high (bits - 1) (v .own) (h .corners) split (v .owns))
+
+          lengths : length (boxKeys x y z low high) ≡ length (boxKeys x y z low (b .last)) + length (boxKeys x y z (b .first) high)
+          lengths = rw (halves, length-append)
+
+          module _ (room : at + length (boxKeys x y z low high) ≤ length d) where
+            pub last-room : at + length (boxKeys x y z low (b .last)) ≤ length d
+            last-room = omega (arith, lengths)
+
+            module _ {next : ℕ} {g : List ℕ} (en : next ≡ at + length (boxKeys x y z low (b .last))) (eq : g ≡ paste at (boxKeys x y z low (b .last)) d) where
+              pub first-room : next + length (boxKeys x y z (b .first) high) ≤ length g
+              first-room = rw (eq, length-paste at (boxKeys x y z low (b .last)) d last-room) (omega (arith, lengths))
+
+              pub both-next : {m : ℕ} → m ≡ next + length (boxKeys x y z (b .first) high) → m ≡ at + length (boxKeys x y z low high)
+              both-next e = omega (arith, lengths)
+
+              pub both-left : {m : List ℕ} → m ≡ paste next (boxKeys x y z (b .first) high) g → m ≡ paste at (boxKeys x y z low high) d
+              both-left e =
+                  rw halves
+                  (paste-then at next (boxKeys x y z low (b .last)) (boxKeys x y z (b .first) high) d eq e (sym en) (omega (arith, lengths)))
 
 pub run-reach : (low high : ℕ) → low ≤ high → Fits w64 high → low + (high - low + 1) ≤ 2 ^ 64
 run-reach low high l f = omega (arith, f .fits)
-
-module _ (x y z low high at : ℕ) (d : List ℕ) (c : BoxCorners x y z low high) {n : ℕ} (w : SplitAt low high n) where
-  pub axes-here : Axes x y z n
-  axes-here = axes-at x y z low high n c w
-
-  pub bit-below : 2 ^ n ≤ high
-  bit-below = omega (arith, high-is low high n 0 w)
-
-  module _ {own : ℕ} (s : Owns x y z n own) where
-    pub first-reach : Fits w64 high → firstAbove own low n < 2 ^ 64
-    first-reach f = omega (arith, first-high x y z low high n own c w s, f .fits)
-
-    module _ {first : ℕ} (ef : first ≡ firstAbove own low n) where
-      pub first-corner : BoxCorners x y z first high
-      first-corner = rw ef (first-corners x y z low high n own c w s)
-
-      pub first-before : first ≤ high
-      first-before = rw ef (first-high x y z low high n own c w s)
-
-      pub first-falls : low ≤ high → Fits w64 high → {t : ℕ} → bitsLeft low high ≡ t → bitsLeft first high < t
-      first-falls l f e =
-          let h : first < 2 ^ 64 = omega (arith, first-before, f .fits) in
-          let m : bitsLeft first high ≤ n = left-le first high h (f .fits) n (rw ef (first-div low high n own w ∙ sym (w .next))) in
-          omega (arith, left-gt low high (omega (arith, f .fits)) (f .fits) n w)
-
-    module _ {last : ℕ} (el : last ≡ lastBelow own high n) where
-      pub last-corner : BoxCorners x y z low last
-      last-corner = rw el (last-corners x y z low high n own c w s)
-
-      pub last-after : low ≤ last
-      last-after = rw el (low-last x y z low high n own c w s)
-
-      pub last-falls : low ≤ high → Fits w64 high → {t : ℕ} → bitsLeft low high ≡ t → bitsLeft low last < t
-      last-falls l f e =
-          let h : last < 2 ^ 64 = rw el (omega (arith, last-lt x y z low high n own c w s, f .fits)) in
-          let m : bitsLeft low last ≤ n = left-le low last (omega (arith, f .fits)) h n (rw el (sym (last-div low high n own w))) in
-          omega (arith, left-gt low high (omega (arith, f .fits)) (f .fits) n w)
-
-      pub last-room : at + length (boxKeys x y z low high) ≤ length d → at + length (boxKeys x y z low last) ≤ length d
-      last-room h = rw el (omega (arith, simp length-append at (ap length (keys-split x y z low high n own c w s))))
-
-      module _ {first : ℕ} (ef : first ≡ firstAbove own low n) where
-        halves : boxKeys x y z low high ≡ boxKeys x y z low last ++ boxKeys x y z first high
-        halves = rw (el, ef) (keys-split x y z low high n own c w s)
-
-        lengths : length (boxKeys x y z low high) ≡ length (boxKeys x y z low last) + length (boxKeys x y z first high)
-        lengths = rw (halves, length-append)
-
-        module _ {next : ℕ} {f : List ℕ} (room : at + length (boxKeys x y z low high) ≤ length d)
-            (en : next ≡ at + length (boxKeys x y z low last)) (eq : f ≡ paste at (boxKeys x y z low last) d) where
-          pub first-room : next + length (boxKeys x y z first high) ≤ length f
-          first-room =
-              let l : at + length (boxKeys x y z low last) ≤ length d = omega (arith, lengths) in
-              rw (eq, length-paste at (boxKeys x y z low last) d l) (omega (arith, lengths))
-
-          pub both-next : {r : ℕ} → r ≡ next + length (boxKeys x y z first high) → r ≡ at + length (boxKeys x y z low high)
-          both-next q = omega (arith, lengths)
-
-          pub both-left : {r : List ℕ} → r ≡ paste next (boxKeys x y z first high) f → r ≡ paste at (boxKeys x y z low high) d
-          both-left q =
-              rw halves
-              (paste-then at next (boxKeys x y z low last) (boxKeys x y z first high) d eq q (sym en) (omega (arith, lengths)))
 
 -- ---- the whole grid
 module _ (p : Part) {t : Bool} (e : t ≡ missed p) where
@@ -165,11 +200,8 @@ module _ (p : Part) {t : Bool} (e : t ≡ missed p) where
 module _ (g : Extents) (p : Part) (f : Framed g p) (s : Sized p) {t : Bool} (e : t ≡ missed p) (k : t ≡ false) (d : List ℕ) {x y z low high : ℕ}
     (ex : x ≡ keyOf g (on-x (2 ^ 32 - 1))) (ey : y ≡ keyOf g (on-y (2 ^ 32 - 1))) (ez : z ≡ keyOf g (on-z (2 ^ 32 - 1))) where
   module _ {a b : Cell} (ea : a ≡ firstCell p) (eb : b ≡ lastCell p) (el : low ≡ keyOf g a) (eh : high ≡ keyOf g b) where
-    pub whole-corners : BoxCorners x y z low high
-    whole-corners = rw (ex, ey, ez, el, eh, ea, eb) (corners g p f s (sym e ∙ k))
-
-    pub whole-ordered : low ≤ high
-    whole-ordered = rw (el, eh, ea, eb) (ordered g p f s (sym e ∙ k))
+    pub whole-half : keyBits g ≤ 64 → {bits : ℕ} → bits ≡ keyBits g → InHalf x y z low high 0 bits
+    whole-half m q = rw (ex, ey, ez, el, eh, ea, eb, q) (in-grid g p f s (sym e ∙ k) m)
 
     keys : partKeys p 0 ≡ boxKeys x y z low high
     keys = rw (ex, ey, ez, el, eh, ea, eb) (box-is g p f s (sym e ∙ k))
@@ -185,27 +217,31 @@ module _ (g : Extents) (p : Part) (f : Framed g p) (s : Sized p) {t : Bool} (e :
 
 pub ruleset counts = (count-first, count-next, count-last, needs)
 
-pub ruleset searching = (whole-some, whole-none, whole-kept, whole-corners, whole-ordered, whole-room, whole-count, whole-left, needs)
+pub ruleset searching = (whole-some, whole-none, whole-kept, whole-half, whole-room, whole-count, whole-left, needs)
 
 pub ruleset walking = (
   one-room,
   one-next,
   one-left,
+  box-ordered,
+  left-few,
   run-count,
   run-room,
   run-reach,
   run-next,
   run-left,
-  axes-here,
-  bit-below,
-  first-reach,
-  both-next,
-  both-left,
+  halvable,
   needs,
 )
 
-pub ruleset lower = (last-corner, last-after, last-falls, last-room, needs)
+pub ruleset alone = (left-falls, upper-alone, lower-alone, needs)
 
-pub ruleset upper = (first-corner, first-before, first-falls, first-room, needs)
+pub ruleset parting = (left-few, split, box-corners, needs)
+
+pub ruleset lower = (left-falls, lower-box, last-room, needs)
+
+pub ruleset upper = (left-falls, upper-box, first-room, needs)
+
+pub ruleset joining = (both-next, both-left, needs)
 
 pub ruleset ways = (missed-x, missed-y, missed-z, some-x, some-y, some-z, needs)

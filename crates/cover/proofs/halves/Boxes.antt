@@ -1,4 +1,4 @@
--- Boxes between two keys, in two at the highest bit in which these differ.
+-- Boxes between two keys, in two at a bit with one of the keys on each side.
 use Prim.Native.Nat.{ℕ, suc, _+_, _-_, _*_, _/_, _%_, _^_, _≤_, _<_, min}
 use mathlib.Core.Path.{_≡_, refl, sym, ap, ap₂, _∙_}
 use mathlib.Core.Bool.{Bool, true, false, _&&_}
@@ -62,7 +62,11 @@ module _ (low high n own : ℕ) (w : SplitAt low high n) where
   last-fits : bitOr (high % 2 ^ n) (own % 2 ^ n) < 2 ^ n
   last-fits = or-lt n _ _ (mod-lt high (pow-pos n)) (mod-lt own (pow-pos n))
 
-  pub last-div : lastBelow own high n / 2 ^ n ≡ p
+  -- the box's last key of the lower half lies in that half
+  pub last-mid : lastBelow own high n < mid
+  last-mid = rw suc-mul (omega (arith, last-is, last-fits))
+
+  last-div : lastBelow own high n / 2 ^ n ≡ p
   last-div = rw last-is (div-of p n last-fits)
 
   last-mod : lastBelow own high n % 2 ^ n ≡ bitOr (high % 2 ^ n) (own % 2 ^ n)
@@ -78,7 +82,11 @@ module _ (low high n own : ℕ) (w : SplitAt low high n) where
   first-fits : low % 2 ^ n - bitAnd (low % 2 ^ n) (own % 2 ^ n) < 2 ^ n
   first-fits = omega (arith, mod-lt low (pow-pos n))
 
-  pub first-div : firstAbove own low n / 2 ^ n ≡ suc p
+  -- and its first key of the upper half in that one
+  pub mid-first : mid ≤ firstAbove own low n
+  mid-first = omega (arith, first-is)
+
+  first-div : firstAbove own low n / 2 ^ n ≡ suc p
   first-div = rw first-is (div-of (suc p) n first-fits)
 
   first-mod : firstAbove own low n % 2 ^ n ≡ low % 2 ^ n - bitAnd (low % 2 ^ n) (own % 2 ^ n)
@@ -131,7 +139,7 @@ module _ (low high n own : ℕ) (w : SplitAt low high n) where
 
 -- ---- along each axis
 -- a number from the begin of block q up to its end
-block-of : (n q k : ℕ) → q * 2 ^ n ≤ k → k < suc q * 2 ^ n → k / 2 ^ n ≡ q
+pub block-of : (n q k : ℕ) → q * 2 ^ n ≤ k → k < suc q * 2 ^ n → k / 2 ^ n ≡ q
 block-of n q k l h =
     let a : q ≤ k / 2 ^ n = le-div-iff-mul-le (pow-pos n) .1 l in
     let b : k / 2 ^ n < suc q = div-lt-iff-lt-mul (pow-pos n) .1 h in
@@ -181,7 +189,7 @@ module _ (x y z low high n own : ℕ) (c : BoxCorners x y z low high) (w : Split
   pub first-gt : low < first
   first-gt = omega (arith, first-is low high n own w, low-is low high n own w, mod-lt low (pow-pos n), suc-mul (low / 2 ^ n) (2 ^ n))
 
-  pub last-corners : BoxCorners x y z low last
+  unfoldable pub last-corners : BoxCorners x y z low last
   last-corners =
       record {
         x = last-holds low high n own w (s .x) low refl (c .x);
@@ -192,7 +200,7 @@ module _ (x y z low high n own : ℕ) (c : BoxCorners x y z low high) (w : Split
         whole = c .whole;
       }
 
-  pub first-corners : BoxCorners x y z first high
+  unfoldable pub first-corners : BoxCorners x y z first high
   first-corners =
       record {
         x = first-holds low high n own w (s .x) high (w .next) (c .x);

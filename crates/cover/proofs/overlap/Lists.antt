@@ -1,10 +1,11 @@
 -- The numbers of a range that pass a test.
-use Prim.Native.Nat.{ℕ, zero, suc, _+_, _≤_, _<_}
+use Prim.Native.Nat.{ℕ, zero, suc, _+_, _-_, _≤_, _<_}
 use mathlib.Core.Path.{_≡_, refl, ap, _∙_}
 use mathlib.Core.Bool.{Bool, true, false}
 use mathlib.Core.List.{List, [], _++_}
 use native.Mathlib.Omega.{arith}
 use native.Mathlib.Nat.{zero-add, add-zero}
+use lib.ListN.{length, length-append}
 use Rattle.cover.specs.overlap.Cover.{keep, passing}
 
 keep-append : (b : Bool) (k : ℕ) (xs ys : List ℕ) → keep b k (xs ++ ys) ≡ keep b k xs ++ ys
@@ -37,3 +38,20 @@ passing-none p k (suc n) h = rw (h k) (passing-none p (suc k) n h)
 -- no number of the range passes
 pub passing-nothing : (test : ℕ → Bool) (k n : ℕ) → ((i : ℕ) → k ≤ i → i < k + n → test i ≡ false) → passing test k n ≡ []
 passing-nothing test k n h = passing-same test (λ i. false) k n h ∙ passing-none (λ i. false) k n (λ i. refl)
+
+-- some number of the range passes
+first-kept : (test : ℕ → Bool) (k n : ℕ) → test k ≡ true → 0 < length (passing test k (suc n))
+unfolding passing keep
+first-kept test k n t = let e : length (passing test k (suc n)) ≡ suc (length (passing test (suc k) n)) = rw t in omega arith
+
+later-kept : (test : ℕ → Bool) (k m n : ℕ) → test (k + m) ≡ true → 0 < length (passing test k (m + suc n))
+later-kept test k m n t =
+    let e = ap length (passing-split test k m (suc n)) ∙ length-append (passing test k m) (passing test (k + m) (suc n)) in
+    omega (arith, first-kept test (k + m) n t)
+
+pub passing-some : (test : ℕ → Bool) (k n i : ℕ) → k ≤ i → i < k + n → test i ≡ true → 0 < length (passing test k n)
+passing-some test k n i l h t =
+    let e : (i - k) + suc (n - suc (i - k)) ≡ n = omega arith in
+    let f : k + (i - k) ≡ i = omega arith in
+    let g = later-kept test k (i - k) (n - suc (i - k)) (ap test f ∙ t) in
+    rw e at g

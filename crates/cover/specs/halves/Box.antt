@@ -1,11 +1,11 @@
 -- A box of cells, as its first and its last key, and its halves.
-use Prim.Native.Nat.{ℕ, zero, suc, _+_, _-_, _/_, _%_, _^_, _≤_, _<_}
+use Prim.Native.Nat.{ℕ, zero, suc, _+_, _-_, _*_, _/_, _%_, _^_, _≤_, _<_}
 use mathlib.Core.Path.{_≡_}
 use mathlib.Core.Bool.{Bool, _&&_}
 use mathlib.Core.List.{List, [], _∷_}
-use lib.Bits.{bitAnd, bitOr, bitXor}
-use lib.Count.{leadingZeros}
-use lib.Dec.{leb}
+use lib.Bits.{bitAnd, bitOr}
+use lib.Dec.{leb, eqb}
+use lib.ListN.{length}
 use Rattle.cover.specs.overlap.Cover.{passing}
 
 -- n numbers from k on
@@ -34,14 +34,35 @@ pub record BoxCorners (ax ay az low high : ℕ) : Type 0 where
   pub fits : high < 2 ^ bits
   pub whole : (k : ℕ) → k < 2 ^ bits → bitAnd k ax + bitAnd k ay + bitAnd k az ≡ k
 
--- n is the highest bit in which low, the smaller, and high differ
+-- "the highest key bit splits the grid in two": a half with `bits` bits left has the 2 ^ bits keys from `first` on, which have the
+-- higher bits in common. The box between low and high lies in it (RULES B5)
+pub record InHalf (ax ay az low high first bits : ℕ) : Type 0 where
+  pub corners : BoxCorners ax ay az low high
+  pub ordered : low ≤ high
+  pub number : ℕ
+  pub begins : first ≡ number * 2 ^ bits
+  pub from : first ≤ low
+  pub to : high < first + 2 ^ bits
+  pub grid : first + 2 ^ bits ≤ 2 ^ corners .bits
+  pub most : corners .bits ≤ 64
+
+-- the keys of the box in the half from `first` on that has n bits
+unfoldable pub halfKeys : ℕ → ℕ → ℕ → ℕ → ℕ → ℕ → ℕ → List ℕ
+halfKeys x y z low high first n = passing (inBox x y z low high) first (2 ^ n)
+
+-- the box does not reach beyond the half on both sides: it lies in this half and the other one
+pub data Beside (low high first n : ℕ) : Type 0 where
+  begun : first ≤ low → Beside low high first n
+  ended : high < first + 2 ^ n → Beside low high first n
+
+-- "a half that misses the box": no key of the box is in it, whatever bits the axes have
+pub record Misses (low high first n : ℕ) (r : Bool) : Type 0 where
+  pub told : (x y z : ℕ) (c : BoxCorners x y z low high) → first + 2 ^ n ≤ 2 ^ c .bits → r ≡ eqb (length (halfKeys x y z low high first n)) 0
+
+-- low and high lie in the two halves at bit n
 pub record SplitAt (low high n : ℕ) : Type 0 where
   pub even : low / 2 ^ n % 2 ≡ 0
   pub next : high / 2 ^ n ≡ suc (low / 2 ^ n)
-
--- how many bits are left: those up to that one (RULES B5)
-unfoldable pub bitsLeft : ℕ → ℕ → ℕ
-bitsLeft low high = 64 - leadingZeros 64 (bitXor low high)
 
 -- one axis has bit n, and below it no two share a bit
 pub record Axes (ax ay az n : ℕ) : Type 0 where
