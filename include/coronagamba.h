@@ -69,9 +69,14 @@
  * the caller's, CORONAGAMBA_INTAKE_NUMBERS numbers: the opening writes them, the
  * other calls read them and, unless they refuse, write the new ones. Each call
  * takes the state and both buffers as the last call left them; the state says
- * nothing that a caller need look at. A state whose numbers contradict each
- * other or the buffers is refused with 25, and whatever is lent, nothing past
- * it is touched.
+ * nothing that a caller need look at. Whatever is lent, nothing past it is
+ * touched. A state that no calls could have left is refused with 25, by the
+ * calls that see it. Each call sees where its numbers contradict each other, the
+ * buffers' lengths or the last pair of the second buffer. The close, and an
+ * announcement in another minishard than the open one, see all pairs of the open
+ * one: ids that do not rise or belong elsewhere, and sizes that do not add up to
+ * the bytes that came of it and are owed. No call sees bytes that were written
+ * to the output, nor whether minishards before the open one can have ids.
  *
  * Sheets. A holdings sheet is CORONAGAMBA_SHEET_ROWS numbers of the caller: the
  * calls that add to it read them and, unless they refuse, write the new ones.
@@ -244,8 +249,13 @@
 
 /* at an intake, a chunk is announced whose minishard is below the open one,
  * or is the open one and its id not above the last; or the shard was closed;
- * or the state's numbers contradict each other or the second buffer, so that
- * no calls could have left them */
+ * or the state's numbers contradict each other, the buffers' lengths or the
+ * last pair of the second buffer, so that no calls could have left them; at
+ * the close, and where the announced chunk is of another minishard than the
+ * open one, also where the pairs of the open one are none that calls could
+ * have left: an id is not above the one before it or belongs to another
+ * shard or minishard, or the sizes together are not the bytes that came of
+ * the minishard and are owed */
 #define CORONAGAMBA_REFUSED_INTAKE_ORDER 25
 
 /* at an intake, a part is longer than what is still owed, or a chunk is
@@ -664,7 +674,8 @@ uint64_t coronagamba_intake_open(coronagamba_sharding sharding, uint64_t shard,
  * its id and size to `waiting`, and the new state to `state`. Refusals: 30
  * where a buffer has another length than on opening, 10 where the id belongs
  * to another shard, 25 out of order or after the close or where the state
- * contradicts itself or `waiting`, 26 while bytes are owed, 13 where the
+ * contradicts itself or the last pair of `waiting` or any pair of a
+ * minishard that the call ends, 26 while bytes are owed, 13 where the
  * settled form of all announced so far and this chunk would pass `out` or 1
  * GiB or `waiting` has no 16 bytes left for it */
 uint64_t coronagamba_intake_announce(uint64_t state[15], uint64_t id,
@@ -675,7 +686,7 @@ uint64_t coronagamba_intake_announce(uint64_t state[15], uint64_t id,
  * none or all that are owed. Writes them to their final place in `out`, and
  * the new state to `state`. Refusals: 30 where a buffer has another length
  * than on opening, 25 after the close or where the state contradicts itself
- * or `waiting`, 26 where these are more bytes than are owed */
+ * or the last pair of `waiting`, 26 where these are more bytes than are owed */
 uint64_t coronagamba_intake_part(uint64_t state[15], const uint8_t *bytes,
                                  size_t count, uint8_t *out, size_t out_count,
                                  const uint8_t *waiting, size_t waiting_count);
@@ -684,7 +695,7 @@ uint64_t coronagamba_intake_part(uint64_t state[15], const uint8_t *bytes,
  * delivered. Writes its number of bytes to `length`, and to `state` a state
  * with which each further call is refused. Refusals: 30 where a buffer has
  * another length than on opening, 25 after the close or where the state
- * contradicts itself or `waiting`, 26 while bytes are owed */
+ * contradicts itself or any pair of `waiting`, 26 while bytes are owed */
 uint64_t coronagamba_intake_close(uint64_t state[15], uint8_t *out,
                                   size_t count, const uint8_t *waiting,
                                   size_t waiting_count, uint64_t *length);

@@ -658,9 +658,10 @@ FUNCTIONS: Dict[str, Tuple[Any, Tuple[Any, ...]]] = {
     # Writes its id and size to `waiting`, and the new state to `state`.
     # Refusals: 30 where a buffer has another length than on opening, 10 where
     # the id belongs to another shard, 25 out of order or after the close or
-    # where the state contradicts itself or `waiting`, 26 while bytes are owed,
-    # 13 where the settled form of all announced so far and this chunk would
-    # pass `out` or 1 GiB or `waiting` has no 16 bytes left for it
+    # where the state contradicts itself or the last pair of `waiting` or any
+    # pair of a minishard that the call ends, 26 while bytes are owed, 13 where
+    # the settled form of all announced so far and this chunk would pass `out`
+    # or 1 GiB or `waiting` has no 16 bytes left for it
     "coronagamba_intake_announce": (
         ctypes.c_uint64,
         (
@@ -677,8 +678,8 @@ FUNCTIONS: Dict[str, Tuple[Any, Tuple[Any, ...]]] = {
     # none or all that are owed. Writes them to their final place in `out`, and
     # the new state to `state`.
     # Refusals: 30 where a buffer has another length than on opening, 25 after
-    # the close or where the state contradicts itself or `waiting`, 26 where
-    # these are more bytes than are owed
+    # the close or where the state contradicts itself or the last pair of
+    # `waiting`, 26 where these are more bytes than are owed
     "coronagamba_intake_part": (
         ctypes.c_uint64,
         (
@@ -695,8 +696,8 @@ FUNCTIONS: Dict[str, Tuple[Any, Tuple[Any, ...]]] = {
     # delivered. Writes its number of bytes to `length`, and to `state` a state
     # with which each further call is refused.
     # Refusals: 30 where a buffer has another length than on opening, 25 after
-    # the close or where the state contradicts itself or `waiting`, 26 while
-    # bytes are owed
+    # the close or where the state contradicts itself or any pair of `waiting`,
+    # 26 while bytes are owed
     "coronagamba_intake_close": (
         ctypes.c_uint64,
         (

@@ -50,9 +50,10 @@ pub extern "C" fn coronagamba_intake_open(
 // are owed from then on. Where it is the first of its minishard, writes the minishard index of the one
 // before to `out`. Writes its id and size to `waiting`, and the new state to `state`.
 // Refusals: 30 where a buffer has another length than on opening, 10 where the id belongs to another
-// shard, 25 out of order or after the close or where the state contradicts itself or `waiting`, 26
-// while bytes are owed, 13 where the settled form of all announced so far and this chunk would pass
-// `out` or 1 GiB or `waiting` has no 16 bytes left for it
+// shard, 25 out of order or after the close or where the state contradicts itself or the last pair of
+// `waiting` or any pair of a minishard that the call ends, 26 while bytes are owed, 13 where the settled
+// form of all announced so far and this chunk would pass `out` or 1 GiB or `waiting` has no 16 bytes
+// left for it
 #[no_mangle]
 pub extern "C" fn coronagamba_intake_announce(
     state: &mut [u64; 15],
@@ -74,7 +75,8 @@ pub extern "C" fn coronagamba_intake_announce(
 // Hands over the next bytes of the announced chunk, as many as are given, none or all that are owed.
 // Writes them to their final place in `out`, and the new state to `state`.
 // Refusals: 30 where a buffer has another length than on opening, 25 after the close or where
-// the state contradicts itself or `waiting`, 26 where these are more bytes than are owed
+// the state contradicts itself or the last pair of `waiting`, 26 where these are more bytes than are
+// owed
 #[no_mangle]
 pub extern "C" fn coronagamba_intake_part(
     state: &mut [u64; 15],
@@ -100,7 +102,7 @@ pub extern "C" fn coronagamba_intake_part(
 // Closes the shard: `out` then begins with the settled form of what was delivered. Writes its number
 // of bytes to `length`, and to `state` a state with which each further call is refused.
 // Refusals: 30 where a buffer has another length than on opening, 25 after the close or where
-// the state contradicts itself or `waiting`, 26 while bytes are owed
+// the state contradicts itself or any pair of `waiting`, 26 while bytes are owed
 #[no_mangle]
 pub extern "C" fn coronagamba_intake_close(
     state: &mut [u64; 15],

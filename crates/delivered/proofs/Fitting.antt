@@ -1,7 +1,7 @@
 -- No call refuses a state that calls left: 30 and 25 are for other buffers, forged states, wrong order, and after the close.
 use Prim.Native.Nat.{ℕ, _+_, _*_, _^_, _<_}
 use mathlib.Core.Path.{_≡_, refl, sym, ap, _∙_}
-use mathlib.Core.Bool.{Bool, true, false}
+use mathlib.Core.Bool.{Bool, true, false, not, and-false}
 use mathlib.Core.List.{List}
 use native.Mathlib.Omega.{arith}
 use lib.Dec.{eqb}
@@ -18,8 +18,8 @@ use Rattle.intake.specs.waiting.Held.{pair, indexHeld}
 use Rattle.intake.proofs.waiting.Writing.{length-index}
 use Rattle.intake.proofs.waiting.Pairs.{pair-kept}
 use Rattle.intake.specs.declared.state.Intake.{Intake}
-use Rattle.intake.specs.state.State.{sane, Usable}
-use Rattle.intake.specs.tests.Tests.{otherLengths, unusable, countIn}
+use Rattle.intake.specs.state.State.{sane, announceable, Usable}
+use Rattle.intake.specs.tests.Tests.{otherLengths, unusable, forged, forgedTurn, countIn}
 use Rattle.intake.specs.admission.Refusals.{announceChecks}
 use Rattle.intake.proofs.admission.Passing.{opens, announces, hands}
 use Rattle.intake.specs.declared.IntakeAnswer.the-variants.{Next}
@@ -30,7 +30,7 @@ use Rattle.intake.proofs.Refused.{open-told, announce-told, part-told}
 use Rattle.delivered.specs.Delivered.{Delivery}
 use Rattle.delivered.specs.Runs.{Desk, afterAnnounce, HandsOver, no-part, part, Delivers, no-chunk, chunk, Takes}
 use Rattle.delivered.proofs.Keeping.{takes-idle}
-use Rattle.delivered.proofs.Reached.{opened-sane, taken-sane, turns, announced-sane}
+use Rattle.delivered.proofs.Reached.{opened-sane, taken-sane, turns, announced-sane, opened-announceable, taken-announceable, announced-announceable}
 
 -- ---- each step leaves buffers of the same lengths
 
@@ -71,6 +71,7 @@ pub record Fit (spec : Sharding) (shard output waiting : ℕ) (d : Desk) : Type 
   pub output-length : length (d .output) ≡ output
   pub waiting-length : length (d .waiting) ≡ waiting
   pub sound : sane (d .state) (d .waiting) ≡ true
+  pub pairs : announceable (d .state) (d .waiting) ≡ true
   pub unclosed : d .state .phase ≡ 0
 
 module _ {spec : Sharding} {shard output waiting : ℕ} where
@@ -84,7 +85,15 @@ module _ {spec : Sharding} {shard output waiting : ℕ} where
   unfolding unusable
   fit-usable f = rw (f .sound, f .unclosed)
 
-  hands-fit : {d e : Desk} {parts : List (List ℕ)} → HandsOver d parts e → Fit spec shard output waiting d → Fit spec shard output waiting e
+  pub fit-forged : {d : Desk} → Fit spec shard output waiting d → forged (d .state) (d .waiting) ≡ false
+  unfolding forged
+  fit-forged f = rw (f .pairs)
+
+  pub fit-turn : {d : Desk} → Fit spec shard output waiting d → (id : ℕ) → forgedTurn (d .state) id (d .waiting) ≡ false
+  unfolding forgedTurn
+  fit-turn {d} f id = rw (fit-forged f) (and-false (not (eqb (minishardOf (d .state .spec) id) (d .state .minishard))))
+
+  pub hands-fit : {d e : Desk} {parts : List (List ℕ)} → HandsOver d parts e → Fit spec shard output waiting d → Fit spec shard output waiting e
   hands-fit no-part f = f
   hands-fit {d} (part {bytes = bytes} {parts = parts} {s = s} q r) f =
       let t = d .state in
@@ -103,10 +112,11 @@ module _ {spec : Sharding} {shard output waiting : ℕ} where
         output-length = ap length (sym v) ∙ l ∙ f .output-length;
         waiting-length = f .waiting-length;
         sound = taken-sane t (length bytes) (d .waiting) (f .sound) (p .due);
+        pairs = taken-announceable t (length bytes) (d .waiting) (p .due) (f .pairs);
         unclosed = f .unclosed;
       }))
 
-  announce-fit : {d : Desk} (x : Delivery) → x .id < 2 ^ 64 → firstNumber (announceChecks (d .state) (x .id) (x .size) (length (d .output)) (d .waiting)) ≡ 0
+  pub announce-fit : {d : Desk} (x : Delivery) → x .id < 2 ^ 64 → firstNumber (announceChecks (d .state) (x .id) (x .size) (length (d .output)) (d .waiting)) ≡ 0
       → Fit spec shard output waiting d → Fit spec shard output waiting (afterAnnounce d (x .id) (x .size) (announced (d .state) (x .id) (x .size)))
   announce-fit {d} x b z f =
       let t = d .state in
@@ -125,6 +135,7 @@ module _ {spec : Sharding} {shard output waiting : ℕ} where
         output-length = ap length (sym v) ∙ length-turned t m (d .output) (d .waiting) (p .usual) ∙ f .output-length;
         waiting-length = ap length (sym w) ∙ pair-kept (16 * countIn t m) (x .id) (x .size) (d .waiting) (omega (arith, p .slot, p .usual .waits)) ∙ f .waiting-length;
         sound = rw (← w) (announced-sane t (x .id) (x .size) (length (d .output)) (d .waiting) p b);
+        pairs = rw (← w) (announced-announceable t (x .id) (x .size) (length (d .output)) (d .waiting) p b (f .pairs));
         unclosed = q .phase ∙ f .unclosed;
       }
 
@@ -135,7 +146,7 @@ module _ {spec : Sharding} {shard output waiting : ℕ} where
       let u = announce-told (d .state) (x .id) (x .size) (d .output) (d .waiting) q in
       hands-fit r (rw (← u .1) (announce-fit x b (u .0) h))
 
-  delivers-fit : {d f : Desk} {xs : List Delivery} → Delivers d xs f → Fit spec shard output waiting d → Fit spec shard output waiting f
+  pub delivers-fit : {d f : Desk} {xs : List Delivery} → Delivers d xs f → Fit spec shard output waiting d → Fit spec shard output waiting f
   delivers-fit no-chunk h = h
   delivers-fit (chunk {x = x} l q r rest) h = delivers-fit rest (chunk-fit x l q r h)
 
@@ -157,6 +168,7 @@ module _ {spec : Sharding} {shard : ℕ} {out waiting : List ℕ} {xs : List Del
         output-length = ap length (i .output) ∙ l;
         waiting-length = ap length (i .waiting);
         sound = opened-sane spec shard (length out) (length waiting) (t .first .waiting) p;
+        pairs = opened-announceable spec shard (length out) (length waiting) (t .first .waiting);
         unclosed = refl;
       })
 

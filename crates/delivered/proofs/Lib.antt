@@ -7,6 +7,7 @@ pub mod Keeping
 pub mod Reached
 pub mod Fitting
 pub mod Risen
+pub mod Placing
 pub mod Room
 pub mod Says
 pub mod Laws

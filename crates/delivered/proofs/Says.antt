@@ -1,7 +1,7 @@
 -- The refusal of each call, said of what was delivered alone.
 use Prim.Native.Nat.{ℕ, zero, suc, _+_, _-_, _<_}
 use mathlib.Core.Path.{_≡_, refl, sym, ap, _∙_}
-use mathlib.Core.Bool.{Bool, true, false, not, _&&_, or-true}
+use mathlib.Core.Bool.{Bool, true, false, not, _&&_, or-true, or-false}
 use mathlib.Core.List.{List, [], _∷_}
 use native.Mathlib.Omega.{arith}
 use lib.Dec.{ltb, eqb}
@@ -29,7 +29,7 @@ use Rattle.delivered.specs.Runs.{Desk, afterAnnounce, afterClose, HandsO
 use Rattle.delivered.specs.Says.{notAfter, owing, announceSays, partSays, closeSays}
 use Rattle.delivered.proofs.Handing.{handed}
 use Rattle.delivered.proofs.Keeping.{turned-there, takes-idle}
-use Rattle.delivered.proofs.Fitting.{length-ended, Fit, fit-lengths, fit-usable, chunk-fit, first-fit, takes-fit}
+use Rattle.delivered.proofs.Fitting.{length-ended, Fit, fit-lengths, fit-usable, fit-forged, fit-turn, chunk-fit, first-fit, takes-fit}
 use Rattle.delivered.proofs.Room.{room-is}
 
 and-none : (b : Bool) → b && false ≡ false
@@ -116,7 +116,7 @@ module _ {spec : Sharding} {shard : ℕ} {out waiting : List ℕ} {xs : List Del
   announce-says x e =
       let f = takes-fit t in
       let w : ltb 0 (d .state .owed) ≡ ltb 0 (owing xs) = ap (ltb 0) takes-owed in
-      rw (fit-lengths f, takes-foreign (x .id), fit-usable f, takes-order (x .id), w)
+      rw (fit-lengths f, takes-foreign (x .id), fit-usable f, takes-order (x .id), fit-turn f (x .id), or-false (notAfter spec xs (x .id)), w)
       (ap (pick (not (eqb (shardOf spec (x .id)) shard)) 10)
       (under-both (notAfter spec xs (x .id)) (ltb 0 (owing xs))
       (λ o q.
@@ -130,7 +130,7 @@ module _ {spec : Sharding} {shard : ℕ} {out waiting : List ℕ} {xs : List Del
 
   pub close-says : firstNumber (closeChecks (d .state) (length (d .output)) (d .waiting)) ≡ firstNumber (closeSays xs)
   unfolding firstNumber closeChecks closeSays
-  close-says = let f = takes-fit t in rw (fit-lengths f, fit-usable f, takes-owed)
+  close-says = let f = takes-fit t in rw (fit-lengths f, fit-usable f, fit-forged f, takes-owed)
 
 -- ---- after the close
 

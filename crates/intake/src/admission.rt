@@ -8,6 +8,8 @@ use crate::sanity::is_not_volume;
 use crate::sanity::most_bytes;
 use crate::state::Intake;
 use crate::tests::is_foreign;
+use crate::tests::is_forged;
+use crate::tests::is_forged_turn;
 use crate::tests::is_full;
 use crate::tests::is_other;
 use crate::tests::is_out_of_order;
@@ -56,6 +58,9 @@ pub fn close_refusal(state: Intake, output: usize, waiting: &[u8]) -> u8
     if is_unusable(state, waiting) {
         return 25;
     }
+    if is_forged(state, waiting) {
+        return 25;
+    }
     if state.owed != 0 {
         return 26;
     }
@@ -76,6 +81,9 @@ pub fn announce_refusal(state: Intake, id: u64, size: usize, output: usize, wait
     }
     let m = minishard_of(state.spec, id);
     if is_out_of_order(state, m, id) {
+        return 25;
+    }
+    if is_forged_turn(state, m, id, waiting) {
         return 25;
     }
     if 0 < state.owed {

@@ -6,9 +6,10 @@ ghost use Prim.Native.Nat.{_+_, _*_, _<_, _≤_};
 ghost use lib.Dec.{leb};
 ghost use lib.ListN.{length};
 ghost use Rattle.sharding.specs.Specification.{allowed};
-ghost use Rattle.intake.specs.state.State.{most, announcedLength, notVolume, fresh, placed, begun, going, sane};
+ghost use Rattle.intake.specs.state.State.{most, announcedLength, notVolume, fresh, belongs, placed, begun, going, sane, follows, announceable};
 use crate::state::Intake;
 use crate::state::holds_last;
+use endian::read_u64;
 use shard::lengths::MOST_SHARD_BYTES;
 use shard::lengths::index_length;
 use sharding::Sharding;
@@ -69,13 +70,19 @@ fn is_fresh(state: Intake) -> bool
         & ((state.last == 0) & ((state.begin == 0) & ((state.next == 0) & (state.owed == 0))))
 }
 
+fn does_belong(state: Intake, id: u64) -> bool
+    requires { ⌜ allowed (state .spec) ≡ true ⌝ }
+    ensures { λ r. ⌜ r ≡ belongs state id ⌝ }
+{
+    let at = place(state.spec, id);
+    (at.shard == state.shard) & (at.minishard == state.minishard)
+}
+
 fn is_placed(state: Intake) -> bool
     requires { ⌜ (allowed (state .spec) ≡ true) × (0 < state .count) ⌝ }
     ensures { λ r. ⌜ r ≡ placed state ⌝ }
 {
-    let at = place(state.spec, state.last);
-    (at.shard == state.shard)
-        & ((at.minishard == state.minishard) & ((state.count - 1) as u64 <= state.last))
+    does_belong(state, state.last) & ((state.count - 1) as u64 <= state.last)
 }
 
 fn has_begun(state: Intake) -> bool
@@ -120,4 +127,41 @@ pub fn is_sane(state: Intake, waiting: &[u8]) -> bool
         return is_fresh(state);
     }
     is_going(state, waiting)
+}
+
+// ---- all pairs that wait
+
+// Whether pair i could have been announced behind those before it.
+fn can_follow(state: Intake, waiting: &[u8], i: usize) -> bool
+    requires { ⌜ (allowed (state .spec) ≡ true) × (16 * i + 16 ≤ length (now waiting)) ⌝ }
+    ensures { λ r. ⌜ r ≡ follows state (now (waiting .entry)) i ⌝ }
+{
+    let id = read_u64(waiting, 16 * i);
+    let here = does_belong(state, id);
+    if i == 0 {
+        return here;
+    }
+    let before = read_u64(waiting, 16 * (i - 1));
+    here & (before < id)
+}
+
+// Whether calls could have left the pairs of a state that passed: what came of the open minishard or is owed is shared out among them.
+pub fn pairs_could_be(state: Intake, waiting: &[u8]) -> bool
+    requires { ⌜ (sane state (now waiting) ≡ true) × (state .waiting ≡ length (now waiting)) ⌝ }
+    ensures { λ r. ⌜ r ≡ announceable state (now (waiting .entry)) ⌝ }
+{
+    let mut left = state.next + state.owed - state.begin;
+    let mut i = 0;
+    while i < state.count {
+        if !can_follow(state, waiting, i) {
+            return false;
+        }
+        let size = read_u64(waiting, 16 * i + 8) as usize;
+        if left < size {
+            return false;
+        }
+        left -= size;
+        i += 1;
+    }
+    left == 0
 }

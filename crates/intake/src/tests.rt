@@ -6,10 +6,11 @@ ghost use Prim.Native.Nat.{_*_, _≤_};
 ghost use lib.ListN.{length};
 ghost use Rattle.sharding.specs.Specification.{allowed};
 ghost use Rattle.sharding.specs.placement.Place.{minishardOf};
-ghost use Rattle.intake.specs.state.State.{most, announcedLength};
-ghost use Rattle.intake.specs.tests.Tests.{otherLengths, foreign, unusable, outOfOrder, countIn, noRoom};
+ghost use Rattle.intake.specs.state.State.{most, announcedLength, sane};
+ghost use Rattle.intake.specs.tests.Tests.{otherLengths, foreign, unusable, outOfOrder, forged, forgedTurn, countIn, noRoom};
 use crate::sanity::is_sane;
 use crate::sanity::most_bytes;
+use crate::sanity::pairs_could_be;
 use crate::state::Intake;
 use shard::lengths::index_length;
 use sharding::limits::is_allowed;
@@ -30,6 +31,15 @@ pub fn is_unusable(state: Intake, waiting: &[u8]) -> bool
     !is_sane(state, waiting) | (state.phase != 0)
 }
 
+// ---- a call that ends the open minishard
+
+pub fn is_forged(state: Intake, waiting: &[u8]) -> bool
+    requires { ⌜ (sane state (now waiting) ≡ true) × (state .waiting ≡ length (now waiting)) ⌝ }
+    ensures { λ r. ⌜ r ≡ forged state (now (waiting .entry)) ⌝ }
+{
+    !pairs_could_be(state, waiting)
+}
+
 // ---- an announcement
 
 pub fn is_foreign(state: Intake, id: u64) -> bool
@@ -47,6 +57,18 @@ pub fn is_out_of_order(state: Intake, m: u64, id: u64) -> bool
     ensures { λ r. ⌜ r ≡ outOfOrder state id ⌝ }
 {
     (m < state.minishard) | ((m == state.minishard) & ((0 < state.count) & (id <= state.last)))
+}
+
+// Of an id of minishard m, which ends the open one where it is another.
+pub fn is_forged_turn(state: Intake, m: u64, id: u64, waiting: &[u8]) -> bool
+    requires { ⌜ m ≡ minishardOf (state .spec) id ⌝ }
+    requires { ⌜ (sane state (now waiting) ≡ true) × (state .waiting ≡ length (now waiting)) ⌝ }
+    ensures { λ r. ⌜ r ≡ forgedTurn state id (now (waiting .entry)) ⌝ }
+{
+    if m == state.minishard {
+        return false;
+    }
+    is_forged(state, waiting)
 }
 
 fn count_in(state: Intake, m: u64) -> usize

@@ -8,6 +8,7 @@ pub mod Standing
 pub mod Starts
 pub mod Orders
 pub mod Pairs
+pub mod Rows
 pub mod Intake
 pub mod Shortest
 pub mod Counted

@@ -1,7 +1,9 @@
-//! Intake: every refusal at every step, the room to the byte, and 1 GiB.
+//! Intake: every refusal at every step, the room to the byte, pairs that were
+//! changed, and 1 GiB.
 
 use coronagamba::intake::State;
 use coronagamba::{Refusal, Shard, Sharding, Unlisted};
+use reference::intake::{Call, Numbers};
 use reference::settle::settled_form;
 use testkit::{Lent, Rng};
 
@@ -224,6 +226,128 @@ fn any_cut() {
         assert_eq!(desk.step(Step::Close, [0, 0]), Ok(form.len()));
         assert!(desk.out.held()[..form.len()] == form);
     }
+}
+
+/// Four pairs of zeros before one of id 4, which no calls leave: a shard made of
+/// them would be refused with 9. The close sees them, and an announcement that
+/// ends the minishard; a part and an announcement in it look at the last pair.
+#[test]
+fn zeros_before_the_last_pair() {
+    let sharding = Sharding {
+        minishard_bits: 1,
+        shard_bits: 0,
+        ..SHARDING
+    };
+    let mut rng = Rng::new(1);
+    let (mut out, mut waiting) = (Lent::new(&mut rng, 200), Lent::new(&mut rng, 96));
+    let state = State::open(sharding, 0, out.part(), waiting.held()).expect("there is room");
+    let mut desk = Desk {
+        state,
+        out,
+        waiting: {
+            waiting.part().fill(0);
+            waiting.part()[64] = 4;
+            waiting
+        },
+    };
+    desk.state.numbers[9..11].copy_from_slice(&[5, 4]);
+    assert_eq!(desk.state.length(), 152);
+    desk.refuses(25, Step::Close, [0, 0]);
+    desk.refuses(25, Step::Announce(1, 0), [0, 0]);
+    assert_eq!(desk.step(Step::Part(b""), [0, 0]), Ok(0));
+    assert_eq!(desk.step(Step::Announce(6, 0), [0, 0]), Ok(0));
+    desk.refuses(25, Step::Close, [0, 0]);
+}
+
+/// Changes a pair of those that wait, or two: an id, a size, a byte from one size
+/// to another, or their order.
+fn change(rng: &mut Rng, pairs: &mut [[u64; 2]]) {
+    let (one, other) = (rng.index(pairs.len()), rng.index(pairs.len()));
+    let near = [1, 4, 8, 16][rng.index(4)];
+    match rng.below(8) {
+        0 => pairs[one][0] = pairs[other][0],
+        1 => pairs[one][0] = pairs[one][0].wrapping_add(near),
+        2 => pairs[one][0] = pairs[one][0].wrapping_sub(near),
+        3 => pairs[one][1] += 1,
+        4 => pairs[one][1] = rng.edge_u64(),
+        5 if pairs[one][1] > 0 => {
+            pairs[one][1] -= 1;
+            pairs[other][1] += 1;
+        }
+        6 => pairs.swap(one, other),
+        _ => {}
+    }
+}
+
+/// Pairs that were changed since they were announced. The answer and what is left
+/// are the reference's, which announces the pairs anew; and what a close takes
+/// passes the check.
+#[test]
+fn changed_pairs() {
+    const BYTES: &[u8] = &[7; 4];
+    let mut rng = Rng::new(11);
+    // Closes, and announcements in another minishard, that were taken and not.
+    let mut met = [[0; 2]; 2];
+    for _ in 0..6000 {
+        let mut desk = Desk::open(500, 8 * 16).expect("there is room");
+        let (mut id, count) = (0, 1 + rng.index(7));
+        for _ in 0..count {
+            let rest = &BYTES[..desk.state.owed() as usize];
+            desk.step(Step::Part(rest), [0, 0]).expect("it is owed");
+            id += 8 * (1 + rng.below(3));
+            let announced = Step::Announce(id, rng.below(5));
+            desk.step(announced, [0, 0]).expect("there is room");
+        }
+        let most = desk.state.owed() as usize;
+        let came = if rng.once_in(6) { rng.index(most + 1) } else { most };
+        desk.step(Step::Part(&BYTES[..came]), [0, 0]).expect("it is owed");
+        let held = &mut desk.waiting.part()[..16 * count];
+        let word = |at: usize| u64::from_le_bytes(held[at..at + 8].try_into().expect("8 bytes"));
+        let mut pairs: Vec<[u64; 2]> = (0..count).map(|i| [word(16 * i), word(16 * i + 8)]).collect();
+        for _ in 0..rng.below(3) {
+            change(&mut rng, &mut pairs);
+        }
+        let bytes: Vec<u8> = pairs.iter().flatten().flat_map(|n| n.to_le_bytes()).collect();
+        held.copy_from_slice(&bytes);
+
+        let steps = [
+            Step::Close,
+            Step::Announce(2, rng.below(3)),
+            Step::Announce(id + 8, 0),
+            Step::Part(b""),
+        ];
+        for (place, step) in steps.into_iter().enumerate() {
+            let mut after = desk.clone();
+            let (mut numbers, mut out, mut waiting) =
+                (Numbers(desk.state.numbers), desk.out.clone(), desk.waiting.clone());
+            let call = match step {
+                Step::Announce(id, size) => Call::Announce { id, size },
+                Step::Part(bytes) => Call::Part(bytes),
+                Step::Close => Call::Close,
+            };
+            let told = numbers.call(call, out.part(), waiting.part());
+            let answer = after.step(step, [0, 0]).map(|length| length as u64);
+            let question = format_args!("{step:?} with the pairs {pairs:?}");
+            assert_eq!(answer.map_err(|refusal| refusal.number), told, "{question}");
+            assert_eq!(after.state.numbers, numbers.0, "{question}");
+            assert!(after.out == out && after.waiting == waiting, "{question}");
+            if place < 2 {
+                met[place][usize::from(told.is_err())] += 1;
+            }
+            let length = match (step, answer) {
+                (Step::Close, Ok(length)) => length as usize,
+                (Step::Announce(2, size), Ok(_)) => {
+                    let rest = Step::Part(&BYTES[..size as usize]);
+                    after.step(rest, [0, 0]).expect("it is owed");
+                    after.step(Step::Close, [0, 0]).expect("nothing is owed")
+                }
+                _ => continue,
+            };
+            let shard = Shard::open(SHARDING, 0, &after.out.held()[..length]);
+            assert_eq!(shard.check(), Ok(()), "{question}");
+        }
+    }
+    assert!(met.as_flattened().iter().all(|met| *met > 1000), "{met:?}");
 }
 
 /// No form passes 1 GiB, however long the output is.

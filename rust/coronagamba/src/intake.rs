@@ -322,10 +322,15 @@ impl From<NotClosed<'_>> for Refusal {
 /// the buffers borrowed. Each call is lent the state and both buffers as the last
 /// call left them.
 ///
-/// Any numbers may stand here. Each call judges them, with 25 where they contradict
-/// each other, the buffers' lengths or the last pair of the second buffer, and
-/// touches nothing out of bounds. Numbers that pass are believed: the promise of
-/// the [`close`](State::close) is for numbers and buffers that calls left.
+/// Any numbers may stand here, and no call touches anything out of bounds. Each
+/// call judges them, with 25 where they contradict each other, the buffers'
+/// lengths or the last pair of the second buffer. The [`close`](State::close),
+/// and an announcement in another minishard than the open one, judge all pairs of
+/// the open one: 25 where an id does not rise or belongs elsewhere, or where the
+/// sizes together are not the bytes that came of it and are owed. No call judges
+/// the bytes that were written to the output, nor whether a minishard before the
+/// open one can have an id. What passes is believed: the promise of the close is
+/// for numbers and buffers that calls left.
 ///
 /// ```
 /// use coronagamba::intake::State;
@@ -385,8 +390,9 @@ impl State {
     }
 
     /// Announces a chunk. Refusal 30 where a buffer has another length than on
-    /// opening, then as [`Intake::announce`]; 25 also after the close, and for
-    /// numbers that no calls could have left.
+    /// opening, then as [`Intake::announce`]; 25 also after the close, and where
+    /// the numbers contradict each other or the last pair of `waiting` or, in
+    /// another minishard than the open one, any pair of that.
     pub fn announce(
         &mut self,
         id: u64,
@@ -409,8 +415,9 @@ impl State {
         })
     }
 
-    /// Hands over the next bytes. Refusal 30, 25 after the close and for numbers
-    /// that no calls could have left, or 26 where they are more than are owed.
+    /// Hands over the next bytes. Refusal 30, 25 after the close and where the
+    /// numbers contradict each other or the last pair of `waiting`, or 26 where
+    /// the bytes are more than are owed.
     pub fn part(&mut self, bytes: &[u8], out: &mut [u8], waiting: &[u8]) -> Result<(), Refusal> {
         // SAFETY: each pointer and count are those of one live slice; `out` and
         // the numbers are lent to this call alone.
@@ -428,8 +435,8 @@ impl State {
     }
 
     /// Closes the shard and gives the length of its settled form, with which `out`
-    /// then begins. Refusal 30, 25 after the close and for numbers that no calls
-    /// could have left, or 26 while bytes are owed.
+    /// then begins. Refusal 30, 25 after the close and where the numbers contradict
+    /// each other or any pair of `waiting`, or 26 while bytes are owed.
     pub fn close(&mut self, out: &mut [u8], waiting: &[u8]) -> Result<usize, Refusal> {
         // SAFETY: each pointer and count are those of one live slice; `out`, the
         // numbers and the result are lent to this call alone.

@@ -237,8 +237,9 @@ impl Numbers {
         self.wide(OUTPUT).min(u128::from(MOST_SHARD_BYTES))
     }
 
-    /// Whether the numbers contradict each other or the second buffer, which is
-    /// as long as on opening: docs/orders/11.md lists what must hold.
+    /// Whether the numbers contradict each other or the last pair of the second
+    /// buffer, which is as long as on opening: docs/orders/11.md lists what must
+    /// hold.
     pub fn contradict(&self, waiting: &[u8]) -> bool {
         let sharding = self.sharding();
         if sharding.allowed().is_err() || sharding.is_mesh() {
@@ -274,6 +275,38 @@ impl Numbers {
         !holds
     }
 
+    /// Whether calls could have left the pairs that wait. They are announced anew, to
+    /// an opened shard with buffers of these lengths, and all bytes are handed over
+    /// but those that are owed: no call refuses that, the second buffer is then as it
+    /// is here, and as many bytes came to the same minishard. What was written before
+    /// is not judged.
+    fn announced_anew(&self, waiting: &[u8]) -> bool {
+        let (sharding, number) = (self.sharding(), self.0[SHARD]);
+        let mut out = vec![0; self.0[OUTPUT] as usize];
+        let mut anew = vec![0; waiting.len()];
+        let held = &waiting[..PAIR * self.0[COUNT] as usize];
+        let mut again = || {
+            let mut intake = Intake::open(sharding, number, &mut out, &anew)?;
+            for pair in held.chunks(PAIR) {
+                let rest = vec![0; intake.owed() as usize];
+                intake.part(&rest, &mut out, &anew)?;
+                let (id, size) = (read_u64(pair, 0), read_u64(pair, 8));
+                intake.announce(id, size, &mut out, &mut anew)?;
+            }
+            let rest = intake.owed().checked_sub(self.0[OWED]).ok_or(26)?;
+            intake.part(&vec![0; rest as usize], &mut out, &anew)?;
+            Ok::<Intake, u8>(intake)
+        };
+        let Ok(intake) = again() else {
+            return false;
+        };
+        let came = intake.place() as u64 - sharding.index_end();
+        let minishard = intake.chunks.last().map(|last| intake.minishard(last));
+        anew.starts_with(held)
+            && minishard.is_none_or(|minishard| minishard == self.0[MINISHARD])
+            && self.0[BEGIN] + came == self.0[NEXT]
+    }
+
     /// How many chunks of a minishard wait in the second buffer.
     fn mates(&self, minishard: u64) -> u64 {
         if minishard == self.0[MINISHARD] {
@@ -299,12 +332,16 @@ impl Numbers {
             _ if unusable => Err(25),
             Call::Part(bytes) if bytes.len() as u64 > owed => Err(26),
             Call::Part(_) => Ok(()),
+            Call::Close if !self.announced_anew(waiting) => Err(25),
             Call::Close if owed > 0 => Err(26),
             Call::Close => Ok(()),
             Call::Announce { id, size } => {
                 let minishard = sharding.place(id).minishard;
                 let mates = self.mates(minishard);
                 if minishard < self.0[MINISHARD] || mates > 0 && id <= self.0[LAST] {
+                    return Err(25);
+                }
+                if minishard > self.0[MINISHARD] && !self.announced_anew(waiting) {
                     return Err(25);
                 }
                 if owed > 0 {
@@ -358,7 +395,7 @@ impl Numbers {
     }
 
     /// Writes the minishard index that the waiting pairs make behind the data,
-    /// and its entry; ids that do not rise step by 0.
+    /// and its entry.
     fn end_minishard(&self, out: &mut [u8], waiting: &[u8]) -> Result<(), u8> {
         let (count, next) = (self.0[COUNT] as usize, self.0[NEXT]);
         if count == 0 {
@@ -366,7 +403,7 @@ impl Numbers {
         }
         let ids: Vec<u64> = (0..count).map(|i| read_u64(waiting, PAIR * i)).collect();
         let before = std::iter::once(&0).chain(&ids);
-        let steps = ids.iter().zip(before).map(|(id, b)| id.saturating_sub(*b));
+        let steps = ids.iter().zip(before).map(|(id, b)| id - b);
         let starts = std::iter::once(self.0[BEGIN]).chain(std::iter::repeat_n(0, count - 1));
         let sizes = (0..count).map(|i| read_u64(waiting, PAIR * i + 8));
         let rows = bytes_of(steps.chain(starts).chain(sizes));
@@ -476,6 +513,49 @@ mod tests {
             let numbers = Numbers([0, 0, 1, 0, 0, 0, 100, 16, 1, 1, 7, 0, next, owed, 0]);
             assert_eq!(numbers.contradict(&waiting), contradicts, "{next} came");
         }
+    }
+
+    /// Pairs before the last one that no calls leave: the close and an announcement
+    /// that ends the minishard see them, a part and an announcement in it do not.
+    #[test]
+    fn pairs_that_no_calls_left() {
+        let pairs = |pairs: [[u64; 2]; 3]| pairs.as_flattened().to_vec();
+        let cases = [
+            (pairs([[2, 1], [4, 2], [8, 3]]), true),
+            (pairs([[4, 1], [4, 2], [8, 3]]), false),
+            (pairs([[4, 1], [2, 2], [8, 3]]), false),
+            (pairs([[2, 1], [5, 2], [8, 3]]), false),
+            (pairs([[2, 2], [4, 2], [8, 3]]), false),
+            (pairs([[2, u64::MAX], [4, 4], [8, 3]]), false),
+        ];
+        for (pairs, could) in cases {
+            let numbers = Numbers([0, 0, 1, 0, 0, 0, 200, 64, 0, 3, 8, 0, 6, 0, 0]);
+            let mut waiting = bytes_of(pairs.into_iter());
+            waiting.resize(64, 7);
+            let answer = |call: Call| {
+                let mut out = [0; 200];
+                numbers.clone().call(call, &mut out, &mut waiting.clone())
+            };
+            let told = |length: u64| if could { Ok(length) } else { Err(25) };
+            assert_eq!(answer(Call::Close), told(32 + 6 + 72));
+            assert_eq!(answer(Call::Announce { id: 1, size: 0 }), told(0));
+            assert_eq!(answer(Call::Announce { id: 10, size: 0 }), Ok(0));
+            assert_eq!(answer(Call::Part(&[])), Ok(0));
+        }
+    }
+
+    /// Four pairs of zeros before one of id 4: the shard would be refused with 9.
+    #[test]
+    fn zeros_before_the_last_pair() {
+        let mut numbers = Numbers([0, 0, 1, 0, 0, 0, 200, 80, 0, 5, 4, 0, 0, 0, 0]);
+        let (mut out, mut waiting) = ([0; 200], [0; 80]);
+        waiting[64] = 4;
+        assert!(!numbers.contradict(&waiting));
+        assert_eq!(
+            numbers.call(Call::Close, &mut out, &mut waiting),
+            Err(25)
+        );
+        assert_eq!(out, [0; 200]);
     }
 
     /// The example's calls over the numbers.

@@ -15,7 +15,7 @@ use Rattle.sharding.specs.placement.Place.{minishardOf}
 use Rattle.shard.specs.File.{indexLength}
 use Rattle.intake.specs.declared.state.Intake.{Intake}
 use Rattle.intake.specs.state.State.{most, announcedLength, notVolume, Usable}
-use Rattle.intake.specs.tests.Tests.{foreign, unusable, outOfOrder, countIn, noRoom}
+use Rattle.intake.specs.tests.Tests.{foreign, unusable, outOfOrder, forged, forgedTurn, countIn, noRoom}
 use Rattle.intake.specs.admission.Refusals.{openChecks, announceChecks, partChecks, closeChecks}
 use Rattle.intake.proofs.tests.Passing.{usable}
 
@@ -51,6 +51,7 @@ pub record Announces (s : Intake) (id size output : ℕ) (w : List ℕ) : Type 0
   pub usable : unusable s w ≡ false
   pub ours : foreign s id ≡ false
   pub order : outOfOrder s id ≡ false
+  pub turn : forgedTurn s id w ≡ false
   pub paid : s .owed ≡ 0
   pub room : announcedLength s + (size + 24) ≤ most (s .output)
   pub slot : 16 * countIn s (minishardOf (s .spec) id) + 16 ≤ s .waiting
@@ -64,12 +65,14 @@ announces s id size output w e =
     let d = passed _ _ (omega arith) (c .1) in
     let f = passed _ _ (omega arith) (d .1) in
     let g = neither _ _ (c .0) in
+    let k = neither _ _ (g .1) in
     let h = neither _ _ (f .0) in
     record {
       usual = usable s output (length w) w (a .0) (g .0);
       usable = g .0;
       ours = b .0;
-      order = g .1;
+      order = k .0;
+      turn = k .1;
       paid = no-more (s .owed) (ltb-false 0 (s .owed) (d .0));
       room = ltb-false _ _ (h .0);
       slot = ltb-false _ _ (h .1);
@@ -91,6 +94,7 @@ hands s n output w e =
 pub record Closes (s : Intake) (output : ℕ) (w : List ℕ) : Type 0 where
   pub usual : Usable s output (length w)
   pub usable : unusable s w ≡ false
+  pub pairs : forged s w ≡ false
   pub paid : s .owed ≡ 0
 
 pub closes : (s : Intake) (output : ℕ) (w : List ℕ) → firstNumber (closeChecks s output w) ≡ 0 → Closes s output w
@@ -99,4 +103,10 @@ closes s output w e =
     let a = passed _ _ (omega arith) e in
     let b = passed _ _ (omega arith) (a .1) in
     let c = passed _ _ (omega arith) (b .1) in
-    record { usual = usable s output (length w) w (a .0) (b .0); usable = b .0; paid = no-more (s .owed) (ltb-false 0 (s .owed) (c .0)) }
+    let g = neither _ _ (b .0) in
+    record {
+      usual = usable s output (length w) w (a .0) (g .0);
+      usable = g .0;
+      pairs = g .1;
+      paid = no-more (s .owed) (ltb-false 0 (s .owed) (c .0));
+    }

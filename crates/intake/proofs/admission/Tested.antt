@@ -14,10 +14,10 @@ use Rattle.sharding.specs.Specification.{shardCount}
 use Rattle.shard.specs.File.{indexLength}
 use Rattle.intake.specs.declared.state.Intake.{Intake}
 use Rattle.intake.specs.state.State.{most, notVolume}
-use Rattle.intake.specs.tests.Tests.{otherLengths, foreign, unusable, outOfOrder, noRoom}
+use Rattle.intake.specs.tests.Tests.{otherLengths, foreign, unusable, outOfOrder, forged, forgedTurn, noRoom}
 use Rattle.intake.specs.admission.Refusals.{openChecks, announceChecks, partChecks, closeChecks}
 use Rattle.intake.proofs.sanity.States.{told-volume}
-use Rattle.intake.proofs.tests.Tested.{told-length, told-permitted, told-room, told-held}
+use Rattle.intake.proofs.tests.Tested.{told-length, told-permitted, told-room, told-held, told-sane}
 
 -- ---- the calls
 
@@ -71,13 +71,19 @@ module _ (s : Intake) (output : ℕ) (w : List ℕ) {b : Bool} (p : b ≡ otherL
       unfolding firstNumber partChecks
       part-goes n l = rw (← p, q, ← u, v, le-ltb (s .owed) n l)
 
-      pub close-owed : (s .owed ≡ 0 → ⊥) → 26 ≡ firstNumber (closeChecks s output w)
-      unfolding firstNumber closeChecks
-      close-owed l = rw (← p, q, ← u, v, lt-ltb 0 (s .owed) (omega arith))
+      module _ {d : Bool} (g : d ≡ forged s w) where
+        pub close-forged : d ≡ true → 25 ≡ firstNumber (closeChecks s output w)
+        unfolding firstNumber closeChecks
+        close-forged h = rw (← p, q, ← u, v, ← g, h)
 
-      pub close-goes : s .owed ≡ 0 → 0 ≡ firstNumber (closeChecks s output w)
-      unfolding firstNumber closeChecks
-      close-goes l = rw (← p, q, ← u, v, le-ltb 0 (s .owed) (omega arith))
+        module _ (h : d ≡ false) where
+          pub close-owed : (s .owed ≡ 0 → ⊥) → 26 ≡ firstNumber (closeChecks s output w)
+          unfolding firstNumber closeChecks
+          close-owed l = rw (← p, q, ← u, v, ← g, h, lt-ltb 0 (s .owed) (omega arith))
+
+          pub close-goes : s .owed ≡ 0 → 0 ≡ firstNumber (closeChecks s output w)
+          unfolding firstNumber closeChecks
+          close-goes l = rw (← p, q, ← u, v, ← g, h, le-ltb 0 (s .owed) (omega arith))
 
   module _ (q : b ≡ false) (id size : ℕ) {f : Bool} (e : f ≡ foreign s id) where
     pub announce-foreign : f ≡ true → 10 ≡ firstNumber (announceChecks s id size output w)
@@ -94,19 +100,24 @@ module _ (s : Intake) (output : ℕ) (w : List ℕ) {b : Bool} (p : b ≡ otherL
         unfolding firstNumber announceChecks
         announce-order h = rw (← p, q, ← e, z, ← u, v, ← g, h)
 
-        module _ (h : d ≡ false) where
-          pub announce-owed : 0 < s .owed → 26 ≡ firstNumber (announceChecks s id size output w)
+        module _ (h : d ≡ false) {t : Bool} (x : t ≡ forgedTurn s id w) where
+          pub announce-forged : t ≡ true → 25 ≡ firstNumber (announceChecks s id size output w)
           unfolding firstNumber announceChecks
-          announce-owed l = rw (← p, q, ← e, z, ← u, v, ← g, h, lt-ltb 0 (s .owed) l)
+          announce-forged y = rw (← p, q, ← e, z, ← u, v, ← g, h, ← x, y)
 
-          module _ (l : s .owed ≤ 0) {r : Bool} (i : r ≡ noRoom s id size) where
-            pub announce-full : r ≡ true → 13 ≡ firstNumber (announceChecks s id size output w)
+          module _ (y : t ≡ false) where
+            pub announce-owed : 0 < s .owed → 26 ≡ firstNumber (announceChecks s id size output w)
             unfolding firstNumber announceChecks
-            announce-full k = rw (← p, q, ← e, z, ← u, v, ← g, h, le-ltb 0 (s .owed) l, ← i, k)
+            announce-owed l = rw (← p, q, ← e, z, ← u, v, ← g, h, ← x, y, lt-ltb 0 (s .owed) l)
 
-            pub announce-goes : r ≡ false → 0 ≡ firstNumber (announceChecks s id size output w)
-            unfolding firstNumber announceChecks
-            announce-goes k = rw (← p, q, ← e, z, ← u, v, ← g, h, le-ltb 0 (s .owed) l, ← i, k)
+            module _ (l : s .owed ≤ 0) {r : Bool} (i : r ≡ noRoom s id size) where
+              pub announce-full : r ≡ true → 13 ≡ firstNumber (announceChecks s id size output w)
+              unfolding firstNumber announceChecks
+              announce-full k = rw (← p, q, ← e, z, ← u, v, ← g, h, ← x, y, le-ltb 0 (s .owed) l, ← i, k)
+
+              pub announce-goes : r ≡ false → 0 ≡ firstNumber (announceChecks s id size output w)
+              unfolding firstNumber announceChecks
+              announce-goes k = rw (← p, q, ← e, z, ← u, v, ← g, h, ← x, y, le-ltb 0 (s .owed) l, ← i, k)
 
 pub ruleset refusing = (
   open-spec,
@@ -119,12 +130,14 @@ pub ruleset refusing = (
   part-goes,
   close-other,
   close-unusable,
+  close-forged,
   close-owed,
   close-goes,
   announce-other,
   announce-foreign,
   announce-unusable,
   announce-order,
+  announce-forged,
   announce-owed,
   announce-full,
   announce-goes,
@@ -133,6 +146,7 @@ pub ruleset refusing = (
   told-permitted,
   told-room,
   told-held,
+  told-sane,
   told-yes,
   needs,
 )

@@ -14,7 +14,7 @@ use Rattle.sharding.specs.Specification.{isMesh, allowed, shardCount}
 use Rattle.sharding.specs.placement.Place.{placeOf}
 use Rattle.shard.specs.File.{indexLength}
 use Rattle.intake.specs.declared.state.Intake.{Intake}
-use Rattle.intake.specs.state.State.{most, announcedLength, notVolume, fresh, placed, begun, waits, going, sane}
+use Rattle.intake.specs.state.State.{most, announcedLength, notVolume, fresh, belongs, placed, begun, waits, going, sane}
 use Rattle.intake.proofs.state.Passing.{volume-allowed, begun-ordered}
 
 -- ---- a specification
@@ -57,10 +57,13 @@ pub fresh-is : (s : Intake) → eqb (s .minishard) 0 && (eqb (s .last) 0 && (eqb
 unfolding fresh
 fresh-is s = refl
 
-pub placed-is : (s : Intake) (at : Place) → at ≡ placeOf (s .spec) (s .last)
-    → eqb (at .shard) (s .shard) && (eqb (at .minishard) (s .minishard) && leb (s .count - 1) (s .last)) ≡ placed s
+pub belongs-is : (s : Intake) (id : ℕ) (at : Place) → at ≡ placeOf (s .spec) id → eqb (at .shard) (s .shard) && eqb (at .minishard) (s .minishard) ≡ belongs s id
+unfolding belongs
+belongs-is s id at e = rw e
+
+pub placed-is : (s : Intake) {b : Bool} → b ≡ belongs s (s .last) → b && leb (s .count - 1) (s .last) ≡ placed s
 unfolding placed
-placed-is s at e = rw e
+placed-is s e = rw e
 
 pub begun-is : (s : Intake) → leb (s .begin) (s .next) && (eqb (s .begin) 0 || (ltb 0 (s .minishard) && leb 24 (s .begin))) ≡ begun s
 unfolding begun
@@ -131,6 +134,7 @@ pub ruleset testing = (
   adds-all,
   within-by,
   fresh-is,
+  belongs-is,
   placed-is,
   begun-is,
   going-elsewhere,

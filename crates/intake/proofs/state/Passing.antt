@@ -1,5 +1,5 @@
 -- What a state that passes tells.
-use Prim.Native.Nat.{ℕ, _*_, _-_, _≤_, _<_}
+use Prim.Native.Nat.{ℕ, _+_, _*_, _-_, _≤_, _<_}
 use mathlib.Core.Path.{_≡_}
 use mathlib.Core.Bool.{Bool, true, false, not}
 use mathlib.Core.List.{List}
@@ -9,12 +9,14 @@ use lib.Pow.{pow-pos}
 use borrow.Author.Tests.{leb-true, eqb-true, not-true, not-false}
 use Rattle.refusal.specs.Choice.{pick}
 use Rattle.refusal.proofs.Tests.{both, neither}
+use Rattle.endian.specs.Range.{sumTo, every}
 use Rattle.sharding.specs.declared.Sharding.{Sharding}
 use Rattle.sharding.specs.Specification.{isMesh, allowed, minishardCount, minishardBits, noSuchShard}
 use Rattle.sharding.specs.placement.Place.{shardOf, minishardOf}
 use Rattle.sharding.proofs.placement.Placed.{minishard-below}
+use Rattle.intake.specs.waiting.Held.{sizeHeld}
 use Rattle.intake.specs.declared.state.Intake.{Intake}
-use Rattle.intake.specs.state.State.{most, announcedLength, notVolume, fresh, placed, begun, waits, going, sane}
+use Rattle.intake.specs.state.State.{most, announcedLength, notVolume, fresh, belongs, placed, begun, waits, going, sane, follows, announceable}
 
 -- ---- a specification
 
@@ -52,14 +54,18 @@ pub record Going (s : Intake) (w : List ℕ) : Type 0 where
   pub begun : begun s ≡ true
   pub waits : waits s w ≡ true
 
+pub belongs-parts : (s : Intake) (id : ℕ) → belongs s id ≡ true → (shardOf (s .spec) id ≡ s .shard) × (minishardOf (s .spec) id ≡ s .minishard)
+unfolding belongs
+belongs-parts s id e = let a = both _ _ e in (eqb-true _ _ (a .0), eqb-true _ _ (a .1))
+
 pub going-parts : (s : Intake) (w : List ℕ) → going s w ≡ true → Going s w
 unfolding going placed
 going-parts s w e =
     let a = both _ _ e in
     let b = both _ _ (a .0) in
-    let c = both _ _ (b .1) in
+    let c = belongs-parts s (s .last) (b .0) in
     let d = both _ _ (a .1) in
-    record { ours = eqb-true _ _ (b .0); here = eqb-true _ _ (c .0); ids = leb-true _ _ (c .1); begun = d .0; waits = d .1 }
+    record { ours = c .0; here = c .1; ids = leb-true _ _ (b .1); begun = d .0; waits = d .1 }
 
 pub begun-ordered : (s : Intake) → begun s ≡ true → s .begin ≤ s .next
 unfolding begun
@@ -85,3 +91,15 @@ sane-parts s w e =
 pub open-below : (s : Intake) (w : List ℕ) (b : Bool) → pick b (fresh s) (going s w) ≡ true → s .minishard < minishardCount (s .spec)
 open-below s w true e = omega (arith, fresh-parts s e .minishard, pow-pos (minishardBits (s .spec)))
 open-below s w false e = omega (arith, going-parts s w e .here, minishard-below (s .spec) (s .last))
+
+-- and it began where the next byte goes or before that
+pub open-ordered : (s : Intake) (w : List ℕ) (b : Bool) → pick b (fresh s) (going s w) ≡ true → s .begin ≤ s .next
+open-ordered s w true e = omega (arith, fresh-parts s e .begin)
+open-ordered s w false e = begun-ordered s (going-parts s w e .begun)
+
+-- ---- the pairs that wait
+
+pub announceable-parts : (s : Intake) (w : List ℕ) → announceable s w ≡ true
+    → (every (follows s w) (s .count) ≡ true) × (s .begin + sumTo (sizeHeld w) (s .count) ≡ s .next + s .owed)
+unfolding announceable
+announceable-parts s w e = let a = both _ _ e in (a .0, eqb-true _ _ (a .1))

@@ -11,8 +11,8 @@ use Rattle.refusal.proofs.Tests.{told-no, told-yes}
 use Rattle.sharding.specs.Specification.{allowed}
 use Rattle.sharding.specs.placement.Place.{shardOf, minishardOf}
 use Rattle.intake.specs.declared.state.Intake.{Intake}
-use Rattle.intake.specs.state.State.{most, announcedLength, sane}
-use Rattle.intake.specs.tests.Tests.{otherLengths, foreign, unusable, outOfOrder, countIn, noRoom}
+use Rattle.intake.specs.state.State.{most, announcedLength, sane, announceable}
+use Rattle.intake.specs.tests.Tests.{otherLengths, foreign, unusable, outOfOrder, forged, forgedTurn, countIn, noRoom}
 use Rattle.intake.proofs.tests.Passing.{same-lengths, unusable-parts}
 use Rattle.intake.proofs.state.Passing.{Sane, sane-parts, volume-allowed}
 
@@ -41,6 +41,24 @@ module _ (s : Intake) (w : List ℕ) {c : Bool} (u : c ≡ unusable s w) (v : c 
 
   pub told-held : 16 * s .count ≤ s .waiting
   told-held = usable-state .held
+
+  pub told-sane : sane s w ≡ true
+  told-sane = unusable-parts s w (sym u ∙ v) .0
+
+-- ---- the end of the open minishard
+
+pub forged-by : (s : Intake) (w : List ℕ) {r : Bool} → r ≡ announceable s w → not r ≡ forged s w
+unfolding forged
+forged-by s w e = rw e
+
+module _ (s : Intake) (m id : ℕ) (w : List ℕ) (e : m ≡ minishardOf (s .spec) id) where
+  pub turn-here : m ≡ s .minishard → false ≡ forgedTurn s id w
+  unfolding forgedTurn
+  turn-here z = rw (← e, eq-eqb m (s .minishard) z)
+
+  pub turn-away : (m ≡ s .minishard → ⊥) → {r : Bool} → r ≡ forged s w → r ≡ forgedTurn s id w
+  unfolding forgedTurn
+  turn-away n h = rw (← e, ne-eqb m (s .minishard) n) h
 
 -- ---- the tests of an announcement
 
@@ -91,6 +109,9 @@ pub ruleset asking = (
   other-is,
   told-length,
   unusable-by,
+  forged-by,
+  turn-here,
+  turn-away,
   foreign-spec,
   foreign-shard,
   order-in,

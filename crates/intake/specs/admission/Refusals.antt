@@ -10,7 +10,7 @@ use Rattle.sharding.specs.Specification.{noSuchShard}
 use Rattle.shard.specs.File.{indexLength}
 use Rattle.intake.specs.declared.state.Intake.{Intake}
 use Rattle.intake.specs.state.State.{most, notVolume}
-use Rattle.intake.specs.tests.Tests.{otherLengths, foreign, unusable, outOfOrder, noRoom}
+use Rattle.intake.specs.tests.Tests.{otherLengths, foreign, unusable, outOfOrder, forged, forgedTurn, noRoom}
 
 -- ---- the calls: of the output its length counts, of the second buffer also what it holds
 
@@ -24,7 +24,7 @@ unfoldable pub announceChecks : Intake → ℕ → ℕ → ℕ → List ℕ → 
 announceChecks s id size output w =
     check 30 (otherLengths s output (length w))
     ∷ check 10 (foreign s id)
-    ∷ check 25 (unusable s w || outOfOrder s id)
+    ∷ check 25 (unusable s w || (outOfOrder s id || forgedTurn s id w))
     ∷ check 26 (ltb 0 (s .owed))
     ∷ check 13 (noRoom s id size)
     ∷ []
@@ -35,4 +35,5 @@ partChecks s n output w = check 30 (otherLengths s output (length w)) ∷ check 
 
 -- "or an announcement or close while bytes are owed" (RULES N5)
 unfoldable pub closeChecks : Intake → ℕ → List ℕ → List Check
-closeChecks s output w = check 30 (otherLengths s output (length w)) ∷ check 25 (unusable s w) ∷ check 26 (ltb 0 (s .owed)) ∷ []
+closeChecks s output w =
+    check 30 (otherLengths s output (length w)) ∷ check 25 (unusable s w || forged s w) ∷ check 26 (ltb 0 (s .owed)) ∷ []

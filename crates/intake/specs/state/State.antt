@@ -6,6 +6,7 @@ use mathlib.Core.Bool.{Bool, true, not, _&&_, _||_}
 use mathlib.Core.List.{List}
 use lib.Dec.{ltb, leb, eqb}
 use Rattle.refusal.specs.Choice.{pick}
+use Rattle.endian.specs.Range.{sumTo, every}
 use Rattle.sharding.specs.declared.Sharding.{Sharding}
 use Rattle.sharding.specs.Specification.{isMesh, allowed, minishardCount, noSuchShard}
 use Rattle.sharding.specs.placement.Place.{shardOf, minishardOf}
@@ -35,11 +36,13 @@ notVolume spec = not (allowed spec) || isMesh spec
 unfoldable pub fresh : Intake → Bool
 fresh s = eqb (s .minishard) 0 && (eqb (s .last) 0 && (eqb (s .begin) 0 && (eqb (s .next) 0 && eqb (s .owed) 0)))
 
--- with some, the last id is one of the shard and of the open minishard, and as many ids as chunks are not above it,
+-- an id of the shard and of the open minishard
+unfoldable pub belongs : Intake → ℕ → Bool
+belongs s id = eqb (shardOf (s .spec) id) (s .shard) && eqb (minishardOf (s .spec) id) (s .minishard)
+
+-- with some, the last id is such a one, and as many ids as chunks are not above it,
 unfoldable pub placed : Intake → Bool
-placed s =
-    eqb (shardOf (s .spec) (s .last)) (s .shard)
-    && (eqb (minishardOf (s .spec) (s .last)) (s .minishard) && leb (s .count - 1) (s .last))
+placed s = belongs s (s .last) && leb (s .count - 1) (s .last)
 
 -- the open minishard began where the next byte goes, or before that: where the data does, or, if it is not the first, behind a minishard index,
 unfoldable pub begun : Intake → Bool
@@ -59,14 +62,25 @@ unfoldable pub going : Intake → List ℕ → Bool
 going s w = placed s && (begun s && waits s w)
 
 -- the numbers of the state contradict neither each other, nor the lengths, nor the last pair that waits: every state that calls left passes. Not
--- compared are the pairs before the last one, what stands in the output, and whether the open minishard has as many ids as chunks, or one before it
--- any id (RULES N8)
+-- compared are the pairs before the last one, what stands in the output, and whether a minishard before the open one has any id (RULES N8)
 unfoldable pub sane : Intake → List ℕ → Bool
 sane s w =
     not (notVolume (s .spec))
     && (not (noSuchShard (s .spec) (s .shard))
     && (leb (16 * s .count) (s .waiting)
     && (leb (announcedLength s) (most (s .output)) && pick (eqb (s .count) 0) (fresh s) (going s w))))
+
+-- ---- the pairs that wait, all of them: a call that ends the open minishard asks
+
+-- pair i could have been announced behind the pairs before it: "Chunks come by rising minishard, then rising id"
+unfoldable pub follows : Intake → List ℕ → ℕ → Bool
+follows s w i = belongs s (idHeld w i) && (eqb i 0 || ltb (idHeld w (i - 1)) (idHeld w i))
+
+-- calls could have left the pairs of the open minishard: each could have been announced in its turn, and their sizes together are the bytes that came
+-- of the minishard and those that are owed (RULES N8)
+unfoldable pub announceable : Intake → List ℕ → Bool
+announceable s w =
+    every (follows s w) (s .count) && eqb (s .begin + sumTo (sizeHeld w) (s .count)) (s .next + s .owed)
 
 -- ---- what a call may rely on
 

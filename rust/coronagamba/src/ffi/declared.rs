@@ -547,8 +547,9 @@ extern "C" {
     ///
     /// Refusals: 30 where a buffer has another length than on opening, 10 where the id belongs to
     /// another shard, 25 out of order or after the close or where the state contradicts itself or
-    /// `waiting`, 26 while bytes are owed, 13 where the settled form of all announced so far and
-    /// this chunk would pass `out` or 1 GiB or `waiting` has no 16 bytes left for it
+    /// the last pair of `waiting` or any pair of a minishard that the call ends, 26 while bytes are
+    /// owed, 13 where the settled form of all announced so far and this chunk would pass `out` or 1
+    /// GiB or `waiting` has no 16 bytes left for it
     pub fn coronagamba_intake_announce(
         state: *mut [u64; 15],
         id: u64,
@@ -563,7 +564,8 @@ extern "C" {
     /// owed. Writes them to their final place in `out`, and the new state to `state`.
     ///
     /// Refusals: 30 where a buffer has another length than on opening, 25 after the close or where
-    /// the state contradicts itself or `waiting`, 26 where these are more bytes than are owed
+    /// the state contradicts itself or the last pair of `waiting`, 26 where these are more bytes
+    /// than are owed
     pub fn coronagamba_intake_part(
         state: *mut [u64; 15],
         bytes: *const u8,
@@ -578,7 +580,7 @@ extern "C" {
     /// number of bytes to `length`, and to `state` a state with which each further call is refused.
     ///
     /// Refusals: 30 where a buffer has another length than on opening, 25 after the close or where
-    /// the state contradicts itself or `waiting`, 26 while bytes are owed
+    /// the state contradicts itself or any pair of `waiting`, 26 while bytes are owed
     pub fn coronagamba_intake_close(
         state: *mut [u64; 15],
         out: *mut u8,

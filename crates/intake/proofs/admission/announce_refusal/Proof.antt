@@ -15,6 +15,8 @@ announce-refusal-spec =
     (λ c κs. search refusing)
     (λ c κs. search refusing)
     (λ c. search refusing)
+    (λ c κs. search refusing)
+    (λ c. search refusing)
     (λ c. search refusing)
     (λ c κs. search refusing)
     (λ c. search refusing)

@@ -10,5 +10,7 @@ close-refusal-spec =
     (λ c. search refusing)
     (λ c κs. search refusing)
     (λ c. search refusing)
+    (λ c κs. search refusing)
+    (λ c. search refusing)
     (λ c. search refusing)
     (λ c. search refusing))
