@@ -4,7 +4,9 @@ use Rattle.locate.proofs.refuse.Statement.{statement}
 use Rattle.locate.proofs.refuse.Tie as tie
 
 slice-aggregate-write-all : tie.Need-slice-aggregate-write-all
-slice-aggregate-write-all c = part-long (c .before .before .before .put-refused .result) (c .before .before .before .put-refused .last .0) (omega arith)
+slice-aggregate-write-all c =
+    let put = c .before .before .before .put-refused in
+    part-long (put .result) (put .last .0) (omega arith)
 
 pub refuse-spec : {M : Type 1} → statement M
 refuse-spec =

@@ -5,14 +5,19 @@ use Rattle.lookup.proofs.Answers.{answer-spec, answer-shard, answer-oth
 use Rattle.lookup.proofs.lookup.Statement.{statement}
 use Rattle.lookup.proofs.lookup.Tie as tie
 
-returns-5 : tie.Need-returns-5
-returns-5 c =
-    answer-long _ _ _ _ (c .before .before .before .before .before .before .before .before .is-allowed .ensures) (c .before .before .before .before .before .before .before .if1 .left) (c .before .before .before .before .before .before .shard-count .ensures .0) (c .before .before .before .before .before .if2 .left)
-    (c .before .before .before .before .shard-of .ensures .0) (c .before .before .before .if3 .left) (c .before .before .index-length .ensures .0) (c .if5 .taken)
+-- longer than a shard may be: no test before it refuses
+too-long : tie.Need-returns-5
+too-long c =
+    let at-length = c .before .before in
+    let at-own = at-length .before in
+    let at-within = at-own .before .before in
+    let at-allowed = at-within .before .before in
+    answer-long _ _ _ _ (at-allowed .before .is-allowed .ensures) (at-allowed .if1 .left) (at-within .before .shard-count .ensures .0) (at-within .if2 .left)
+    (at-own .before .shard-of .ensures .0) (at-own .if3 .left) (at-length .index-length .ensures .0) (c .if5 .taken)
 
 pub lookup-spec : {M : Type 1} → statement M
 lookup-spec =
     tie.close
     (tie.spec (λ c κs. search needs) (λ c. search answer-spec) (λ c κs. search told-yes) (λ c. search answer-shard) (λ c κs. search told-yes)
-    (λ c. search answer-other) (λ c κs. search told-yes) (λ c. search answer-short) returns-5
+    (λ c. search answer-other) (λ c κs. search told-yes) (λ c. search answer-short) too-long
     (λ c κs. (search told-yes, search needs)) (λ c. search answer-in))

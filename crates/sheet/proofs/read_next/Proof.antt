@@ -1,3 +1,4 @@
+-- The next shard as the program reads it: the header says how many bytes follow; the part of `body` lent for them has that length.
 use Prim.Native.Nat.{_≤_}
 use mathlib.Core.Path.{_≡_}
 use native.Mathlib.Omega.{arith}
@@ -6,14 +7,20 @@ use Rattle.sheet.proofs.one_shard.Turning.{reading, part-long, head-rea
 use Rattle.sheet.proofs.read_next.Statement.{statement}
 use Rattle.sheet.proofs.read_next.Tie as tie
 
+body-fits : tie.Need-slice-aggregate-read-body-2
+body-fits c =
+    let body = c .before .before .before .before .before .before .before .before .before .before .args .body .now in
+    part-long (c .before .before .body-length .result) body (omega arith)
+
 returns : tie.Need-returns
 returns c =
-    let n = c .before .before .before .before .before .body-length .result in
+    let got = c .before .before .before .before .before .before .before .before .before .read-full .result in
+    let said = c .before .before .before .before .before .body-length in
     let body = c .before .before .before .before .before .before .before .before .before .before .before .before .before .args .body .now in
-    let h : n ≤ 65536 = c .before .before .before .before .before .body-length .ensures .1 in
+    let n = said .result in
+    let h : n ≤ 65536 = said .ensures .1 in
     let k : n ≡ length (take n body) = part-long n body (omega arith) in
-    head-read _ _ _ (c .before .before .before .before .before .before .before .before .before .read-full .result) n (omega arith)
-    (c .before .before .before .before .before .body-length .ensures .0) (omega arith) (c .before .before .read-body .ensures)
+    head-read _ _ _ got n (omega arith) (said .ensures .0) (omega arith) (c .before .before .read-body .ensures)
 
 pub read-next-spec : {M : Type 1} → statement M
 read-next-spec =
@@ -26,7 +33,7 @@ read-next-spec =
     (λ c. search reading)
     (λ c. search reading)
     (λ c. search reading)
-    (λ c. part-long (c .before .before .body-length .result) (c .before .before .before .before .before .before .before .before .before .before .args .body .now) (omega arith))
+    body-fits
     (λ c κs. search reading)
     (λ c. search reading)
     (λ c. search reading)

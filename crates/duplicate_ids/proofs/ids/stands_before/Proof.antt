@@ -19,10 +19,19 @@ Inv-loop «data» p i x id₀ j₀ id j =
 abbrev μ-loop : tie.MeasureT-loop
 μ-loop «data» p i x id₀ j₀ id j = i - j
 
+-- entry j has it
+found : tie.Need-returns Inv-loop μ-loop
+found c = stands-hit _ _ _ _ (c .before .next-id .ensures) (c .if1 .taken) (search needs)
+
+-- it has another
+passed : tie.Need-loop-again Inv-loop μ-loop
+passed c =
+    let at-id = c .before in
+    let inv = at-id .before .before .loop .inv .2 in
+    (search id-sum, search needs, stands-turn _ _ _ inv (at-id .next-id .ensures) (c .if1 .left))
+
 pub stands-before-spec : {M : Type 1} → statement M
 stands-before-spec =
     tie.close
     (tie.spec Inv-loop μ-loop (λ c. (search sum-zero, search needs, search any-none))
-    (λ c κs. search needs) (λ c. stands-hit _ _ _ _ (c .before .next-id .ensures) (c .if1 .taken) (search needs)) (λ c. search needs) (λ c. search needs)
-    (λ c. (search id-sum, search needs, stands-turn _ _ _ (c .before .before .before .loop .inv .2) (c .before .next-id .ensures) (c .if1 .left)))
-    (λ c. search any-end))
+    (λ c κs. search needs) found (λ c. search needs) (λ c. search needs) passed (λ c. search any-end))

@@ -22,6 +22,25 @@ Inv-loop base d p n out₀ q t end₀ id₀ i₀ out end id i =
 abbrev μ-loop : tie.MeasureT-loop
 μ-loop base d p n out₀ q t end₀ id₀ i₀ out end id i = n - i
 
+nothing-put : tie.Need-loop-holds Inv-loop μ-loop
+nothing-put c = (tally-start _ _ _ _, refl, listing-first _ _ _ _ _)
+
+-- the three reads of entry i, then the entry put
+one-more : tie.Need-loop-again Inv-loop μ-loop
+one-more c =
+    let at-put = c .before .before .before in
+    let at-size = at-put .before .before in
+    let at-start = at-size .before .before in
+    let at-id = at-start .before .before in
+    let v = at-id .before .before .loop .inv in
+    let id = at-start .before .wrapping-add-u64 .ensures in
+    let start = at-size .before .wrapping-add-u642 .ensures in (
+      tally-turn (v .0) (omega arith) (at-id .read-u64 .ensures .0) id (at-start .read-u642 .ensures .0) start (at-size .read-u643 .ensures .0) (c .wrapping-add-u643 .ensures),
+      search listing-length,
+      listing-next _ _ _ _ _ _ (v .2) (v .0) (at-put .put-entry .ensures) (omega arith) (at-id .read-u64 .ensures .0) id (at-start .read-u642 .ensures .0) start (at-size .read-u643 .ensures .0)
+          (v .1) (omega arith),
+    )
+
 pub put-entries-spec : {M : Type 1} → statement M
 put-entries-spec =
     tie.close
@@ -32,7 +51,7 @@ put-entries-spec =
     (λ c. omega arith)
     (λ c. omega arith)
     (λ c. omega arith)
-    (λ c. (tally-start _ _ _ _, refl, listing-first _ _ _ _ _))
+    nothing-put
     (λ c. omega arith)
     (λ c. omega arith)
     (λ c κs. omega arith)
@@ -49,17 +68,6 @@ put-entries-spec =
     (λ c κs. search needs)
     (λ c. omega arith)
     (λ c. omega arith)
-    (λ c.
-    let size = c .before .before .before .before .before in
-    let start = size .before .before in
-    let id = start .before .before in
-    let v = id .before .before .loop .inv in
-    let own = start .before .wrapping-add-u64 .ensures in
-    let this = size .before .wrapping-add-u642 .ensures in (
-      tally-turn (v .0) (omega arith) (id .read-u64 .ensures .0) own (start .read-u642 .ensures .0) this (size .read-u643 .ensures .0) (c .wrapping-add-u643 .ensures),
-      search listing-length,
-      listing-next _ _ _ _ _ _ (v .2) (v .0) (c .before .before .before .put-entry .ensures) (omega arith) (id .read-u64 .ensures .0) own (start .read-u642 .ensures .0) this (size .read-u643 .ensures .0)
-          (v .1) (omega arith),
-    ))
+    one-more
     (λ c. search needs)
     (λ c. search listing-last))

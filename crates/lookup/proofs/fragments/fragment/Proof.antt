@@ -6,20 +6,32 @@ use Rattle.lookup.proofs.fragments.Handed.{manifest-sound, manifest-beh
 use Rattle.lookup.proofs.fragments.fragment.Statement.{statement}
 use Rattle.lookup.proofs.fragments.fragment.Tie as tie
 
-returns : tie.Need-returns
-returns c = answer-volume _ _ _ _ _ _ (c .before .before .before .before .before .lookup .ensures) (c .before .before .before .found .given .1) (c .before .is-mesh .ensures) (c .if1 .taken)
+-- a chunk is found, in a volume: 18
+found-in-volume : tie.Need-returns
+found-in-volume c =
+    let at-kind = c .before in
+    let at-found = at-kind .before .before in
+    answer-volume _ _ _ _ _ _ (at-found .before .before .lookup .ensures) (at-found .found .given .1) (at-kind .is-mesh .ensures) (c .if1 .taken)
 
-returns-2 : tie.Need-returns-2
-returns-2 c =
-    answer-mesh _ _ _ _ _ _ (c .before .before .before .before .before .before .before .lookup .ensures) (c .before .before .before .before .before .found .given .1) (c .before .before .before .is-mesh .ensures) (c .before .before .if1 .left)
-    (c .before .part-of .ensures .0) (c .fragment-in .ensures)
+-- a manifest is found, in a mesh
+found-in-mesh : tie.Need-returns-2
+found-in-mesh c =
+    let at-part = c .before in
+    let at-test = at-part .before in
+    let at-kind = at-test .before in
+    let at-found = at-kind .before .before in
+    answer-mesh _ _ _ _ _ _ (at-found .before .before .lookup .ensures) (at-found .found .given .1) (at-kind .is-mesh .ensures) (at-test .if1 .left)
+    (at-part .part-of .ensures .0) (c .fragment-in .ensures)
 
-returns-3 : tie.Need-returns-3
-returns-3 c = answer-refused _ _ _ _ _ _ (c .before .before .before .lookup .ensures) (c .before .found2 .given .1)
+-- the lookup refuses
+refused : tie.Need-returns-3
+refused c =
+    let at-refused = c .before in
+    answer-refused _ _ _ _ _ _ (at-refused .before .before .lookup .ensures) (at-refused .found2 .given .1)
 
 pub fragment-spec : {M : Type 1} → statement M
 fragment-spec =
     tie.close
-    (tie.spec (λ c κs. search needs) (λ c. search needs) (λ c κs. search needs) returns
+    (tie.spec (λ c κs. search needs) (λ c. search needs) (λ c κs. search needs) found-in-volume
     (λ c κs. (search chunk-inside, search chunk-short)) (λ c κs. (search manifest-sound, search manifest-behind))
-    (λ c. search needs) (λ c. search needs) returns-2 returns-3 (λ c. search answer-faulty))
+    (λ c. search needs) (λ c. search needs) found-in-mesh refused (λ c. search answer-faulty))

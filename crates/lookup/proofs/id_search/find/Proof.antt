@@ -19,11 +19,32 @@ Inv-loop base d p n id q t at₀ cur₀ i₀ at cur i =
 abbrev μ-loop : tie.MeasureT-loop
 μ-loop base d p n id q t at₀ cur₀ i₀ at cur i = n - i
 
-returns : tie.Need-returns Inv-loop μ-loop
-returns c =
-    let v = c .before .before .before .before .before .before .before .loop .inv in
-    seek-hit _ _ _ _ _ (v .0) (v .1) (c .before .before .before .before .before .before .loop-test .taken) (c .before .before .before .before .before .read-u64 .ensures .0) (c .before .before .before .before .wrapping-add-u64 .ensures)
-    (c .before .before .before .read-u642 .ensures .0) (c .before .before .wrapping-add-u642 .ensures) (c .before .read-u643 .ensures .0) (c .if1 .taken)
+none-passed : tie.Need-loop-holds Inv-loop μ-loop
+none-passed c = (tally-start _ _ _ _, seek-start _ _)
+
+-- entry i has the id: its start and size are the answer
+id-found : tie.Need-returns Inv-loop μ-loop
+id-found c =
+    let at-size = c .before in
+    let at-start = at-size .before .before in
+    let at-id = at-start .before .before in
+    let at-test = at-id .before in
+    let v = at-test .before .loop .inv in
+    seek-hit _ _ _ _ _ (v .0) (v .1) (at-test .loop-test .taken) (at-id .read-u64 .ensures .0) (at-start .before .wrapping-add-u64 .ensures)
+    (at-start .read-u642 .ensures .0) (at-size .before .wrapping-add-u642 .ensures) (at-size .read-u643 .ensures .0) (c .if1 .taken)
+
+-- it has another
+id-passed : tie.Need-loop-again Inv-loop μ-loop
+id-passed c =
+    let at-size = c .before .before in
+    let at-start = at-size .before .before in
+    let at-id = at-start .before .before in
+    let v = at-id .before .before .loop .inv in
+    let id = at-start .before .wrapping-add-u64 .ensures in
+    let start = at-size .before .wrapping-add-u642 .ensures in (
+      tally-turn (v .0) (omega arith) (at-id .read-u64 .ensures .0) id (at-start .read-u642 .ensures .0) start (at-size .read-u643 .ensures .0) (c .wrapping-add-u643 .ensures),
+      seek-turn (v .0) _ (at-id .read-u64 .ensures .0) id (v .1) (c .before .if1 .left),
+    )
 
 pub find-spec : {M : Type 1} → statement M
 find-spec =
@@ -35,7 +56,7 @@ find-spec =
     (λ c. omega arith)
     (λ c. omega arith)
     (λ c. omega arith)
-    (λ c. (tally-start _ _ _ _, seek-start _ _))
+    none-passed
     (λ c. omega arith)
     (λ c. omega arith)
     (λ c κs. omega arith)
@@ -48,18 +69,9 @@ find-spec =
     (λ c. omega arith)
     (λ c κs. omega arith)
     (λ c. search tally-place-fits)
-    returns
+    id-found
     (λ c κs. search needs)
     (λ c. omega arith)
     (λ c. omega arith)
-    (λ c.
-    let size = c .before .before in
-    let start = size .before .before in
-    let id = start .before .before in
-    let v = id .before .before .loop .inv in
-    let this = size .before .wrapping-add-u642 .ensures in (
-      tally-turn (v .0) (omega arith) (id .read-u64 .ensures .0) (start .before .wrapping-add-u64 .ensures) (start .read-u642 .ensures .0) this (size .read-u643 .ensures .0)
-          (c .wrapping-add-u643 .ensures),
-      seek-turn (v .0) _ (id .read-u64 .ensures .0) (start .before .wrapping-add-u64 .ensures) (v .1) (c .before .if1 .left),
-    ))
+    id-passed
     (λ c. search seek-end))

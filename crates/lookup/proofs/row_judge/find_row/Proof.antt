@@ -20,11 +20,32 @@ Inv-loop base d n id at₀ cur₀ i₀ at cur i =
 abbrev μ-loop : tie.MeasureT-loop
 μ-loop base d n id at₀ cur₀ i₀ at cur i = n - i
 
-returns : tie.Need-returns Inv-loop μ-loop
-returns c =
-    let v = c .before .before .before .before .before .before .before .loop .inv in
-    seek-hit _ _ _ _ _ (v .0) (v .1) (c .before .before .before .before .before .before .loop-test .taken) (c .before .before .before .before .before .id-step .ensures .0) (c .before .before .before .before .wrapping-add-u64 .ensures)
-    (c .before .before .before .start-step .ensures .0) (c .before .before .wrapping-add-u642 .ensures) (c .before .size-of .ensures .0) (c .if1 .taken)
+none-passed : tie.Need-loop-holds Inv-loop μ-loop
+none-passed c = (tally-start _ _ _ _, seek-start _ _)
+
+-- entry i has the id: its start and size are the answer
+id-found : tie.Need-returns Inv-loop μ-loop
+id-found c =
+    let at-size = c .before in
+    let at-start = at-size .before .before in
+    let at-id = at-start .before .before in
+    let at-test = at-id .before in
+    let v = at-test .before .loop .inv in
+    seek-hit _ _ _ _ _ (v .0) (v .1) (at-test .loop-test .taken) (at-id .id-step .ensures .0) (at-start .before .wrapping-add-u64 .ensures)
+    (at-start .start-step .ensures .0) (at-size .before .wrapping-add-u642 .ensures) (at-size .size-of .ensures .0) (c .if1 .taken)
+
+-- it has another
+id-passed : tie.Need-loop-again Inv-loop μ-loop
+id-passed c =
+    let at-size = c .before .before in
+    let at-start = at-size .before .before in
+    let at-id = at-start .before .before in
+    let v = at-id .before .before .loop .inv in
+    let id = at-start .before .wrapping-add-u64 .ensures in
+    let start = at-size .before .wrapping-add-u642 .ensures in (
+      tally-turn (v .0) (omega arith) (at-id .id-step .ensures .0) id (at-start .start-step .ensures .0) start (at-size .size-of .ensures .0) (c .wrapping-add-u643 .ensures),
+      seek-turn (v .0) _ (at-id .id-step .ensures .0) id (v .1) (c .before .if1 .left),
+    )
 
 pub find-row-spec : {M : Type 1} → statement M
 find-row-spec =
@@ -32,25 +53,16 @@ find-row-spec =
     (tie.spec
     Inv-loop
     μ-loop
-    (λ c. (tally-start _ _ _ _, seek-start _ _))
+    none-passed
     (λ c κs. search needs)
     (λ c κs. search needs)
     (λ c κs. search needs)
     (λ c κs. search needs)
     (λ c κs. search needs)
     (λ c. search row-place-fits)
-    returns
+    id-found
     (λ c κs. search needs)
     (λ c. omega arith)
     (λ c. omega arith)
-    (λ c.
-    let size = c .before .before in
-    let start = size .before .before in
-    let id = start .before .before in
-    let v = id .before .before .loop .inv in
-    let this = size .before .wrapping-add-u642 .ensures in (
-      tally-turn (v .0) (omega arith) (id .id-step .ensures .0) (start .before .wrapping-add-u64 .ensures) (start .start-step .ensures .0) this (size .size-of .ensures .0)
-          (c .wrapping-add-u643 .ensures),
-      seek-turn (v .0) _ (id .id-step .ensures .0) (start .before .wrapping-add-u64 .ensures) (v .1) (c .before .if1 .left),
-    ))
+    id-passed
     (λ c. search seek-end))

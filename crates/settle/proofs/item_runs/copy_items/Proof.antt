@@ -1,3 +1,4 @@
+-- The loop keeps `CopyingRows`: the rows from i on are as they were, and their items and start steps are what is left to write.
 use Prim.Native.Nat.{_-_}
 use native.Mathlib.Omega.{arith}
 use Rattle.settle.proofs.item_runs.Copying.{CopyingRows, rows-inside, rows-lead, rows-out, copyingRows}
@@ -10,34 +11,24 @@ Inv-loop spec «data» n out₀ q at p to₀ place₀ i₀ out to place i = Copy
 abbrev μ-loop : tie.MeasureT-loop
 μ-loop spec «data» n out₀ q at p to₀ place₀ i₀ out to place i = n - i
 
+-- the item of row i lies in the data, and there is room for it before the index
+item-inside : tie.Need-copy-bytes-requires Inv-loop μ-loop
+item-inside c κs =
+    let at-lead = c .before in
+    let at-get = at-lead .before in
+    let at-test = at-get .before .before in
+    let inv = at-test .before .loop .inv in
+    let pre = at-test .before .before .before .before .pre in
+    let row = at-get .get .ensures .0 in
+    let lead = at-lead .lead-length .ensures in (
+      omega (arith, rows-inside inv (pre .0 .0) (omega arith) _ row, rows-lead inv (pre .0 .0) (omega arith) _ row _ lead),
+      omega (arith, rows-out inv (pre .0 .0) (omega arith) _ row _ lead (pre .1 .0) (pre .1 .1)),
+    )
+
 pub copy-items-spec : {M : Type 1} → statement M
 copy-items-spec =
     tie.close
-    (tie.spec
-    Inv-loop
-    μ-loop
-    (λ c. search copyingRows)
-    (λ c κs. search copyingRows)
-    (λ c κs. search copyingRows)
-    (λ c. search copyingRows)
-    (λ c. search copyingRows)
-    (λ c κs.
-    let lead = c .before in
-    let get = lead .before in
-    let loop = get .before .before .before in
-    let pre = loop .before .before .before .pre in (
-      omega (arith, rows-inside (loop .loop .inv) (pre .0 .0) (omega arith) _ (get .get .ensures .0), rows-lead (loop .loop .inv) (pre .0 .0) (omega arith) _ (get .get .ensures .0) _ (lead .lead-length .ensures)),
-      omega (arith, rows-out (loop .loop .inv) (pre .0 .0) (omega arith) _ (get .get .ensures .0) _ (lead .lead-length .ensures) (pre .1 .0) (pre .1 .1)),
-    ))
-    (λ c. search copyingRows)
-    (λ c. search copyingRows)
-    (λ c. search copyingRows)
-    (λ c. search copyingRows)
-    (λ c. search copyingRows)
-    (λ c κs. search copyingRows)
-    (λ c. search copyingRows)
-    (λ c. search copyingRows)
-    (λ c. search copyingRows)
-    (λ c. search copyingRows)
-    (λ c. search copyingRows)
-    (λ c. search copyingRows))
+    (tie.spec Inv-loop μ-loop (λ c. search copyingRows) (λ c κs. search copyingRows) (λ c κs. search copyingRows) (λ c. search copyingRows)
+    (λ c. search copyingRows) item-inside (λ c. search copyingRows) (λ c. search copyingRows) (λ c. search copyingRows) (λ c. search copyingRows)
+    (λ c. search copyingRows) (λ c κs. search copyingRows) (λ c. search copyingRows) (λ c. search copyingRows) (λ c. search copyingRows)
+    (λ c. search copyingRows) (λ c. search copyingRows) (λ c. search copyingRows))

@@ -1,3 +1,4 @@
+-- The loop keeps `Filling`: the entries before i stand in the rows at q with absolute numbers; id and end are those of the entry before i.
 use Prim.Native.Nat.{_-_}
 use native.Mathlib.Omega.{arith}
 use Rattle.settle.proofs.sorted.Filling.{Filling, fill-next, filling}
@@ -10,14 +11,21 @@ Inv-loop «data» s n out₀ q starts sizes id₀ end₀ i₀ out id end i = Fil
 abbrev μ-loop : tie.MeasureT-loop
 μ-loop «data» s n out₀ q starts sizes id₀ end₀ i₀ out id end i = n - i
 
+-- the three reads of entry i, then its row put
+one-more : tie.Need-loop-again Inv-loop μ-loop
+one-more c =
+    let at-put = c .before .before .before in
+    let at-size = at-put .before .before in
+    let at-start = at-size .before .before in
+    let at-id = at-start .before .before in
+    fill-next (at-id .before .before .loop .inv) (omega arith) (at-id .read-u64 .ensures .0) (at-start .before .wrapping-add-u64 .ensures) (at-start .read-u642 .ensures .0)
+    (at-size .before .wrapping-add-u642 .ensures) (at-size .read-u643 .ensures .0) (c .wrapping-add-u643 .ensures) (at-put .put .ensures .0) (at-put .put .ensures .1)
+
 pub put-rows-spec : {M : Type 1} → statement M
 put-rows-spec =
     tie.close
     (tie.spec Inv-loop μ-loop (λ c. search filling) (λ c. search filling) (λ c. search filling) (λ c. search filling) (λ c. search filling)
     (λ c. search filling) (λ c. search filling) (λ c κs. search filling) (λ c κs. search filling) (λ c. search filling) (λ c. search filling)
     (λ c κs. search filling) (λ c κs. search filling) (λ c. search filling) (λ c. search filling) (λ c κs. search filling)
-    (λ c κs. (search filling, search filling)) (λ c κs. search filling) (λ c. search filling) (λ c. search filling) (λ c.
-    let put = c .before .before .before in let size = put .before .before in let start = size .before .before in let id = start .before .before in
-    fill-next (id .before .before .loop .inv) (omega arith) (id .read-u64 .ensures .0) (start .before .wrapping-add-u64 .ensures) (start .read-u642 .ensures .0)
-    (size .before .wrapping-add-u642 .ensures) (size .read-u643 .ensures .0) (c .wrapping-add-u643 .ensures) (put .put .ensures .0) (put .put .ensures .1))
+    (λ c κs. (search filling, search filling)) (λ c κs. search filling) (λ c. search filling) (λ c. search filling) one-more
     (λ c. search filling) (λ c. (search filling, search filling)))

@@ -5,7 +5,9 @@ use Rattle.locate.proofs.lines.line.put_refused.Statement.{statement}
 use Rattle.locate.proofs.lines.line.put_refused.Tie as tie
 
 put-ending-requires : tie.Need-put-ending-requires
-put-ending-requires c κs = omega (arith, ending-small (c .before .before .before .before .before .before .args .number) (omega arith))
+put-ending-requires c κs =
+    let number = c .before .before .before .before .before .before .args .number in
+    omega (arith, ending-small number (omega arith))
 
 returns : tie.Need-returns
 returns c = search (refusing, arith)
