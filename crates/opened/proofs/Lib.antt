@@ -1,4 +1,5 @@
--- The two walks that the functions share, and what one of them asks.
-pub mod Ask
-pub mod Node
-pub mod In
+-- What a walk needs of its parameters and of its locals, the crate's two structs, and the walks.
+pub mod Params
+pub mod Locals
+pub mod Structs
+pub mod Walks

@@ -8,17 +8,18 @@ ghost use Rattle.lookup.specs.fragments.Fragment.{fragmentAnswer};
 use lookup::LookupAnswer;
 use sharding::Sharding;
 
+// The fields stand in the order in which every call takes them.
 pub struct Opened<'a> {
-    pub file: &'a [u8],
     pub spec: Sharding,
     pub number: u64,
+    pub file: &'a [u8],
 }
 
 // Opening judges nothing.
 pub fn open_shard<'a>(spec: Sharding, number: u64, file: &'a [u8]) -> Opened<'a>
     ensures answer { λ r. ⌜ (r .file ≡ file .entry) × (r .spec ≡ spec) × (r .number ≡ number) ⌝ }
 {
-    Opened { file, spec, number }
+    Opened { spec, number, file }
 }
 
 // The answer of the plain lookup.

@@ -10,11 +10,12 @@ use crate::MeshNode;
 use lookup::LookupAnswer;
 use sharding::Sharding;
 
+// The fields stand in the order in which every call takes them.
 pub struct OpenedPair<'a> {
-    pub index: &'a [u8],
-    pub data: &'a [u8],
     pub spec: Sharding,
     pub number: u64,
+    pub index: &'a [u8],
+    pub data: &'a [u8],
 }
 
 // Opening judges nothing.
@@ -22,10 +23,10 @@ pub fn open_pair<'a>(spec: Sharding, number: u64, index: &'a [u8], data: &'a [u8
     ensures answer { λ r. ⌜ (r .index ≡ index .entry) × (r .«data» ≡ «data» .entry) × (r .spec ≡ spec) × (r .number ≡ number) ⌝ }
 {
     OpenedPair {
-        index,
-        data,
         spec,
         number,
+        index,
+        data,
     }
 }
 

@@ -1,2 +1,0 @@
--- The walk that the functions share.
-pub mod Ask
