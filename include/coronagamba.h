@@ -54,6 +54,12 @@
  * to 17 and 21 the start step of that entry, 8 bytes each; of an id that stands
  * twice the later entry offends. The bytes are always within the shard.
  *
+ * Numbers. A number that no field of the format can hold is refused, not cut
+ * off: the fields of a specification, the wish to drop unlisted bytes and the
+ * width of labels are wider here than what they may be. Extents, cells, voxels,
+ * channels, levels, nodes and a manifest's fields have the format's 32 bits. A
+ * wider number is cut to them by C, before any call, so look at it first.
+ *
  * Meshes. In a shard of the kind mesh each chunk is a manifest, and the bytes
  * right before it are its fragments. 15 to 17 and 21 are tested of such shards
  * alone; the calls on a manifest give 15 to 17 of any bytes, with no position.
@@ -414,15 +420,16 @@ uint64_t coronagamba_bounds_of(coronagamba_volume volume, coronagamba_cell cell,
 
 /* ---- Ids and shards ------------------------------------------------------ */
 
-/* The numbers as they stand in a card: hash 0 is identity, 1 is murmur; kind
- * 1 is mesh, and 0 is volume, for which a card has no field. Any values; the
- * entry points judge them. */
+/* A sharding specification, its numbers as in a card: hash 0 is identity, 1
+ * is murmur; kind 0 is volume, 1 is mesh. Any numbers; each call judges
+ * them. The fields are wider than a card's, so that a greater number is not
+ * cut off: above 255 each is refused with 1. */
 typedef struct {
-  uint8_t preshift;
-  uint8_t hash;
-  uint8_t minishard_bits;
-  uint8_t shard_bits;
-  uint8_t kind;
+  uint32_t preshift;
+  uint32_t hash;
+  uint32_t minishard_bits;
+  uint32_t shard_bits;
+  uint32_t kind;
 } coronagamba_sharding;
 
 /* The shard and the minishard of an id. Writes them to `shard` and
@@ -522,7 +529,7 @@ uint64_t coronagamba_unlisted(coronagamba_sharding sharding, uint64_t shard,
  * form would pass 1 GiB */
 uint64_t coronagamba_settled_length(coronagamba_sharding sharding,
                                     uint64_t shard, const uint8_t *file,
-                                    size_t count, uint8_t drop_unlisted,
+                                    size_t count, uint64_t drop_unlisted,
                                     uint64_t *length);
 
 /* A shard's settled form; in a mesh each manifest has its fragments right
@@ -535,7 +542,7 @@ uint64_t coronagamba_settled_length(coronagamba_sharding sharding,
  * is shorter than the form or the form would pass 1 GiB */
 uint64_t coronagamba_settle(coronagamba_sharding sharding, uint64_t shard,
                             const uint8_t *file, size_t count,
-                            uint8_t drop_unlisted, uint8_t *out,
+                            uint64_t drop_unlisted, uint8_t *out,
                             size_t out_count, uint64_t *length);
 
 /* ---- Shards of the earlier edition, an index file and a data file each --- */
@@ -614,7 +621,7 @@ uint64_t coronagamba_pair_settled_length(coronagamba_sharding sharding,
                                          uint64_t shard, const uint8_t *index,
                                          size_t count, const uint8_t *data,
                                          size_t data_count,
-                                         uint8_t drop_unlisted,
+                                         uint64_t drop_unlisted,
                                          uint64_t *length);
 
 /* coronagamba_settle of a pair: its settled form, which is one file. Writes
@@ -628,7 +635,7 @@ uint64_t coronagamba_pair_settled_length(coronagamba_sharding sharding,
 uint64_t coronagamba_pair_settle(coronagamba_sharding sharding, uint64_t shard,
                                  const uint8_t *index, size_t count,
                                  const uint8_t *data, size_t data_count,
-                                 uint8_t drop_unlisted, uint8_t *out,
+                                 uint64_t drop_unlisted, uint8_t *out,
                                  size_t out_count, uint64_t *length);
 
 /* Where the bytes of the joined file from `start` up to `end`, end excluded,
@@ -835,7 +842,7 @@ uint64_t coronagamba_manifest_corners(const uint8_t *bytes, size_t count,
  * channel is outside, 29, 28 */
 uint64_t coronagamba_label(const uint8_t *chunk, size_t count,
                            coronagamba_extents size, coronagamba_extents block,
-                           uint32_t channels, uint8_t bits, uint32_t x,
+                           uint32_t channels, uint64_t bits, uint32_t x,
                            uint32_t y, uint32_t z, uint32_t channel,
                            uint64_t *label);
 
@@ -846,7 +853,7 @@ uint64_t coronagamba_label(const uint8_t *chunk, size_t count,
  * channel count is 0, 13 where the number does not fit 64 bits */
 uint64_t coronagamba_unpacked_length(coronagamba_extents size,
                                      coronagamba_extents block,
-                                     uint32_t channels, uint8_t bits,
+                                     uint32_t channels, uint64_t bits,
                                      uint64_t *length);
 
 /* A whole chunk of the compressed segmentation encoding in the raw form:
@@ -860,7 +867,7 @@ uint64_t coronagamba_unpacked_length(coronagamba_extents size,
  * than the raw form */
 uint64_t coronagamba_unpack(const uint8_t *chunk, size_t count,
                             coronagamba_extents size, coronagamba_extents block,
-                            uint32_t channels, uint8_t bits, uint8_t *out,
+                            uint32_t channels, uint64_t bits, uint8_t *out,
                             size_t out_count, uint64_t *length);
 
 #ifdef __cplusplus

@@ -96,6 +96,7 @@ static void places(void) {
                                    CORONAGAMBA_KIND_VOLUME};
   coronagamba_sharding five = {0, 0, 0, 5, 0};
   coronagamba_sharding other = {0, 0, 0, 0, 2};
+  coronagamba_sharding wide = {256 + 1, 0, 1, 0, 0};
   const uint64_t ids[3] = {2, 3, 4};
   uint64_t shard = 9, minishard = 9, length = 0;
   uint64_t shards[3], minishards[3];
@@ -107,6 +108,10 @@ static void places(void) {
               CORONAGAMBA_REFUSED_SHARDING_NOT_ALLOWED &&
           minishard == 1,
       "place_of, neither volume nor mesh");
+  see(coronagamba_place_of(wide, 3, &shard, &minishard) ==
+              CORONAGAMBA_REFUSED_SHARDING_NOT_ALLOWED &&
+          minishard == 1,
+      "place_of, a preshift that a byte cuts to 1");
   see(coronagamba_places_of(sharding, ids, 3, shards, 3, minishards, 3,
                             &length) == 0 &&
           length == 3 && minishards[0] == 1 && minishards[2] == 0,
@@ -159,6 +164,10 @@ static void shards(void) {
               CORONAGAMBA_REFUSED_UNLISTED_BYTES &&
           length == 7,
       "settle, an unlisted byte");
+  see(coronagamba_settle(sharding, 0, file, 86, 256 + 1, out, 90, &length) ==
+              CORONAGAMBA_REFUSED_UNLISTED_BYTES &&
+          length == 7,
+      "settle, a wish that a byte cuts to 1");
   see(coronagamba_settle(sharding, 0, file, 86, 1, out, 90, &length) == 0 &&
           length == 85 && memcmp(out, file, 85) == 0,
       "settle, an unlisted byte dropped");

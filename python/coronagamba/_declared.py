@@ -44,17 +44,18 @@ INTAKE_NUMBERS = 15
 SHEET_ROWS = 17
 
 
-class Sharding(ctypes.Structure):
-    """The numbers as they stand in a card: hash 0 is identity, 1 is murmur;
-    kind 1 is mesh, and 0 is volume, for which a card has no field. Any
-    values; the entry points judge them."""
+class CSharding(ctypes.Structure):
+    """A sharding specification, its numbers as in a card: hash 0 is identity,
+    1 is murmur; kind 0 is volume, 1 is mesh. Any numbers; each call judges
+    them. The fields are wider than a card's, so that a greater number is
+    not cut off: above 255 each is refused with 1."""
 
     _fields_ = [
-        ("preshift", ctypes.c_uint8),
-        ("hash", ctypes.c_uint8),
-        ("minishard_bits", ctypes.c_uint8),
-        ("shard_bits", ctypes.c_uint8),
-        ("kind", ctypes.c_uint8),
+        ("preshift", ctypes.c_uint32),
+        ("hash", ctypes.c_uint32),
+        ("minishard_bits", ctypes.c_uint32),
+        ("shard_bits", ctypes.c_uint32),
+        ("kind", ctypes.c_uint32),
     ]
 
 
@@ -111,7 +112,7 @@ class Point(ctypes.Structure):
 
 # The structs, by their names in C.
 STRUCTS: Dict[str, Any] = {
-    "coronagamba_sharding": Sharding,
+    "coronagamba_sharding": CSharding,
     "coronagamba_extents": Extents,
     "coronagamba_offset": Offset,
     "coronagamba_volume": Volume,
@@ -233,7 +234,7 @@ FUNCTIONS: Dict[str, Tuple[Any, Tuple[Any, ...]]] = {
     "coronagamba_place_of": (
         ctypes.c_uint64,
         (
-            Sharding,
+            CSharding,
             ctypes.c_uint64,
             POINTER(ctypes.c_uint64),
             POINTER(ctypes.c_uint64),
@@ -245,7 +246,7 @@ FUNCTIONS: Dict[str, Tuple[Any, Tuple[Any, ...]]] = {
     "coronagamba_places_of": (
         ctypes.c_uint64,
         (
-            Sharding,
+            CSharding,
             POINTER(ctypes.c_uint64),
             ctypes.c_size_t,
             POINTER(ctypes.c_uint64),
@@ -275,7 +276,7 @@ FUNCTIONS: Dict[str, Tuple[Any, Tuple[Any, ...]]] = {
     "coronagamba_shard_name": (
         ctypes.c_uint64,
         (
-            Sharding,
+            CSharding,
             ctypes.c_uint64,
             POINTER(ctypes.c_uint8),
             ctypes.c_size_t,
@@ -291,7 +292,7 @@ FUNCTIONS: Dict[str, Tuple[Any, Tuple[Any, ...]]] = {
     "coronagamba_lookup": (
         ctypes.c_uint64,
         (
-            Sharding,
+            CSharding,
             ctypes.c_uint64,
             POINTER(ctypes.c_uint8),
             ctypes.c_size_t,
@@ -312,7 +313,7 @@ FUNCTIONS: Dict[str, Tuple[Any, Tuple[Any, ...]]] = {
     "coronagamba_fragment": (
         ctypes.c_uint64,
         (
-            Sharding,
+            CSharding,
             ctypes.c_uint64,
             POINTER(ctypes.c_uint8),
             ctypes.c_size_t,
@@ -332,7 +333,7 @@ FUNCTIONS: Dict[str, Tuple[Any, Tuple[Any, ...]]] = {
     "coronagamba_check": (
         ctypes.c_uint64,
         (
-            Sharding,
+            CSharding,
             ctypes.c_uint64,
             POINTER(ctypes.c_uint8),
             ctypes.c_size_t,
@@ -344,7 +345,7 @@ FUNCTIONS: Dict[str, Tuple[Any, Tuple[Any, ...]]] = {
     "coronagamba_listed_count": (
         ctypes.c_uint64,
         (
-            Sharding,
+            CSharding,
             ctypes.c_uint64,
             POINTER(ctypes.c_uint8),
             ctypes.c_size_t,
@@ -362,7 +363,7 @@ FUNCTIONS: Dict[str, Tuple[Any, Tuple[Any, ...]]] = {
     "coronagamba_listing": (
         ctypes.c_uint64,
         (
-            Sharding,
+            CSharding,
             ctypes.c_uint64,
             POINTER(ctypes.c_uint8),
             ctypes.c_size_t,
@@ -381,7 +382,7 @@ FUNCTIONS: Dict[str, Tuple[Any, Tuple[Any, ...]]] = {
     "coronagamba_unlisted": (
         ctypes.c_uint64,
         (
-            Sharding,
+            CSharding,
             ctypes.c_uint64,
             POINTER(ctypes.c_uint8),
             ctypes.c_size_t,
@@ -397,11 +398,11 @@ FUNCTIONS: Dict[str, Tuple[Any, Tuple[Any, ...]]] = {
     "coronagamba_settled_length": (
         ctypes.c_uint64,
         (
-            Sharding,
+            CSharding,
             ctypes.c_uint64,
             POINTER(ctypes.c_uint8),
             ctypes.c_size_t,
-            ctypes.c_uint8,
+            ctypes.c_uint64,
             POINTER(ctypes.c_uint64),
         ),
     ),
@@ -417,11 +418,11 @@ FUNCTIONS: Dict[str, Tuple[Any, Tuple[Any, ...]]] = {
     "coronagamba_settle": (
         ctypes.c_uint64,
         (
-            Sharding,
+            CSharding,
             ctypes.c_uint64,
             POINTER(ctypes.c_uint8),
             ctypes.c_size_t,
-            ctypes.c_uint8,
+            ctypes.c_uint64,
             POINTER(ctypes.c_uint8),
             ctypes.c_size_t,
             POINTER(ctypes.c_uint64),
@@ -434,7 +435,7 @@ FUNCTIONS: Dict[str, Tuple[Any, Tuple[Any, ...]]] = {
     "coronagamba_pair_check": (
         ctypes.c_uint64,
         (
-            Sharding,
+            CSharding,
             ctypes.c_uint64,
             POINTER(ctypes.c_uint8),
             ctypes.c_size_t,
@@ -451,7 +452,7 @@ FUNCTIONS: Dict[str, Tuple[Any, Tuple[Any, ...]]] = {
     "coronagamba_pair_lookup": (
         ctypes.c_uint64,
         (
-            Sharding,
+            CSharding,
             ctypes.c_uint64,
             POINTER(ctypes.c_uint8),
             ctypes.c_size_t,
@@ -471,7 +472,7 @@ FUNCTIONS: Dict[str, Tuple[Any, Tuple[Any, ...]]] = {
     "coronagamba_pair_fragment": (
         ctypes.c_uint64,
         (
-            Sharding,
+            CSharding,
             ctypes.c_uint64,
             POINTER(ctypes.c_uint8),
             ctypes.c_size_t,
@@ -491,7 +492,7 @@ FUNCTIONS: Dict[str, Tuple[Any, Tuple[Any, ...]]] = {
     "coronagamba_pair_listed_count": (
         ctypes.c_uint64,
         (
-            Sharding,
+            CSharding,
             ctypes.c_uint64,
             POINTER(ctypes.c_uint8),
             ctypes.c_size_t,
@@ -512,7 +513,7 @@ FUNCTIONS: Dict[str, Tuple[Any, Tuple[Any, ...]]] = {
     "coronagamba_pair_listing": (
         ctypes.c_uint64,
         (
-            Sharding,
+            CSharding,
             ctypes.c_uint64,
             POINTER(ctypes.c_uint8),
             ctypes.c_size_t,
@@ -531,7 +532,7 @@ FUNCTIONS: Dict[str, Tuple[Any, Tuple[Any, ...]]] = {
     "coronagamba_pair_unlisted": (
         ctypes.c_uint64,
         (
-            Sharding,
+            CSharding,
             ctypes.c_uint64,
             POINTER(ctypes.c_uint8),
             ctypes.c_size_t,
@@ -550,13 +551,13 @@ FUNCTIONS: Dict[str, Tuple[Any, Tuple[Any, ...]]] = {
     "coronagamba_pair_settled_length": (
         ctypes.c_uint64,
         (
-            Sharding,
+            CSharding,
             ctypes.c_uint64,
             POINTER(ctypes.c_uint8),
             ctypes.c_size_t,
             POINTER(ctypes.c_uint8),
             ctypes.c_size_t,
-            ctypes.c_uint8,
+            ctypes.c_uint64,
             POINTER(ctypes.c_uint64),
         ),
     ),
@@ -572,13 +573,13 @@ FUNCTIONS: Dict[str, Tuple[Any, Tuple[Any, ...]]] = {
     "coronagamba_pair_settle": (
         ctypes.c_uint64,
         (
-            Sharding,
+            CSharding,
             ctypes.c_uint64,
             POINTER(ctypes.c_uint8),
             ctypes.c_size_t,
             POINTER(ctypes.c_uint8),
             ctypes.c_size_t,
-            ctypes.c_uint8,
+            ctypes.c_uint64,
             POINTER(ctypes.c_uint8),
             ctypes.c_size_t,
             POINTER(ctypes.c_uint64),
@@ -594,7 +595,7 @@ FUNCTIONS: Dict[str, Tuple[Any, Tuple[Any, ...]]] = {
     "coronagamba_pair_range": (
         ctypes.c_uint64,
         (
-            Sharding,
+            CSharding,
             POINTER(ctypes.c_uint8),
             ctypes.c_size_t,
             POINTER(ctypes.c_uint8),
@@ -613,7 +614,7 @@ FUNCTIONS: Dict[str, Tuple[Any, Tuple[Any, ...]]] = {
     "coronagamba_index_name": (
         ctypes.c_uint64,
         (
-            Sharding,
+            CSharding,
             ctypes.c_uint64,
             POINTER(ctypes.c_uint8),
             ctypes.c_size_t,
@@ -625,7 +626,7 @@ FUNCTIONS: Dict[str, Tuple[Any, Tuple[Any, ...]]] = {
     "coronagamba_data_name": (
         ctypes.c_uint64,
         (
-            Sharding,
+            CSharding,
             ctypes.c_uint64,
             POINTER(ctypes.c_uint8),
             ctypes.c_size_t,
@@ -643,7 +644,7 @@ FUNCTIONS: Dict[str, Tuple[Any, Tuple[Any, ...]]] = {
     "coronagamba_intake_open": (
         ctypes.c_uint64,
         (
-            Sharding,
+            CSharding,
             ctypes.c_uint64,
             POINTER(ctypes.c_uint8),
             ctypes.c_size_t,
@@ -718,7 +719,7 @@ FUNCTIONS: Dict[str, Tuple[Any, Tuple[Any, ...]]] = {
     "coronagamba_measure": (
         ctypes.c_uint64,
         (
-            Sharding,
+            CSharding,
             ctypes.c_uint64,
             POINTER(ctypes.c_uint8),
             ctypes.c_size_t,
@@ -731,7 +732,7 @@ FUNCTIONS: Dict[str, Tuple[Any, Tuple[Any, ...]]] = {
     "coronagamba_pair_measure": (
         ctypes.c_uint64,
         (
-            Sharding,
+            CSharding,
             ctypes.c_uint64,
             POINTER(ctypes.c_uint8),
             ctypes.c_size_t,
@@ -752,7 +753,7 @@ FUNCTIONS: Dict[str, Tuple[Any, Tuple[Any, ...]]] = {
         ctypes.c_uint64,
         (
             POINTER(ctypes.c_uint64 * 17),
-            Sharding,
+            CSharding,
             ctypes.c_uint64,
             POINTER(ctypes.c_uint8),
             ctypes.c_size_t,
@@ -764,7 +765,7 @@ FUNCTIONS: Dict[str, Tuple[Any, Tuple[Any, ...]]] = {
         ctypes.c_uint64,
         (
             POINTER(ctypes.c_uint64 * 17),
-            Sharding,
+            CSharding,
             ctypes.c_uint64,
             POINTER(ctypes.c_uint8),
             ctypes.c_size_t,
@@ -804,7 +805,7 @@ FUNCTIONS: Dict[str, Tuple[Any, Tuple[Any, ...]]] = {
     "coronagamba_card_write": (
         ctypes.c_uint64,
         (
-            Sharding,
+            CSharding,
             Volume,
             POINTER(ctypes.c_uint8),
             ctypes.c_size_t,
@@ -929,7 +930,7 @@ FUNCTIONS: Dict[str, Tuple[Any, Tuple[Any, ...]]] = {
             Extents,
             Extents,
             ctypes.c_uint32,
-            ctypes.c_uint8,
+            ctypes.c_uint64,
             ctypes.c_uint32,
             ctypes.c_uint32,
             ctypes.c_uint32,
@@ -948,7 +949,7 @@ FUNCTIONS: Dict[str, Tuple[Any, Tuple[Any, ...]]] = {
             Extents,
             Extents,
             ctypes.c_uint32,
-            ctypes.c_uint8,
+            ctypes.c_uint64,
             POINTER(ctypes.c_uint64),
         ),
     ),
@@ -970,7 +971,7 @@ FUNCTIONS: Dict[str, Tuple[Any, Tuple[Any, ...]]] = {
             Extents,
             Extents,
             ctypes.c_uint32,
-            ctypes.c_uint8,
+            ctypes.c_uint64,
             POINTER(ctypes.c_uint8),
             ctypes.c_size_t,
             POINTER(ctypes.c_uint64),

@@ -62,8 +62,8 @@ class Sharding:
             value = u8(field.name, getattr(self, field.name))
             object.__setattr__(self, field.name, value)
 
-    def _struct(self) -> _declared.Sharding:
-        return _declared.Sharding(
+    def _struct(self) -> _declared.CSharding:
+        return _declared.CSharding(
             self.preshift,
             self.hash,
             self.minishard_bits,

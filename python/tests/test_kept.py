@@ -13,8 +13,14 @@ from .manifests import manifest
 from .shards import u64s
 
 KEPT = 0x55
-ALLOWED = _declared.Sharding(0, 0, 1, 0, 0)
-FORBIDDEN = _declared.Sharding(64, 0, 0, 0, 0)
+ALLOWED = _declared.CSharding(0, 0, 1, 0, 0)
+FORBIDDEN = _declared.CSharding(64, 0, 0, 0, 0)
+# An allowed specification with 256 more in one field, in each field once: cut
+# to a byte, it would be the allowed one.
+TOO_WIDE = [
+    _declared.CSharding(*(256 * (i == field) + (i == 2) for i in range(5)))
+    for field in range(5)
+]
 UNIT = _declared.Volume((1, 1, 1), (1, 1, 1), (0, 0, 0))
 ROW = _declared.Volume((3, 1, 1), (1, 1, 1), (0, 0, 0))
 NO_VOLUME = _declared.Volume()
@@ -43,6 +49,9 @@ ONE = _declared.Extents(1, 1, 1)
 SHAPE = (ONE, ONE, 1, 32)
 NO_SHAPE = (_declared.Extents(), ONE, 1, 32)
 NO_WIDTH = (ONE, ONE, 1, 1)
+# 32 and 64 where they are cut to a byte.
+WIDE_32 = (ONE, ONE, 1, 256 + 32)
+WIDE_64 = (ONE, ONE, 1, 256 + 64)
 WIDE = (_declared.Extents(2**31, 2**31, 2), ONE, 1, 32)
 LABELLED = (c_uint8 * 16).from_buffer_copy(struct.pack("<4I", 1, 2, 0, 5))
 WIDTH = (c_uint8 * 12).from_buffer_copy(struct.pack("<3I", 1, 3 << 24, 0))
@@ -185,6 +194,44 @@ CALLS = [
     (13, "unpack", (LABELLED, 16, *SHAPE), [(c_uint8 * 3, 3), U64]),
 ]
 
+# A number that the format has no room for is refused, and not cut off.
+for wide in TOO_WIDE:
+    ON_SHARD = (wide, 0, LISTING, 56)
+    ON_PAIR = (wide, 0, LISTING, 32, ROWS, 24)
+    CALLS += [
+        (1, "place_of", (wide, 0), [U64, U64]),
+        (1, "places_of", (wide, IDS, 2), [(TWO_U64, 2), (TWO_U64, 2), U64]),
+        (1, "shard_name", (wide, 0), [(c_uint8 * 20, 20), U64]),
+        (1, "index_name", (wide, 0), [(c_uint8 * 20, 20), U64]),
+        (1, "data_name", (wide, 0), [(c_uint8 * 20, 20), U64]),
+        (1, "card_write", (wide, UNIT), [(c_uint8 * 65, 65), U64]),
+        (1, "intake_open", (wide, 0), [OUT, WAITING, STATE]),
+        (1, "pair_range", (wide, LISTING, 32, ROWS, 24, 0, 0), RANGE),
+    ]
+    for pair, front in (("", ON_SHARD), ("pair_", ON_PAIR)):
+        CALLS += [
+            (1, f"{pair}lookup", front + (0,), [U64, U64]),
+            (1, f"{pair}fragment", front + (0, 0, 0), [U64, U64]),
+            (1, f"{pair}listed_count", front + (0,), [U64]),
+            (1, f"{pair}listing", front + (0,), [(c_uint64 * 3, 3), U64]),
+            (1, f"{pair}unlisted", front, [U64]),
+            (1, f"{pair}settled_length", front + (0,), [U64]),
+            (1, f"{pair}settle", front + (0,), [(c_uint8 * 64, 64), U64]),
+            (1, f"{pair}measure", front, [c_uint64 * 4]),
+        ]
+for wish in (257, 2**32 + 1):
+    for pair, front in (("", UNLISTED), ("pair_", UNLISTED_PAIR)):
+        CALLS += [
+            (22, f"{pair}settled_length", front + (wish,), [U64]),
+            (22, f"{pair}settle", front + (wish,), [(c_uint8 * 40, 40), U64]),
+        ]
+for shape in (WIDE_32, WIDE_64):
+    CALLS += [
+        (2, "label", (LABELLED, 16, *shape, 0, 0, 0, 0), [U64]),
+        (2, "unpacked_length", shape, [U64]),
+        (2, "unpack", (LABELLED, 16, *shape), [(c_uint8 * 9, 9), U64]),
+    ]
+
 ONE_CHUNK = (c_uint64 * 17)(*[0] * 14, 1, 0, 0)
 # Calls on a sheet: the row to which each adds 1, and what is behind the sheet.
 SHEET_CALLS = [
@@ -196,6 +243,12 @@ SHEET_CALLS = [
     ("pair_sheet_add", 13, LONG),
     ("sheet_join", 14, (byref(ONE_CHUNK),)),
 ]
+# The row of 1.
+for wide in TOO_WIDE:
+    SHEET_CALLS += [
+        ("sheet_add", 1, (wide, 0, LISTING, 56)),
+        ("pair_sheet_add", 1, (wide, 0, LISTING, 32, ROWS, 24)),
+    ]
 
 
 class Kept(unittest.TestCase):
@@ -244,3 +297,10 @@ class Kept(unittest.TestCase):
         word = SECOND + 256 * 2
         self.assertEqual(library.coronagamba_check(*SHARD), word)
         self.assertEqual(library.coronagamba_pair_check(*PAIR), word)
+
+    def test_the_checks_refuse_what_no_byte_holds(self):
+        for wide in TOO_WIDE:
+            check = library.coronagamba_check
+            self.assertEqual(check(wide, 0, LISTING, 56), 1)
+            check = library.coronagamba_pair_check
+            self.assertEqual(check(wide, 0, LISTING, 32, ROWS, 24), 1)

@@ -12,15 +12,10 @@ use Rattle.lookup.specs.declared.listings.CountAnswer.the-variants as N
 use Rattle.unlisted.specs.declared.UnlistedAnswer.{UnlistedAnswer}
 use Rattle.unlisted.specs.declared.UnlistedAnswer.the-variants as U
 use Rattle.settle.specs.declared.answers.SettleAnswer.{SettleAnswer}
-use Rattle.settle.specs.answers.Answers.{lengthAnswer, settleAnswer, settleLeft}
-use Rattle.split_shard.specs.form.Answers.{pairLength, pairSettle, pairSettleLeft}
-use Rattle.sharding.specs.declared.Sharding.{Sharding}
-use mathlib.Core.Bool.{Bool}
-use mathlib.Core.List.{List}
 use Rattle.settle.specs.declared.answers.SettleAnswer.the-variants as S
 use Rattle.coronagamba.specs.word.Word.{word}
 use Rattle.coronagamba.specs.Shards.{checkWord, lookupWord, startAfter, sizeAfter, countWord, countAfter, settleWord, formAfter, unlistedWord, unlistedAfter}
-use Rattle.coronagamba.proofs.Told.{told, after, given, left}
+use Rattle.coronagamba.proofs.Told.{told, after}
 
 module _ {a b : CheckAnswer} (e : b ≡ a) where
   pub word-sound : b ≡ Sound → 0 ≡ checkWord a
@@ -117,64 +112,6 @@ module _ {a b : UnlistedAnswer} (e : b ≡ a) where
   pub bytes-faulty : (x : ℕ) {k p : ℕ} → b ≡ U.Faulty k p → x ≡ unlistedAfter a x
   bytes-faulty x h = after unlistedAfter x e h
 
--- what is given and left by an answer
-
-module _ {a b : CheckAnswer} where
-  pub check-given : {r : ℕ} → r ≡ checkWord b → b ≡ a → r ≡ checkWord a
-  check-given h e = given checkWord h e
-
-module _ {a b : LookupAnswer} where
-  pub lookup-word : {r : ℕ} → r ≡ lookupWord b → b ≡ a → r ≡ lookupWord a
-  lookup-word h e = given lookupWord h e
-
-  pub start-left : (x : ℕ) {n : ℕ} → n ≡ startAfter b x → b ≡ a → n ≡ startAfter a x
-  start-left x h e = left startAfter x h e
-
-  pub size-left : (x : ℕ) {n : ℕ} → n ≡ sizeAfter b x → b ≡ a → n ≡ sizeAfter a x
-  size-left x h e = left sizeAfter x h e
-
-module _ {a b : CountAnswer} where
-  pub count-word : {r : ℕ} → r ≡ countWord b → b ≡ a → r ≡ countWord a
-  count-word h e = given countWord h e
-
-  pub count-left : (x : ℕ) {n : ℕ} → n ≡ countAfter b x → b ≡ a → n ≡ countAfter a x
-  count-left x h e = left countAfter x h e
-
-module _ {a b : SettleAnswer} where
-  pub settle-word : {r : ℕ} → r ≡ settleWord b → b ≡ a → r ≡ settleWord a
-  settle-word h e = given settleWord h e
-
-  pub form-left : (x : ℕ) {n : ℕ} → n ≡ formAfter b x → b ≡ a → n ≡ formAfter a x
-  form-left x h e = left formAfter x h e
-
-module _ {a b : UnlistedAnswer} where
-  pub unlisted-word : {r : ℕ} → r ≡ unlistedWord b → b ≡ a → r ≡ unlistedWord a
-  unlisted-word h e = given unlistedWord h e
-
-  pub unlisted-left : (x : ℕ) {n : ℕ} → n ≡ unlistedAfter b x → b ≡ a → n ≡ unlistedAfter a x
-  unlisted-left x h e = left unlistedAfter x h e
-
--- what is answered and left under the wish that the caller's number stands for
-module _ (s : Sharding) (n : ℕ) (f : List ℕ) (w v : Bool) (h : w ≡ v) where
-  pub wished-length : {b : SettleAnswer} → b ≡ lengthAnswer s n f w → b ≡ lengthAnswer s n f v
-  wished-length e = cc
-
-  pub wished-answer : (out : List ℕ) {b : SettleAnswer} → b ≡ settleAnswer s n f w out → b ≡ settleAnswer s n f v out
-  wished-answer out e = cc
-
-  pub wished-left : (out : List ℕ) {b : List ℕ} → b ≡ settleLeft s n f w out → b ≡ settleLeft s n f v out
-  wished-left out e = cc
-
-module _ (s : Sharding) (n : ℕ) (index body : List ℕ) (w v : Bool) (h : w ≡ v) where
-  pub wished-pair-length : {b : SettleAnswer} → b ≡ pairLength s n index body w → b ≡ pairLength s n index body v
-  wished-pair-length e = cc
-
-  pub wished-pair : (out : List ℕ) {b : SettleAnswer} → b ≡ pairSettle s n index body w out → b ≡ pairSettle s n index body v out
-  wished-pair out e = cc
-
-  pub wished-pair-left : (out : List ℕ) {b : List ℕ} → b ≡ pairSettleLeft s n index body w out → b ≡ pairSettleLeft s n index body v out
-  wished-pair-left out e = cc
-
 pub ruleset checking = (word-sound, word-unchecked, word-fault, needs)
 
 pub ruleset looking = (lookup-given, lookup-refused, lookup-faulty, start-given, start-refused, start-faulty, size-given, size-refused, size-faulty, needs)
@@ -184,16 +121,3 @@ pub ruleset counting = (count-given, count-refused, count-faulty, counted-given,
 pub ruleset settling = (settle-given, settle-refused, settle-faulty, form-given, form-refused, form-faulty, needs)
 
 pub ruleset unlisting = (unlisted-given, unlisted-refused, unlisted-faulty, bytes-given, bytes-refused, bytes-faulty, needs)
-
--- of the library's answer, handed on
-pub ruleset checked = (check-given, needs)
-
-pub ruleset looked = (lookup-word, start-left, size-left, needs)
-
-pub ruleset counted = (count-word, count-left, needs)
-
-pub ruleset unlisted = (unlisted-word, unlisted-left, needs)
-
-pub ruleset settled = (settle-word, form-left, wished-length, wished-answer, wished-left, needs)
-
-pub ruleset pair-settled = (settle-word, form-left, wished-pair-length, wished-pair, wished-pair-left, needs)

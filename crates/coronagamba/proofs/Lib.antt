@@ -2,8 +2,8 @@ pub mod Checked
 pub mod Paired
 pub mod Patterned
 pub mod Told
+pub mod Specified
 pub mod Writing
-pub mod Carded
 pub mod Answered
 pub mod Intaken
 pub mod Sheeted

@@ -23,6 +23,7 @@ use Rattle.settle.specs.declared.answers.SettleAnswer.the-variants as S
 use Rattle.split_shard.specs.declared.held_range.RangeAnswer.{RangeAnswer}
 use Rattle.split_shard.specs.declared.held_range.RangeAnswer.the-variants as R
 use Rattle.split_shard.specs.seam.Pair.{pairChecks}
+use Rattle.split_shard.specs.seam.Range.{rangeAnswer}
 use Rattle.split_shard.specs.Answers.{otherShard, pairCheck, pairLookup, pairFragment}
 use Rattle.split_shard.specs.form.Answers.{noMinishard, pairCount, pairListing, pairUnlisted, pairLength, pairSettle}
 use Rattle.coronagamba.specs.Pairs.{rangeWord, fileAfter, placeAfter, rangeAfter}
@@ -96,6 +97,10 @@ pub ruleset fitting = (pair-minishard-fits, pair-check-fits, pair-lookup-fits, p
 
 -- ---- a range
 
+-- of the specification that the caller's numbers are
+pub of-range : (index d : List ℕ) (start end : ℕ) {s t : Sharding} {b : RangeAnswer} → s ≡ t → b ≡ rangeAnswer s index d start end → b ≡ rangeAnswer t index d start end
+of-range index d start end q e = cc
+
 module _ {a b : RangeAnswer} (e : b ≡ a) where
   module _ {s n : ℕ} (h : b ≡ R.InIndex s n) where
     pub index-word : 0 ≡ rangeWord a
@@ -136,4 +141,4 @@ module _ {a b : RangeAnswer} (e : b ≡ a) where
     pub refused-bytes : (x : ℕ) → x ≡ rangeAfter a x
     refused-bytes x = after rangeAfter x e h
 
-pub ruleset ranging = (index-word, index-file, index-place, index-bytes, data-word, data-file, data-place, data-bytes, refused-word, refused-file, refused-place, refused-bytes, needs)
+pub ruleset ranging = (of-range, index-word, index-file, index-place, index-bytes, data-word, data-file, data-place, data-bytes, refused-word, refused-file, refused-place, refused-bytes, needs)

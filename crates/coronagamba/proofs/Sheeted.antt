@@ -18,10 +18,9 @@ use Rattle.holdings.specs.declared.one_shard.Sheet.{Sheet}
 use Rattle.holdings.specs.declared.SheetAnswer.{SheetAnswer}
 use Rattle.holdings.specs.declared.SheetAnswer.the-variants.{Total, Refused}
 use Rattle.holdings.specs.one_shard.Sheet.{rows}
-use Rattle.holdings.specs.Answers.{joinAnswer, addAnswer, pairAddAnswer}
 use Rattle.coronagamba.specs.word.Word.{word}
 use Rattle.coronagamba.specs.Sheets.{measureWord, countsOf, countsAfter, sheetOf, sheetWord, rowsAfter}
-use Rattle.coronagamba.proofs.Told.{told, after, given, left}
+use Rattle.coronagamba.proofs.Told.{told, after}
 use Rattle.coronagamba.proofs.Checked.{minishard-fits, check-fits}
 use Rattle.coronagamba.proofs.Paired.{pair-minishard-fits, pair-check-fits}
 
@@ -72,16 +71,7 @@ module _ {a b : MeasureAnswer} (e : b ≡ a) where
   pub counts-faulty : (x : List ℕ) {k m p : ℕ} → b ≡ M.Faulty k m p → x ≡ countsAfter a x
   counts-faulty x h = after countsAfter x e h
 
-module _ {a b : MeasureAnswer} where
-  pub measure-word : {r : ℕ} → r ≡ measureWord b → b ≡ a → r ≡ measureWord a
-  measure-word h e = given measureWord h e
-
-  pub counts-left : (x : List ℕ) {s : List ℕ} → s ≡ countsAfter b x → b ≡ a → s ≡ countsAfter a x
-  counts-left x h e = left countsAfter x h e
-
 pub ruleset measuring = (measure-given, measure-refused, measure-faulty, counts-given, counts-refused, counts-faulty, needs)
-
-pub ruleset measured = (measure-word, counts-left, needs)
 
 -- ---- the sheet
 
@@ -109,30 +99,3 @@ module _ {a b : SheetAnswer} (e : b ≡ a) where
 pub ruleset rowing = (sheet-is, rows-are, needs)
 
 pub ruleset adding = (sheet-given, sheet-refused, rows-given, rows-refused, needs)
-
--- ---- the calls
-
-module _ (x : List ℕ) {s : Sheet} (q : s ≡ sheetOf x) {a : SheetAnswer} where
-  module _ (spec : Sharding) (shard : ℕ) where
-    module _ (file : List ℕ) (g : a ≡ addAnswer s spec shard file) where
-      pub add-word : {r : ℕ} → r ≡ sheetWord a → r ≡ sheetWord (addAnswer (sheetOf x) spec shard file)
-      add-word p = rw (← q, ← g) p
-
-      pub add-rows : {o : List ℕ} → o ≡ rowsAfter a x → o ≡ rowsAfter (addAnswer (sheetOf x) spec shard file) x
-      add-rows p = rw (← q, ← g) p
-
-    module _ (index d : List ℕ) (g : a ≡ pairAddAnswer s spec shard index d) where
-      pub pair-word : {r : ℕ} → r ≡ sheetWord a → r ≡ sheetWord (pairAddAnswer (sheetOf x) spec shard index d)
-      pair-word p = rw (← q, ← g) p
-
-      pub pair-rows : {o : List ℕ} → o ≡ rowsAfter a x → o ≡ rowsAfter (pairAddAnswer (sheetOf x) spec shard index d) x
-      pair-rows p = rw (← q, ← g) p
-
-  module _ (y : List ℕ) {t : Sheet} (u : t ≡ sheetOf y) (g : a ≡ joinAnswer s t) where
-    pub join-word : {r : ℕ} → r ≡ sheetWord a → r ≡ sheetWord (joinAnswer (sheetOf x) (sheetOf y))
-    join-word p = rw (← q, ← u, ← g) p
-
-    pub join-rows : {o : List ℕ} → o ≡ rowsAfter a x → o ≡ rowsAfter (joinAnswer (sheetOf x) (sheetOf y)) x
-    join-rows p = rw (← q, ← u, ← g) p
-
-pub ruleset calling = (add-word, add-rows, pair-word, pair-rows, join-word, join-rows, needs)

@@ -5,7 +5,7 @@ use borrow.Author.Needs.{needs}
 use Rattle.refusal.specs.declared.Written.{Written}
 use Rattle.refusal.specs.declared.Written.the-variants.{Length, Refused}
 use Rattle.coronagamba.specs.word.Word.{writtenWord, lengthAfter}
-use Rattle.coronagamba.proofs.Told.{told, after, given, left}
+use Rattle.coronagamba.proofs.Told.{told, after}
 
 module _ {a b : Written} {n : ℕ} (e : b ≡ a) where
   pub word-written : b ≡ Length n → 0 ≡ writtenWord a
@@ -21,12 +21,3 @@ module _ {a b : Written} {n : ℕ} (e : b ≡ a) where
   length-refused x h = after lengthAfter x e h
 
 pub ruleset writing = (word-written, word-refused, length-written, length-refused, needs)
-
-module _ {a b : Written} where
-  pub word-given : {r : ℕ} → r ≡ writtenWord b → b ≡ a → r ≡ writtenWord a
-  word-given h e = given writtenWord h e
-
-  pub length-left : (x : ℕ) {n : ℕ} → n ≡ lengthAfter b x → b ≡ a → n ≡ lengthAfter a x
-  length-left x h e = left lengthAfter x h e
-
-pub ruleset handing = (word-given, length-left, needs)

@@ -2,13 +2,15 @@
 
 ghost use mathlib.Core.Path.{_≡_};
 ghost use Rattle.card.specs.Answers.{readAnswer, writeAnswer, writeLeft};
+ghost use Rattle.coronagamba.specs.Specification.{givenSharding};
 ghost use Rattle.coronagamba.specs.word.Word.{writtenWord, lengthAfter};
 ghost use Rattle.coronagamba.specs.Cards.{cardWord, shardingAfter, volumeAfter, chunkAfter, offsetAfter};
 use crate::answers::put_length;
+use crate::numbers::CSharding;
 use crate::numbers::put_card;
+use crate::numbers::sharding_of;
 use card::Card;
 use morton::grid::Volume;
-use sharding::Sharding;
 
 // What a deposit card of these bytes says. Writes preshift, hash, minishard bits, shard bits and kind
 // to `sharding`, and volume size, chunk size and voxel offset along x, y and z to `size`, `chunk` and
@@ -37,15 +39,21 @@ pub extern "C" fn coronagamba_card_read(
 // Refusals: 1, 2, 3, 13 where `out` is shorter than the card
 #[no_mangle]
 pub extern "C" fn coronagamba_card_write(
-    sharding: Sharding,
+    sharding: CSharding,
     volume: Volume,
     out: &mut [u8],
     length: &mut u64,
 ) -> u64
-    ensures answer { λ r. ⌜ r ≡ writtenWord (writeAnswer (record { sharding = sharding; volume = volume }) (now (out .entry))) ⌝ }
-    ensures out { λ _. ⌜ now (out .exit) ≡ writeLeft (record { sharding = sharding; volume = volume }) (now (out .entry)) ⌝ }
-    ensures length { λ _. ⌜ now (length .exit) ≡ lengthAfter (writeAnswer (record { sharding = sharding; volume = volume }) (now (out .entry))) (now (length .entry)) ⌝ }
+    ensures answer { λ r. ⌜ r ≡ writtenWord (writeAnswer (record { sharding = givenSharding sharding; volume = volume }) (now (out .entry))) ⌝ }
+    ensures out { λ _. ⌜ now (out .exit) ≡ writeLeft (record { sharding = givenSharding sharding; volume = volume }) (now (out .entry)) ⌝ }
+    ensures length { λ _. ⌜ now (length .exit) ≡ lengthAfter (writeAnswer (record { sharding = givenSharding sharding; volume = volume }) (now (out .entry))) (now (length .entry)) ⌝ }
 {
-    let answer = card::write_card(Card { sharding, volume }, out);
+    let answer = card::write_card(
+        Card {
+            sharding: sharding_of(sharding),
+            volume,
+        },
+        out,
+    );
     put_length(answer, length)
 }

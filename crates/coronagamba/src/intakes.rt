@@ -3,12 +3,14 @@
 ghost use mathlib.Core.Path.{_≡_};
 ghost use Rattle.intake.specs.Calls.{openAnswer, openLeft, announceAnswer, announceLeft, announceWaiting, partAnswer, partLeft, closeAnswer, closeLeft};
 ghost use Rattle.intake.specs.numbers.Numbers.{stateOf};
+ghost use Rattle.coronagamba.specs.Specification.{givenSharding};
 ghost use Rattle.coronagamba.specs.Intakes.{intakeWord, stateAfter, partAfter, closeWord, closedAfter, shardLengthAfter};
+use crate::numbers::CSharding;
+use crate::numbers::sharding_of;
 use intake::CloseAnswer;
 use intake::IntakeAnswer;
 use intake::numbers_of;
 use intake::state_of;
-use sharding::Sharding;
 
 // The numbers of the new state, or the refusal.
 fn put_state(state: &mut [u64; 15], answer: IntakeAnswer) -> u64
@@ -32,17 +34,17 @@ fn put_state(state: &mut [u64; 15], answer: IntakeAnswer) -> u64
 // Refusals: 1 also where the kind is mesh, 5, 13 where the shard index passes `out`
 #[no_mangle]
 pub extern "C" fn coronagamba_intake_open(
-    sharding: Sharding,
+    sharding: CSharding,
     shard: u64,
     out: &mut [u8],
     waiting: &[u8],
     state: &mut [u64; 15],
 ) -> u64
-    ensures answer { λ r. ⌜ r ≡ intakeWord (openAnswer sharding shard (now (out .entry)) (now (waiting .entry))) ⌝ }
-    ensures out { λ _. ⌜ now (out .exit) ≡ openLeft sharding shard (now (out .entry)) ⌝ }
-    ensures state { λ _. ⌜ now (state .exit) ≡ stateAfter (openAnswer sharding shard (now (out .entry)) (now (waiting .entry))) (now (state .entry)) ⌝ }
+    ensures answer { λ r. ⌜ r ≡ intakeWord (openAnswer (givenSharding sharding) shard (now (out .entry)) (now (waiting .entry))) ⌝ }
+    ensures out { λ _. ⌜ now (out .exit) ≡ openLeft (givenSharding sharding) shard (now (out .entry)) ⌝ }
+    ensures state { λ _. ⌜ now (state .exit) ≡ stateAfter (openAnswer (givenSharding sharding) shard (now (out .entry)) (now (waiting .entry))) (now (state .entry)) ⌝ }
 {
-    let answer = intake::open(sharding, shard, out, waiting);
+    let answer = intake::open(sharding_of(sharding), shard, out, waiting);
     put_state(state, answer)
 }
 

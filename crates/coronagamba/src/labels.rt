@@ -11,7 +11,7 @@ use compressed_segmentation::Shape;
 use morton::grid::Extents;
 
 // No label has this many bits.
-fn no_width(bits: u8) -> bool
+fn no_width(bits: u64) -> bool
     ensures { λ r. ⌜ r ≡ noWidth bits ⌝ }
 {
     if bits == 32 {
@@ -21,7 +21,7 @@ fn no_width(bits: u8) -> bool
 }
 
 // What the caller says of a chunk's labels, as the library takes it.
-fn shape_of(size: Extents, block: Extents, channels: u32, bits: u8) -> Shape
+fn shape_of(size: Extents, block: Extents, channels: u32, bits: u64) -> Shape
     ensures { λ r. ⌜ r ≡ shapeOf size block channels bits ⌝ }
 {
     Shape {
@@ -43,7 +43,7 @@ pub extern "C" fn coronagamba_label(
     size: Extents,
     block: Extents,
     channels: u32,
-    bits: u8,
+    bits: u64,
     x: u32,
     y: u32,
     z: u32,
@@ -82,7 +82,7 @@ pub extern "C" fn coronagamba_unpacked_length(
     size: Extents,
     block: Extents,
     channels: u32,
-    bits: u8,
+    bits: u64,
     length: &mut u64,
 ) -> u64
     ensures answer { λ r. ⌜ r ≡ writtenWord (writtenBy bits (lengthAnswer (shapeOf size block channels bits))) ⌝ }
@@ -108,7 +108,7 @@ pub extern "C" fn coronagamba_unpack(
     size: Extents,
     block: Extents,
     channels: u32,
-    bits: u8,
+    bits: u64,
     out: &mut [u8],
     length: &mut u64,
 ) -> u64

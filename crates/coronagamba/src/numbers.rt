@@ -1,13 +1,40 @@
-// The numbers of a card's record, as they cross the border.
+// A specification's numbers, and those of a card's record, as they cross the border.
 
 ghost use mathlib.Core.Path.{_≡_};
 ghost use mathlib.Core.List.{[], _∷_};
 ghost use Rattle.sharding.specs.Specification.{minishardBits, shardBits};
+ghost use Rattle.coronagamba.specs.Specification.{givenSharding};
 ghost use Rattle.coronagamba.specs.Cards.{cardWord, shardingAfter, volumeAfter, chunkAfter, offsetAfter};
 use card::CardAnswer;
+use intake::numbers::capped;
 use morton::grid::Extents;
 use morton::grid::Offset;
 use sharding::Sharding;
+
+// A sharding specification, its numbers as in a card: hash 0 is identity, 1 is murmur; kind 0 is
+// volume, 1 is mesh. Any numbers; each call judges them. The fields are wider than a card's, so that
+// a greater number is not cut off: above 255 each is refused with 1.
+#[repr(C)]
+pub struct CSharding {
+    pub preshift: u32,
+    pub hash: u32,
+    pub minishard_bits: u32,
+    pub shard_bits: u32,
+    pub kind: u32,
+}
+
+// The specification that the caller's numbers are.
+pub fn sharding_of(given: CSharding) -> Sharding
+    ensures { λ r. ⌜ r ≡ givenSharding given ⌝ }
+{
+    Sharding {
+        preshift: capped(given.preshift as u64),
+        hash: capped(given.hash as u64),
+        minishard_bits: capped(given.minishard_bits as u64),
+        shard_bits: capped(given.shard_bits as u64),
+        kind: capped(given.kind as u64),
+    }
+}
 
 pub fn five(sharding: Sharding) -> [u8; 5]
     ensures { λ r. ⌜ r ≡ sharding .preshift ∷ sharding .hash ∷ minishardBits sharding ∷ shardBits sharding ∷ sharding .kind ∷ [] ⌝ }

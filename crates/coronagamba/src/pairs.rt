@@ -6,6 +6,7 @@ ghost use Rattle.split_shard.specs.Answers.{pairCheck, pairLookup, pairFragment
 ghost use Rattle.split_shard.specs.form.Answers.{pairCount, pairListing, pairListingLeft, pairUnlisted, pairLength, pairSettle, pairSettleLeft};
 ghost use Rattle.names.specs.Shards.{fileNameAnswer, fileNameLeft};
 ghost use Rattle.names.specs.declared.FileKind.the-variants.{Index, Data};
+ghost use Rattle.coronagamba.specs.Specification.{givenSharding};
 ghost use Rattle.coronagamba.specs.word.Word.{writtenWord, lengthAfter, asksToDrop};
 ghost use Rattle.coronagamba.specs.Shards.{checkWord, lookupWord, startAfter, sizeAfter, countWord, countAfter, settleWord, formAfter, unlistedWord, unlistedAfter};
 ghost use Rattle.coronagamba.specs.Pairs.{rangeWord, fileAfter, placeAfter, rangeAfter};
@@ -15,8 +16,9 @@ use crate::answers::put_form;
 use crate::answers::put_found;
 use crate::answers::put_length;
 use crate::answers::put_unlisted;
+use crate::numbers::CSharding;
+use crate::numbers::sharding_of;
 use crate::word::asks_to_drop;
-use sharding::Sharding;
 use split_shard::held_range::RangeAnswer;
 
 // coronagamba_check of a pair: whether it is sound, as one file. Writes nothing. The position is that
@@ -24,14 +26,14 @@ use split_shard::held_range::RangeAnswer;
 // Refusals: 1, 5, 23, 6, 7 to 11, 15 to 17 (mesh), 21 (mesh) with the minishard and the position
 #[no_mangle]
 pub extern "C" fn coronagamba_pair_check(
-    sharding: Sharding,
+    sharding: CSharding,
     shard: u64,
     index: &[u8],
     data: &[u8],
 ) -> u64
-    ensures answer { λ r. ⌜ r ≡ checkWord (pairCheck sharding shard (now (index .entry)) (now («data» .entry))) ⌝ }
+    ensures answer { λ r. ⌜ r ≡ checkWord (pairCheck (givenSharding sharding) shard (now (index .entry)) (now («data» .entry))) ⌝ }
 {
-    let answer = split_shard::check(sharding, shard, index, data);
+    let answer = split_shard::check(sharding_of(sharding), shard, index, data);
     check_word(answer)
 }
 
@@ -42,7 +44,7 @@ pub extern "C" fn coronagamba_pair_check(
 // 12
 #[no_mangle]
 pub extern "C" fn coronagamba_pair_lookup(
-    sharding: Sharding,
+    sharding: CSharding,
     shard: u64,
     index: &[u8],
     data: &[u8],
@@ -50,11 +52,11 @@ pub extern "C" fn coronagamba_pair_lookup(
     start: &mut u64,
     length: &mut u64,
 ) -> u64
-    ensures answer { λ r. ⌜ r ≡ lookupWord (pairLookup sharding shard (now (index .entry)) (now («data» .entry)) id) ⌝ }
-    ensures start { λ _. ⌜ now (start .exit) ≡ startAfter (pairLookup sharding shard (now (index .entry)) (now («data» .entry)) id) (now (start .entry)) ⌝ }
-    ensures length { λ _. ⌜ now (length .exit) ≡ sizeAfter (pairLookup sharding shard (now (index .entry)) (now («data» .entry)) id) (now (length .entry)) ⌝ }
+    ensures answer { λ r. ⌜ r ≡ lookupWord (pairLookup (givenSharding sharding) shard (now (index .entry)) (now («data» .entry)) id) ⌝ }
+    ensures start { λ _. ⌜ now (start .exit) ≡ startAfter (pairLookup (givenSharding sharding) shard (now (index .entry)) (now («data» .entry)) id) (now (start .entry)) ⌝ }
+    ensures length { λ _. ⌜ now (length .exit) ≡ sizeAfter (pairLookup (givenSharding sharding) shard (now (index .entry)) (now («data» .entry)) id) (now (length .entry)) ⌝ }
 {
-    let answer = split_shard::lookup(sharding, shard, index, data, id);
+    let answer = split_shard::lookup(sharding_of(sharding), shard, index, data, id);
     put_found(answer, start, length)
 }
 
@@ -65,7 +67,7 @@ pub extern "C" fn coronagamba_pair_lookup(
 // 12, 18 also where the kind is volume
 #[no_mangle]
 pub extern "C" fn coronagamba_pair_fragment(
-    sharding: Sharding,
+    sharding: CSharding,
     shard: u64,
     index: &[u8],
     data: &[u8],
@@ -75,11 +77,11 @@ pub extern "C" fn coronagamba_pair_fragment(
     start: &mut u64,
     length: &mut u64,
 ) -> u64
-    ensures answer { λ r. ⌜ r ≡ lookupWord (pairFragment sharding shard (now (index .entry)) (now («data» .entry)) id level node) ⌝ }
-    ensures start { λ _. ⌜ now (start .exit) ≡ startAfter (pairFragment sharding shard (now (index .entry)) (now («data» .entry)) id level node) (now (start .entry)) ⌝ }
-    ensures length { λ _. ⌜ now (length .exit) ≡ sizeAfter (pairFragment sharding shard (now (index .entry)) (now («data» .entry)) id level node) (now (length .entry)) ⌝ }
+    ensures answer { λ r. ⌜ r ≡ lookupWord (pairFragment (givenSharding sharding) shard (now (index .entry)) (now («data» .entry)) id level node) ⌝ }
+    ensures start { λ _. ⌜ now (start .exit) ≡ startAfter (pairFragment (givenSharding sharding) shard (now (index .entry)) (now («data» .entry)) id level node) (now (start .entry)) ⌝ }
+    ensures length { λ _. ⌜ now (length .exit) ≡ sizeAfter (pairFragment (givenSharding sharding) shard (now (index .entry)) (now («data» .entry)) id level node) (now (length .entry)) ⌝ }
 {
-    let answer = split_shard::fragment(sharding, shard, index, data, id, level, node);
+    let answer = split_shard::fragment(sharding_of(sharding), shard, index, data, id, level, node);
     put_found(answer, start, length)
 }
 
@@ -89,17 +91,17 @@ pub extern "C" fn coronagamba_pair_fragment(
 // of that minishard with the position
 #[no_mangle]
 pub extern "C" fn coronagamba_pair_listed_count(
-    sharding: Sharding,
+    sharding: CSharding,
     shard: u64,
     index: &[u8],
     data: &[u8],
     minishard: u64,
     chunks: &mut u64,
 ) -> u64
-    ensures answer { λ r. ⌜ r ≡ countWord (pairCount sharding shard (now (index .entry)) (now («data» .entry)) minishard) ⌝ }
-    ensures chunks { λ _. ⌜ now (chunks .exit) ≡ countAfter (pairCount sharding shard (now (index .entry)) (now («data» .entry)) minishard) (now (chunks .entry)) ⌝ }
+    ensures answer { λ r. ⌜ r ≡ countWord (pairCount (givenSharding sharding) shard (now (index .entry)) (now («data» .entry)) minishard) ⌝ }
+    ensures chunks { λ _. ⌜ now (chunks .exit) ≡ countAfter (pairCount (givenSharding sharding) shard (now (index .entry)) (now («data» .entry)) minishard) (now (chunks .entry)) ⌝ }
 {
-    let answer = split_shard::listed_count(sharding, shard, index, data, minishard);
+    let answer = split_shard::listed_count(sharding_of(sharding), shard, index, data, minishard);
     put_count(answer, chunks)
 }
 
@@ -111,7 +113,7 @@ pub extern "C" fn coronagamba_pair_listed_count(
 // of that minishard with the position, 13 where `out` has room for fewer
 #[no_mangle]
 pub extern "C" fn coronagamba_pair_listing(
-    sharding: Sharding,
+    sharding: CSharding,
     shard: u64,
     index: &[u8],
     data: &[u8],
@@ -119,11 +121,11 @@ pub extern "C" fn coronagamba_pair_listing(
     out: &mut [u64],
     length: &mut u64,
 ) -> u64
-    ensures answer { λ r. ⌜ r ≡ countWord (pairListing sharding shard (now (index .entry)) (now («data» .entry)) minishard (now (out .entry))) ⌝ }
-    ensures out { λ _. ⌜ now (out .exit) ≡ pairListingLeft sharding shard (now (index .entry)) (now («data» .entry)) minishard (now (out .entry)) ⌝ }
-    ensures length { λ _. ⌜ now (length .exit) ≡ countAfter (pairListing sharding shard (now (index .entry)) (now («data» .entry)) minishard (now (out .entry))) (now (length .entry)) ⌝ }
+    ensures answer { λ r. ⌜ r ≡ countWord (pairListing (givenSharding sharding) shard (now (index .entry)) (now («data» .entry)) minishard (now (out .entry))) ⌝ }
+    ensures out { λ _. ⌜ now (out .exit) ≡ pairListingLeft (givenSharding sharding) shard (now (index .entry)) (now («data» .entry)) minishard (now (out .entry)) ⌝ }
+    ensures length { λ _. ⌜ now (length .exit) ≡ countAfter (pairListing (givenSharding sharding) shard (now (index .entry)) (now («data» .entry)) minishard (now (out .entry))) (now (length .entry)) ⌝ }
 {
-    let answer = split_shard::listing(sharding, shard, index, data, minishard, out);
+    let answer = split_shard::listing(sharding_of(sharding), shard, index, data, minishard, out);
     put_count(answer, length)
 }
 
@@ -133,16 +135,16 @@ pub extern "C" fn coronagamba_pair_listing(
 // position
 #[no_mangle]
 pub extern "C" fn coronagamba_pair_unlisted(
-    sharding: Sharding,
+    sharding: CSharding,
     shard: u64,
     index: &[u8],
     data: &[u8],
     bytes: &mut u64,
 ) -> u64
-    ensures answer { λ r. ⌜ r ≡ unlistedWord (pairUnlisted sharding shard (now (index .entry)) (now («data» .entry))) ⌝ }
-    ensures bytes { λ _. ⌜ now (bytes .exit) ≡ unlistedAfter (pairUnlisted sharding shard (now (index .entry)) (now («data» .entry))) (now (bytes .entry)) ⌝ }
+    ensures answer { λ r. ⌜ r ≡ unlistedWord (pairUnlisted (givenSharding sharding) shard (now (index .entry)) (now («data» .entry))) ⌝ }
+    ensures bytes { λ _. ⌜ now (bytes .exit) ≡ unlistedAfter (pairUnlisted (givenSharding sharding) shard (now (index .entry)) (now («data» .entry))) (now (bytes .entry)) ⌝ }
 {
-    let answer = split_shard::unlisted_count(sharding, shard, index, data);
+    let answer = split_shard::unlisted_count(sharding_of(sharding), shard, index, data);
     put_unlisted(answer, bytes)
 }
 
@@ -153,18 +155,18 @@ pub extern "C" fn coronagamba_pair_unlisted(
 // position, 22 where bytes are unlisted and not dropped, 13 where the form would pass 1 GiB
 #[no_mangle]
 pub extern "C" fn coronagamba_pair_settled_length(
-    sharding: Sharding,
+    sharding: CSharding,
     shard: u64,
     index: &[u8],
     data: &[u8],
-    drop_unlisted: u8,
+    drop_unlisted: u64,
     length: &mut u64,
 ) -> u64
-    ensures answer { λ r. ⌜ r ≡ settleWord (pairLength sharding shard (now (index .entry)) (now («data» .entry)) (asksToDrop «drop_unlisted»)) ⌝ }
-    ensures length { λ _. ⌜ now (length .exit) ≡ formAfter (pairLength sharding shard (now (index .entry)) (now («data» .entry)) (asksToDrop «drop_unlisted»)) (now (length .entry)) ⌝ }
+    ensures answer { λ r. ⌜ r ≡ settleWord (pairLength (givenSharding sharding) shard (now (index .entry)) (now («data» .entry)) (asksToDrop «drop_unlisted»)) ⌝ }
+    ensures length { λ _. ⌜ now (length .exit) ≡ formAfter (pairLength (givenSharding sharding) shard (now (index .entry)) (now («data» .entry)) (asksToDrop «drop_unlisted»)) (now (length .entry)) ⌝ }
 {
     let answer = split_shard::settled_length(
-        sharding,
+        sharding_of(sharding),
         shard,
         index,
         data,
@@ -182,20 +184,20 @@ pub extern "C" fn coronagamba_pair_settled_length(
 // the form would pass 1 GiB
 #[no_mangle]
 pub extern "C" fn coronagamba_pair_settle(
-    sharding: Sharding,
+    sharding: CSharding,
     shard: u64,
     index: &[u8],
     data: &[u8],
-    drop_unlisted: u8,
+    drop_unlisted: u64,
     out: &mut [u8],
     length: &mut u64,
 ) -> u64
-    ensures answer { λ r. ⌜ r ≡ settleWord (pairSettle sharding shard (now (index .entry)) (now («data» .entry)) (asksToDrop «drop_unlisted») (now (out .entry))) ⌝ }
-    ensures out { λ _. ⌜ now (out .exit) ≡ pairSettleLeft sharding shard (now (index .entry)) (now («data» .entry)) (asksToDrop «drop_unlisted») (now (out .entry)) ⌝ }
-    ensures length { λ _. ⌜ now (length .exit) ≡ formAfter (pairSettle sharding shard (now (index .entry)) (now («data» .entry)) (asksToDrop «drop_unlisted») (now (out .entry))) (now (length .entry)) ⌝ }
+    ensures answer { λ r. ⌜ r ≡ settleWord (pairSettle (givenSharding sharding) shard (now (index .entry)) (now («data» .entry)) (asksToDrop «drop_unlisted») (now (out .entry))) ⌝ }
+    ensures out { λ _. ⌜ now (out .exit) ≡ pairSettleLeft (givenSharding sharding) shard (now (index .entry)) (now («data» .entry)) (asksToDrop «drop_unlisted») (now (out .entry)) ⌝ }
+    ensures length { λ _. ⌜ now (length .exit) ≡ formAfter (pairSettle (givenSharding sharding) shard (now (index .entry)) (now («data» .entry)) (asksToDrop «drop_unlisted») (now (out .entry))) (now (length .entry)) ⌝ }
 {
     let answer = split_shard::settle(
-        sharding,
+        sharding_of(sharding),
         shard,
         index,
         data,
@@ -212,7 +214,7 @@ pub extern "C" fn coronagamba_pair_settle(
 // Refusals: 1, 23, 6, 24
 #[no_mangle]
 pub extern "C" fn coronagamba_pair_range(
-    sharding: Sharding,
+    sharding: CSharding,
     index: &[u8],
     data: &[u8],
     start: u64,
@@ -221,12 +223,12 @@ pub extern "C" fn coronagamba_pair_range(
     place: &mut u64,
     length: &mut u64,
 ) -> u64
-    ensures answer { λ r. ⌜ r ≡ rangeWord (rangeAnswer sharding (now (index .entry)) (now («data» .entry)) start end) ⌝ }
-    ensures file { λ _. ⌜ now (file .exit) ≡ fileAfter (rangeAnswer sharding (now (index .entry)) (now («data» .entry)) start end) (now (file .entry)) ⌝ }
-    ensures place { λ _. ⌜ now (place .exit) ≡ placeAfter (rangeAnswer sharding (now (index .entry)) (now («data» .entry)) start end) (now (place .entry)) ⌝ }
-    ensures length { λ _. ⌜ now (length .exit) ≡ rangeAfter (rangeAnswer sharding (now (index .entry)) (now («data» .entry)) start end) (now (length .entry)) ⌝ }
+    ensures answer { λ r. ⌜ r ≡ rangeWord (rangeAnswer (givenSharding sharding) (now (index .entry)) (now («data» .entry)) start end) ⌝ }
+    ensures file { λ _. ⌜ now (file .exit) ≡ fileAfter (rangeAnswer (givenSharding sharding) (now (index .entry)) (now («data» .entry)) start end) (now (file .entry)) ⌝ }
+    ensures place { λ _. ⌜ now (place .exit) ≡ placeAfter (rangeAnswer (givenSharding sharding) (now (index .entry)) (now («data» .entry)) start end) (now (place .entry)) ⌝ }
+    ensures length { λ _. ⌜ now (length .exit) ≡ rangeAfter (rangeAnswer (givenSharding sharding) (now (index .entry)) (now («data» .entry)) start end) (now (length .entry)) ⌝ }
 {
-    match split_shard::range(sharding, index, data, start, end) {
+    match split_shard::range(sharding_of(sharding), index, data, start, end) {
         RangeAnswer::InIndex {
             start: begin,
             length: bytes,
@@ -254,16 +256,16 @@ pub extern "C" fn coronagamba_pair_range(
 // Refusals: 1, 5, 13 where `out` is shorter than the name
 #[no_mangle]
 pub extern "C" fn coronagamba_index_name(
-    sharding: Sharding,
+    sharding: CSharding,
     shard: u64,
     out: &mut [u8],
     length: &mut u64,
 ) -> u64
-    ensures answer { λ r. ⌜ r ≡ writtenWord (fileNameAnswer Index sharding shard (now (out .entry))) ⌝ }
-    ensures out { λ _. ⌜ now (out .exit) ≡ fileNameLeft Index sharding shard (now (out .entry)) ⌝ }
-    ensures length { λ _. ⌜ now (length .exit) ≡ lengthAfter (fileNameAnswer Index sharding shard (now (out .entry))) (now (length .entry)) ⌝ }
+    ensures answer { λ r. ⌜ r ≡ writtenWord (fileNameAnswer Index (givenSharding sharding) shard (now (out .entry))) ⌝ }
+    ensures out { λ _. ⌜ now (out .exit) ≡ fileNameLeft Index (givenSharding sharding) shard (now (out .entry)) ⌝ }
+    ensures length { λ _. ⌜ now (length .exit) ≡ lengthAfter (fileNameAnswer Index (givenSharding sharding) shard (now (out .entry))) (now (length .entry)) ⌝ }
 {
-    let answer = names::index_name(sharding, shard, out);
+    let answer = names::index_name(sharding_of(sharding), shard, out);
     put_length(answer, length)
 }
 
@@ -271,15 +273,15 @@ pub extern "C" fn coronagamba_index_name(
 // Refusals: 1, 5, 13 where `out` is shorter than the name
 #[no_mangle]
 pub extern "C" fn coronagamba_data_name(
-    sharding: Sharding,
+    sharding: CSharding,
     shard: u64,
     out: &mut [u8],
     length: &mut u64,
 ) -> u64
-    ensures answer { λ r. ⌜ r ≡ writtenWord (fileNameAnswer Data sharding shard (now (out .entry))) ⌝ }
-    ensures out { λ _. ⌜ now (out .exit) ≡ fileNameLeft Data sharding shard (now (out .entry)) ⌝ }
-    ensures length { λ _. ⌜ now (length .exit) ≡ lengthAfter (fileNameAnswer Data sharding shard (now (out .entry))) (now (length .entry)) ⌝ }
+    ensures answer { λ r. ⌜ r ≡ writtenWord (fileNameAnswer Data (givenSharding sharding) shard (now (out .entry))) ⌝ }
+    ensures out { λ _. ⌜ now (out .exit) ≡ fileNameLeft Data (givenSharding sharding) shard (now (out .entry)) ⌝ }
+    ensures length { λ _. ⌜ now (length .exit) ≡ lengthAfter (fileNameAnswer Data (givenSharding sharding) shard (now (out .entry))) (now (length .entry)) ⌝ }
 {
-    let answer = names::data_name(sharding, shard, out);
+    let answer = names::data_name(sharding_of(sharding), shard, out);
     put_length(answer, length)
 }

@@ -7,6 +7,7 @@ ghost use Rattle.lookup.specs.fragments.Fragment.{fragmentAnswer};
 ghost use Rattle.lookup.specs.listings.Listing.{countAnswer, listingAnswer, listingLeft};
 ghost use Rattle.unlisted.specs.Answers.{unlistedAnswer};
 ghost use Rattle.settle.specs.answers.Answers.{lengthAnswer, settleAnswer, settleLeft};
+ghost use Rattle.coronagamba.specs.Specification.{givenSharding};
 ghost use Rattle.coronagamba.specs.word.Word.{asksToDrop};
 ghost use Rattle.coronagamba.specs.Shards.{checkWord, lookupWord, startAfter, sizeAfter, countWord, countAfter, settleWord, formAfter, unlistedWord, unlistedAfter};
 use crate::answers::check_word;
@@ -14,8 +15,9 @@ use crate::answers::put_count;
 use crate::answers::put_form;
 use crate::answers::put_found;
 use crate::answers::put_unlisted;
+use crate::numbers::CSharding;
+use crate::numbers::sharding_of;
 use crate::word::asks_to_drop;
-use sharding::Sharding;
 
 // Where the chunk of an id lies in the shard's file; in a mesh the chunk is a manifest. Writes where
 // it begins, counted from the file's first byte, to `start`, and its number of bytes to `length`. Of
@@ -23,18 +25,18 @@ use sharding::Sharding;
 // Refusals: 1, 5, 6, 7 to 11, 15 to 17 (mesh), 21 (mesh) of the id's minishard with the position, 12
 #[no_mangle]
 pub extern "C" fn coronagamba_lookup(
-    sharding: Sharding,
+    sharding: CSharding,
     shard: u64,
     file: &[u8],
     id: u64,
     start: &mut u64,
     length: &mut u64,
 ) -> u64
-    ensures answer { λ r. ⌜ r ≡ lookupWord (lookupAnswer sharding shard (now (file .entry)) id) ⌝ }
-    ensures start { λ _. ⌜ now (start .exit) ≡ startAfter (lookupAnswer sharding shard (now (file .entry)) id) (now (start .entry)) ⌝ }
-    ensures length { λ _. ⌜ now (length .exit) ≡ sizeAfter (lookupAnswer sharding shard (now (file .entry)) id) (now (length .entry)) ⌝ }
+    ensures answer { λ r. ⌜ r ≡ lookupWord (lookupAnswer (givenSharding sharding) shard (now (file .entry)) id) ⌝ }
+    ensures start { λ _. ⌜ now (start .exit) ≡ startAfter (lookupAnswer (givenSharding sharding) shard (now (file .entry)) id) (now (start .entry)) ⌝ }
+    ensures length { λ _. ⌜ now (length .exit) ≡ sizeAfter (lookupAnswer (givenSharding sharding) shard (now (file .entry)) id) (now (length .entry)) ⌝ }
 {
-    let answer = lookup::lookup(sharding, shard, file, id);
+    let answer = lookup::lookup(sharding_of(sharding), shard, file, id);
     put_found(answer, start, length)
 }
 
@@ -47,7 +49,7 @@ pub extern "C" fn coronagamba_lookup(
 // 18 also where the kind is volume
 #[no_mangle]
 pub extern "C" fn coronagamba_fragment(
-    sharding: Sharding,
+    sharding: CSharding,
     shard: u64,
     file: &[u8],
     id: u64,
@@ -56,11 +58,11 @@ pub extern "C" fn coronagamba_fragment(
     start: &mut u64,
     length: &mut u64,
 ) -> u64
-    ensures answer { λ r. ⌜ r ≡ lookupWord (fragmentAnswer sharding shard (now (file .entry)) id level node) ⌝ }
-    ensures start { λ _. ⌜ now (start .exit) ≡ startAfter (fragmentAnswer sharding shard (now (file .entry)) id level node) (now (start .entry)) ⌝ }
-    ensures length { λ _. ⌜ now (length .exit) ≡ sizeAfter (fragmentAnswer sharding shard (now (file .entry)) id level node) (now (length .entry)) ⌝ }
+    ensures answer { λ r. ⌜ r ≡ lookupWord (fragmentAnswer (givenSharding sharding) shard (now (file .entry)) id level node) ⌝ }
+    ensures start { λ _. ⌜ now (start .exit) ≡ startAfter (fragmentAnswer (givenSharding sharding) shard (now (file .entry)) id level node) (now (start .entry)) ⌝ }
+    ensures length { λ _. ⌜ now (length .exit) ≡ sizeAfter (fragmentAnswer (givenSharding sharding) shard (now (file .entry)) id level node) (now (length .entry)) ⌝ }
 {
-    let answer = lookup::fragment(sharding, shard, file, id, level, node);
+    let answer = lookup::fragment(sharding_of(sharding), shard, file, id, level, node);
     put_found(answer, start, length)
 }
 
@@ -69,10 +71,10 @@ pub extern "C" fn coronagamba_fragment(
 // minishard and the position.
 // Refusals: 1, 5, 6, 7 to 11, 15 to 17 (mesh), 21 (mesh) with the minishard and the position
 #[no_mangle]
-pub extern "C" fn coronagamba_check(sharding: Sharding, shard: u64, file: &[u8]) -> u64
-    ensures answer { λ r. ⌜ r ≡ checkWord (checkAnswer sharding shard (now (file .entry))) ⌝ }
+pub extern "C" fn coronagamba_check(sharding: CSharding, shard: u64, file: &[u8]) -> u64
+    ensures answer { λ r. ⌜ r ≡ checkWord (checkAnswer (givenSharding sharding) shard (now (file .entry))) ⌝ }
 {
-    let answer = shard::check(sharding, shard, file);
+    let answer = shard::check(sharding_of(sharding), shard, file);
     check_word(answer)
 }
 
@@ -81,16 +83,16 @@ pub extern "C" fn coronagamba_check(sharding: Sharding, shard: u64, file: &[u8])
 // that minishard with the position
 #[no_mangle]
 pub extern "C" fn coronagamba_listed_count(
-    sharding: Sharding,
+    sharding: CSharding,
     shard: u64,
     file: &[u8],
     minishard: u64,
     chunks: &mut u64,
 ) -> u64
-    ensures answer { λ r. ⌜ r ≡ countWord (countAnswer sharding shard (now (file .entry)) minishard) ⌝ }
-    ensures chunks { λ _. ⌜ now (chunks .exit) ≡ countAfter (countAnswer sharding shard (now (file .entry)) minishard) (now (chunks .entry)) ⌝ }
+    ensures answer { λ r. ⌜ r ≡ countWord (countAnswer (givenSharding sharding) shard (now (file .entry)) minishard) ⌝ }
+    ensures chunks { λ _. ⌜ now (chunks .exit) ≡ countAfter (countAnswer (givenSharding sharding) shard (now (file .entry)) minishard) (now (chunks .entry)) ⌝ }
 {
-    let answer = lookup::listed_count(sharding, shard, file, minishard);
+    let answer = lookup::listed_count(sharding_of(sharding), shard, file, minishard);
     put_count(answer, chunks)
 }
 
@@ -101,18 +103,18 @@ pub extern "C" fn coronagamba_listed_count(
 // that minishard with the position, 13 where `out` has room for fewer
 #[no_mangle]
 pub extern "C" fn coronagamba_listing(
-    sharding: Sharding,
+    sharding: CSharding,
     shard: u64,
     file: &[u8],
     minishard: u64,
     out: &mut [u64],
     length: &mut u64,
 ) -> u64
-    ensures answer { λ r. ⌜ r ≡ countWord (listingAnswer sharding shard (now (file .entry)) minishard (now (out .entry))) ⌝ }
-    ensures out { λ _. ⌜ now (out .exit) ≡ listingLeft sharding shard (now (file .entry)) minishard (now (out .entry)) ⌝ }
-    ensures length { λ _. ⌜ now (length .exit) ≡ countAfter (listingAnswer sharding shard (now (file .entry)) minishard (now (out .entry))) (now (length .entry)) ⌝ }
+    ensures answer { λ r. ⌜ r ≡ countWord (listingAnswer (givenSharding sharding) shard (now (file .entry)) minishard (now (out .entry))) ⌝ }
+    ensures out { λ _. ⌜ now (out .exit) ≡ listingLeft (givenSharding sharding) shard (now (file .entry)) minishard (now (out .entry)) ⌝ }
+    ensures length { λ _. ⌜ now (length .exit) ≡ countAfter (listingAnswer (givenSharding sharding) shard (now (file .entry)) minishard (now (out .entry))) (now (length .entry)) ⌝ }
 {
-    let answer = lookup::listing(sharding, shard, file, minishard, out);
+    let answer = lookup::listing(sharding_of(sharding), shard, file, minishard, out);
     put_count(answer, length)
 }
 
@@ -123,15 +125,15 @@ pub extern "C" fn coronagamba_listing(
 // position
 #[no_mangle]
 pub extern "C" fn coronagamba_unlisted(
-    sharding: Sharding,
+    sharding: CSharding,
     shard: u64,
     file: &[u8],
     bytes: &mut u64,
 ) -> u64
-    ensures answer { λ r. ⌜ r ≡ unlistedWord (unlistedAnswer sharding shard (now (file .entry))) ⌝ }
-    ensures bytes { λ _. ⌜ now (bytes .exit) ≡ unlistedAfter (unlistedAnswer sharding shard (now (file .entry))) (now (bytes .entry)) ⌝ }
+    ensures answer { λ r. ⌜ r ≡ unlistedWord (unlistedAnswer (givenSharding sharding) shard (now (file .entry))) ⌝ }
+    ensures bytes { λ _. ⌜ now (bytes .exit) ≡ unlistedAfter (unlistedAnswer (givenSharding sharding) shard (now (file .entry))) (now (bytes .entry)) ⌝ }
 {
-    let answer = unlisted::unlisted_count(sharding, shard, file);
+    let answer = unlisted::unlisted_count(sharding_of(sharding), shard, file);
     put_unlisted(answer, bytes)
 }
 
@@ -141,16 +143,21 @@ pub extern "C" fn coronagamba_unlisted(
 // position, 22 where bytes are unlisted and not dropped, 13 where the form would pass 1 GiB
 #[no_mangle]
 pub extern "C" fn coronagamba_settled_length(
-    sharding: Sharding,
+    sharding: CSharding,
     shard: u64,
     file: &[u8],
-    drop_unlisted: u8,
+    drop_unlisted: u64,
     length: &mut u64,
 ) -> u64
-    ensures answer { λ r. ⌜ r ≡ settleWord (lengthAnswer sharding shard (now (file .entry)) (asksToDrop «drop_unlisted»)) ⌝ }
-    ensures length { λ _. ⌜ now (length .exit) ≡ formAfter (lengthAnswer sharding shard (now (file .entry)) (asksToDrop «drop_unlisted»)) (now (length .entry)) ⌝ }
+    ensures answer { λ r. ⌜ r ≡ settleWord (lengthAnswer (givenSharding sharding) shard (now (file .entry)) (asksToDrop «drop_unlisted»)) ⌝ }
+    ensures length { λ _. ⌜ now (length .exit) ≡ formAfter (lengthAnswer (givenSharding sharding) shard (now (file .entry)) (asksToDrop «drop_unlisted»)) (now (length .entry)) ⌝ }
 {
-    let answer = settle::settled_length(sharding, shard, file, asks_to_drop(drop_unlisted));
+    let answer = settle::settled_length(
+        sharding_of(sharding),
+        shard,
+        file,
+        asks_to_drop(drop_unlisted),
+    );
     put_form(answer, length)
 }
 
@@ -163,17 +170,23 @@ pub extern "C" fn coronagamba_settled_length(
 // the form would pass 1 GiB
 #[no_mangle]
 pub extern "C" fn coronagamba_settle(
-    sharding: Sharding,
+    sharding: CSharding,
     shard: u64,
     file: &[u8],
-    drop_unlisted: u8,
+    drop_unlisted: u64,
     out: &mut [u8],
     length: &mut u64,
 ) -> u64
-    ensures answer { λ r. ⌜ r ≡ settleWord (settleAnswer sharding shard (now (file .entry)) (asksToDrop «drop_unlisted») (now (out .entry))) ⌝ }
-    ensures out { λ _. ⌜ now (out .exit) ≡ settleLeft sharding shard (now (file .entry)) (asksToDrop «drop_unlisted») (now (out .entry)) ⌝ }
-    ensures length { λ _. ⌜ now (length .exit) ≡ formAfter (settleAnswer sharding shard (now (file .entry)) (asksToDrop «drop_unlisted») (now (out .entry))) (now (length .entry)) ⌝ }
+    ensures answer { λ r. ⌜ r ≡ settleWord (settleAnswer (givenSharding sharding) shard (now (file .entry)) (asksToDrop «drop_unlisted») (now (out .entry))) ⌝ }
+    ensures out { λ _. ⌜ now (out .exit) ≡ settleLeft (givenSharding sharding) shard (now (file .entry)) (asksToDrop «drop_unlisted») (now (out .entry)) ⌝ }
+    ensures length { λ _. ⌜ now (length .exit) ≡ formAfter (settleAnswer (givenSharding sharding) shard (now (file .entry)) (asksToDrop «drop_unlisted») (now (out .entry))) (now (length .entry)) ⌝ }
 {
-    let answer = settle::settle(sharding, shard, file, asks_to_drop(drop_unlisted), out);
+    let answer = settle::settle(
+        sharding_of(sharding),
+        shard,
+        file,
+        asks_to_drop(drop_unlisted),
+        out,
+    );
     put_form(answer, length)
 }

@@ -6,13 +6,15 @@ ghost use Rattle.holdings.specs.declared.measures.MeasureAnswer.the-variants.{F
 ghost use Rattle.holdings.specs.measures.Answers.{measureAnswer, pairMeasure};
 ghost use Rattle.holdings.specs.Answers.{joinAnswer, addAnswer, pairAddAnswer};
 ghost use Rattle.holdings.specs.one_shard.Sheet.{rows};
+ghost use Rattle.coronagamba.specs.Specification.{givenSharding};
 ghost use Rattle.coronagamba.specs.Sheets.{measureWord, countsOf, countsAfter, sheetOf, sheetWord, rowsAfter};
+use crate::numbers::CSharding;
+use crate::numbers::sharding_of;
 use crate::word::fault_word;
 use holdings::SheetAnswer;
 use holdings::measures::Counts;
 use holdings::measures::MeasureAnswer;
 use holdings::one_shard::Sheet;
-use sharding::Sharding;
 
 fn counts_of(counts: Counts) -> [u64; 4]
     ensures { λ r. ⌜ r ≡ countsOf counts ⌝ }
@@ -110,15 +112,15 @@ fn put_sheet(sheet: &mut [u64; 17], answer: SheetAnswer) -> u64
 // where the sizes together pass 2^64 - 1
 #[no_mangle]
 pub extern "C" fn coronagamba_measure(
-    sharding: Sharding,
+    sharding: CSharding,
     shard: u64,
     file: &[u8],
     counts: &mut [u64; 4],
 ) -> u64
-    ensures answer { λ r. ⌜ r ≡ measureWord (measureAnswer sharding shard (now (file .entry))) ⌝ }
-    ensures counts { λ _. ⌜ now (counts .exit) ≡ countsAfter (measureAnswer sharding shard (now (file .entry))) (now (counts .entry)) ⌝ }
+    ensures answer { λ r. ⌜ r ≡ measureWord (measureAnswer (givenSharding sharding) shard (now (file .entry))) ⌝ }
+    ensures counts { λ _. ⌜ now (counts .exit) ≡ countsAfter (measureAnswer (givenSharding sharding) shard (now (file .entry))) (now (counts .entry)) ⌝ }
 {
-    let answer = holdings::measure(sharding, shard, file);
+    let answer = holdings::measure(sharding_of(sharding), shard, file);
     put_counts(counts, answer)
 }
 
@@ -127,16 +129,16 @@ pub extern "C" fn coronagamba_measure(
 // where the sizes together pass 2^64 - 1
 #[no_mangle]
 pub extern "C" fn coronagamba_pair_measure(
-    sharding: Sharding,
+    sharding: CSharding,
     shard: u64,
     index: &[u8],
     data: &[u8],
     counts: &mut [u64; 4],
 ) -> u64
-    ensures answer { λ r. ⌜ r ≡ measureWord (pairMeasure sharding shard (now (index .entry)) (now («data» .entry))) ⌝ }
-    ensures counts { λ _. ⌜ now (counts .exit) ≡ countsAfter (pairMeasure sharding shard (now (index .entry)) (now («data» .entry))) (now (counts .entry)) ⌝ }
+    ensures answer { λ r. ⌜ r ≡ measureWord (pairMeasure (givenSharding sharding) shard (now (index .entry)) (now («data» .entry))) ⌝ }
+    ensures counts { λ _. ⌜ now (counts .exit) ≡ countsAfter (pairMeasure (givenSharding sharding) shard (now (index .entry)) (now («data» .entry))) (now (counts .entry)) ⌝ }
 {
-    let answer = holdings::measure_pair(sharding, shard, index, data);
+    let answer = holdings::measure_pair(sharding_of(sharding), shard, index, data);
     put_counts(counts, answer)
 }
 
@@ -149,14 +151,14 @@ pub extern "C" fn coronagamba_pair_measure(
 #[no_mangle]
 pub extern "C" fn coronagamba_sheet_add(
     sheet: &mut [u64; 17],
-    sharding: Sharding,
+    sharding: CSharding,
     shard: u64,
     file: &[u8],
 ) -> u64
-    ensures answer { λ r. ⌜ r ≡ sheetWord (addAnswer (sheetOf (now (sheet .entry))) sharding shard (now (file .entry))) ⌝ }
-    ensures sheet { λ _. ⌜ now (sheet .exit) ≡ rowsAfter (addAnswer (sheetOf (now (sheet .entry))) sharding shard (now (file .entry))) (now (sheet .entry)) ⌝ }
+    ensures answer { λ r. ⌜ r ≡ sheetWord (addAnswer (sheetOf (now (sheet .entry))) (givenSharding sharding) shard (now (file .entry))) ⌝ }
+    ensures sheet { λ _. ⌜ now (sheet .exit) ≡ rowsAfter (addAnswer (sheetOf (now (sheet .entry))) (givenSharding sharding) shard (now (file .entry))) (now (sheet .entry)) ⌝ }
 {
-    let answer = holdings::add(sheet_of(sheet), sharding, shard, file);
+    let answer = holdings::add(sheet_of(sheet), sharding_of(sharding), shard, file);
     put_sheet(sheet, answer)
 }
 
@@ -165,15 +167,15 @@ pub extern "C" fn coronagamba_sheet_add(
 #[no_mangle]
 pub extern "C" fn coronagamba_pair_sheet_add(
     sheet: &mut [u64; 17],
-    sharding: Sharding,
+    sharding: CSharding,
     shard: u64,
     index: &[u8],
     data: &[u8],
 ) -> u64
-    ensures answer { λ r. ⌜ r ≡ sheetWord (pairAddAnswer (sheetOf (now (sheet .entry))) sharding shard (now (index .entry)) (now («data» .entry))) ⌝ }
-    ensures sheet { λ _. ⌜ now (sheet .exit) ≡ rowsAfter (pairAddAnswer (sheetOf (now (sheet .entry))) sharding shard (now (index .entry)) (now («data» .entry))) (now (sheet .entry)) ⌝ }
+    ensures answer { λ r. ⌜ r ≡ sheetWord (pairAddAnswer (sheetOf (now (sheet .entry))) (givenSharding sharding) shard (now (index .entry)) (now («data» .entry))) ⌝ }
+    ensures sheet { λ _. ⌜ now (sheet .exit) ≡ rowsAfter (pairAddAnswer (sheetOf (now (sheet .entry))) (givenSharding sharding) shard (now (index .entry)) (now («data» .entry))) (now (sheet .entry)) ⌝ }
 {
-    let answer = holdings::add_pair(sheet_of(sheet), sharding, shard, index, data);
+    let answer = holdings::add_pair(sheet_of(sheet), sharding_of(sharding), shard, index, data);
     put_sheet(sheet, answer)
 }
 

@@ -3,11 +3,13 @@
 ghost use mathlib.Core.Path.{_≡_};
 ghost use Rattle.names.specs.chunks.Chunks.{chunkNameAnswer, chunkNameLeft};
 ghost use Rattle.names.specs.Shards.{shardNameAnswer, shardNameLeft};
+ghost use Rattle.coronagamba.specs.Specification.{givenSharding};
 ghost use Rattle.coronagamba.specs.word.Word.{writtenWord, lengthAfter};
 use crate::answers::put_length;
+use crate::numbers::CSharding;
+use crate::numbers::sharding_of;
 use morton::grid::Cell;
 use morton::grid::Volume;
-use sharding::Sharding;
 
 // The file name of a cell's chunk where chunks are not sharded. Writes its ASCII bytes, at most 71
 // and with no 0 byte behind them, to the front of `out`, and their number to `length`.
@@ -32,15 +34,15 @@ pub extern "C" fn coronagamba_chunk_name(
 // Refusals: 1, 5, 13 where `out` is shorter than the name
 #[no_mangle]
 pub extern "C" fn coronagamba_shard_name(
-    sharding: Sharding,
+    sharding: CSharding,
     shard: u64,
     out: &mut [u8],
     length: &mut u64,
 ) -> u64
-    ensures answer { λ r. ⌜ r ≡ writtenWord (shardNameAnswer sharding shard (now (out .entry))) ⌝ }
-    ensures out { λ _. ⌜ now (out .exit) ≡ shardNameLeft sharding shard (now (out .entry)) ⌝ }
-    ensures length { λ _. ⌜ now (length .exit) ≡ lengthAfter (shardNameAnswer sharding shard (now (out .entry))) (now (length .entry)) ⌝ }
+    ensures answer { λ r. ⌜ r ≡ writtenWord (shardNameAnswer (givenSharding sharding) shard (now (out .entry))) ⌝ }
+    ensures out { λ _. ⌜ now (out .exit) ≡ shardNameLeft (givenSharding sharding) shard (now (out .entry)) ⌝ }
+    ensures length { λ _. ⌜ now (length .exit) ≡ lengthAfter (shardNameAnswer (givenSharding sharding) shard (now (out .entry))) (now (length .entry)) ⌝ }
 {
-    let answer = names::shard_name(sharding, shard, out);
+    let answer = names::shard_name(sharding_of(sharding), shard, out);
     put_length(answer, length)
 }

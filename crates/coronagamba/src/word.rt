@@ -21,8 +21,8 @@ pub fn fault_word(refusal: u8, minishard: u64, position: u64) -> u64
     refusal as u64 + 256 * (minishard + 1) + 4294967296 * (position + 1)
 }
 
-// Whether the caller of settling asks to drop unlisted bytes.
-pub fn asks_to_drop(wish: u8) -> bool
+// Whether the caller of settling asks to drop unlisted bytes. The number is as wide as any that C passes, so that none is cut to 1.
+pub fn asks_to_drop(wish: u64) -> bool
     ensures { λ r. ⌜ r ≡ asksToDrop wish ⌝ }
 {
     wish == 1

@@ -6,8 +6,8 @@ ghost use Rattle.intake.specs.numbers.Numbers.{narrow, numbersOf, specOf
 use crate::state::Intake;
 use sharding::Sharding;
 
-// A number for which the state has 8 bits.
-fn capped(n: u64) -> u8
+// A number for which a specification, or the state, has 8 bits.
+pub fn capped(n: u64) -> u8
     ensures { λ r. ⌜ (r ≡ narrow n) × (r < 256) ⌝ }
 {
     if 255 < n {

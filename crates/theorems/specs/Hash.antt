@@ -7,12 +7,12 @@ use Rattle.endian.specs.Little.{le, leAt}
 use Rattle.murmur3.specs.Murmur.{State, add32, mul32, rotl32, shiftXor, c1, c2, c3, len, seed, seeded, lengthened, summed, murmurHash}
 
 -- a multiplication of 16-bit halves: whatever it is given, its factors are below 65,536
-abbrev pub narrow : ℕ → ℕ → ℕ
-narrow a b = (a % 65536) * (b % 65536)
+abbrev pub narrowProduct : ℕ → ℕ → ℕ
+narrowProduct a b = (a % 65536) * (b % 65536)
 
 -- a 32-bit product from such ones, shifts and 32-bit sums
 abbrev pub byHalves : ℕ → ℕ → ℕ
-byHalves a b = add32 (narrow a b) ((add32 (narrow (a / 2 ^ 16) b) (narrow a (b / 2 ^ 16)) * 2 ^ 16) % 2 ^ 32)
+byHalves a b = add32 (narrowProduct a b) ((add32 (narrowProduct (a / 2 ^ 16) b) (narrowProduct a (b / 2 ^ 16)) * 2 ^ 16) % 2 ^ 32)
 
 -- ---- the hash, by any way to multiply
 

@@ -119,7 +119,13 @@ impl Card {
         // SAFETY: pointer and count are those of one live slice, which is lent
         // to this call alone, as is the result.
         written(|length| unsafe {
-            ffi::coronagamba_card_write(sharding, volume, out.as_mut_ptr(), out.len(), length)
+            ffi::coronagamba_card_write(
+                sharding.into(),
+                volume,
+                out.as_mut_ptr(),
+                out.len(),
+                length,
+            )
         })
     }
 

@@ -20,11 +20,11 @@ mod kept;
 #[cfg(test)]
 mod tests {
     use super::*;
-    use crate::{Extents, Sharding, Volume};
+    use crate::{CSharding, Extents, Volume};
     use std::ptr::{null, null_mut};
 
     /// The specification of one shard with one minishard.
-    const NO_BITS: Sharding = Sharding {
+    const NO_BITS: CSharding = CSharding {
         preshift: 0,
         hash: 0,
         minishard_bits: 0,
@@ -80,7 +80,7 @@ mod tests {
 
     #[test]
     fn the_word_of_the_check_names_minishard_and_position() {
-        let two = Sharding {
+        let two = CSharding {
             minishard_bits: 1,
             ..NO_BITS
         };
@@ -124,12 +124,50 @@ mod tests {
         assert_eq!(result, [9; 2]);
     }
 
+    /// A number in a specification that a byte cannot hold is refused with 1, also
+    /// where its lowest byte would be allowed, by the calls that write nothing and
+    /// in the sheet.
+    #[test]
+    fn a_specification_is_not_cut_to_bytes() {
+        let (file, mut sheet) = ([0; 16], [0; 17]);
+        let bytes = file.as_ptr();
+        for more in [256, 1 << 16, 1 << 31, u32::MAX - 255] {
+            for field in 0..5 {
+                let mut wide = NO_BITS;
+                let fields = [
+                    &mut wide.preshift,
+                    &mut wide.hash,
+                    &mut wide.minishard_bits,
+                    &mut wide.shard_bits,
+                    &mut wide.kind,
+                ];
+                *fields.into_iter().nth(field).unwrap() = more;
+                let before: [u64; 17] = sheet;
+                // SAFETY: each pointer and count are those of one array, and no items
+                // may come as a null pointer.
+                unsafe {
+                    assert_eq!(coronagamba_check(wide, 0, bytes, 16), 1);
+                    assert_eq!(coronagamba_pair_check(wide, 0, bytes, 16, null(), 0), 1);
+                    assert_eq!(coronagamba_sheet_add(&mut sheet, wide, 0, bytes, 16), 0);
+                    let told =
+                        coronagamba_pair_sheet_add(&mut sheet, wide, 0, bytes, 16, null(), 0);
+                    assert_eq!(told, 0);
+                }
+                // Two shards more are refused with 1.
+                let mut expected = before;
+                expected[1] += 2;
+                assert_eq!(sheet, expected);
+            }
+        }
+    }
+
     /// 1 asks to drop unlisted bytes, and no other number does.
     #[test]
     fn one_number_asks_to_drop() {
         let (file, mut length, mut out) = ([0; 20], 9, [7; 16]);
         let bytes = file.as_ptr();
-        for wish in 0..=u8::MAX {
+        let wide = [257, 1 << 16, (1 << 32) + 1, u64::MAX];
+        for wish in (0..=255).chain(wide) {
             let expected = if wish == 1 { 0 } else { 22 };
             // SAFETY: each pointer and count are those of one array, and the
             // result goes to a live value.
@@ -176,7 +214,8 @@ mod tests {
         let words: [u32; 5] = [1, 2, 0, 5, 6];
         let chunk = words.map(u32::to_le_bytes).concat();
         let (from, count, one) = (chunk.as_ptr(), chunk.len(), Extents::from([1; 3]));
-        for bits in 0..=u8::MAX {
+        let wide = [256 + 32, 256 + 64, (1 << 32) + 32, (1 << 32) + 64, u64::MAX];
+        for bits in (0..=255).chain(wide) {
             let (expected, told, bytes, written) = match bits {
                 32 => (0, 5, 4, 4),
                 64 => (0, 5 + (6 << 32), 8, 8),

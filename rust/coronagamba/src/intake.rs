@@ -377,7 +377,7 @@ impl State {
         // the numbers are lent to this call alone.
         answer(unsafe {
             ffi::coronagamba_intake_open(
-                sharding,
+                sharding.into(),
                 number,
                 out.as_mut_ptr(),
                 out.len(),

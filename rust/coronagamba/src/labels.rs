@@ -24,7 +24,7 @@ impl LabelBits {
     }
 
     /// The width as the C interface takes it.
-    fn number(self) -> u8 {
+    fn number(self) -> u64 {
         match self {
             LabelBits::B32 => 32,
             LabelBits::B64 => 64,

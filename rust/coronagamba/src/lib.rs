@@ -38,6 +38,7 @@ pub use refusal::Refusal;
 pub use scan::Scan;
 pub use settle::Unlisted;
 pub use shard::{Chunk, Chunks, Listed, Shard, Span};
+use sharding::CSharding;
 pub use sharding::{Place, Sharding};
 pub use sheet::{Counts, Sheet};
 pub use version::version;

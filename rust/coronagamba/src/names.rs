@@ -55,7 +55,7 @@ impl Sharding {
         // SAFETY: pointer and count are those of one live slice, which is lent
         // to this call alone, as is the result.
         written(|length| unsafe {
-            ffi::coronagamba_shard_name(*self, shard, out.as_mut_ptr(), out.len(), length)
+            ffi::coronagamba_shard_name((*self).into(), shard, out.as_mut_ptr(), out.len(), length)
         })
     }
 
@@ -82,7 +82,7 @@ impl Sharding {
         // SAFETY: pointer and count are those of one live slice, which is lent
         // to this call alone, as is the result.
         written(|length| unsafe {
-            ffi::coronagamba_index_name(*self, shard, out.as_mut_ptr(), out.len(), length)
+            ffi::coronagamba_index_name((*self).into(), shard, out.as_mut_ptr(), out.len(), length)
         })
     }
 
@@ -111,7 +111,7 @@ impl Sharding {
         // SAFETY: pointer and count are those of one live slice, which is lent
         // to this call alone, as is the result.
         written(|length| unsafe {
-            ffi::coronagamba_data_name(*self, shard, out.as_mut_ptr(), out.len(), length)
+            ffi::coronagamba_data_name((*self).into(), shard, out.as_mut_ptr(), out.len(), length)
         })
     }
 

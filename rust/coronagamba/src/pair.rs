@@ -108,7 +108,7 @@ impl<'a> Pair<'a> {
         // results are two live numbers, lent to this call alone.
         given(|Span { start, length }| unsafe {
             ffi::coronagamba_pair_lookup(
-                self.sharding,
+                self.sharding.into(),
                 self.number,
                 self.index.as_ptr(),
                 self.index.len(),
@@ -135,7 +135,7 @@ impl<'a> Pair<'a> {
         // results are two live numbers, lent to this call alone.
         given(|Span { start, length }| unsafe {
             ffi::coronagamba_pair_fragment(
-                self.sharding,
+                self.sharding.into(),
                 self.number,
                 self.index.as_ptr(),
                 self.index.len(),
@@ -211,7 +211,7 @@ impl<'a> Pair<'a> {
         // SAFETY: each pointer and count are those of one live slice.
         answer(unsafe {
             ffi::coronagamba_pair_check(
-                self.sharding,
+                self.sharding.into(),
                 self.number,
                 self.index.as_ptr(),
                 self.index.len(),
@@ -228,7 +228,7 @@ impl<'a> Pair<'a> {
         // result is a live number, lent to this call alone.
         given(|chunks| unsafe {
             ffi::coronagamba_pair_listed_count(
-                self.sharding,
+                self.sharding.into(),
                 self.number,
                 self.index.as_ptr(),
                 self.index.len(),
@@ -249,7 +249,7 @@ impl<'a> Pair<'a> {
         // and the result are lent to this call alone.
         written(|length| unsafe {
             ffi::coronagamba_pair_listing(
-                self.sharding,
+                self.sharding.into(),
                 self.number,
                 self.index.as_ptr(),
                 self.index.len(),
@@ -303,7 +303,7 @@ impl<'a> Pair<'a> {
         // result is a live number, lent to this call alone.
         given(|count| unsafe {
             ffi::coronagamba_pair_unlisted(
-                self.sharding,
+                self.sharding.into(),
                 self.number,
                 self.index.as_ptr(),
                 self.index.len(),
@@ -321,7 +321,7 @@ impl<'a> Pair<'a> {
         // result is a live number, lent to this call alone.
         given(|length| unsafe {
             ffi::coronagamba_pair_settled_length(
-                self.sharding,
+                self.sharding.into(),
                 self.number,
                 self.index.as_ptr(),
                 self.index.len(),
@@ -374,7 +374,7 @@ impl<'a> Pair<'a> {
         // and the result are lent to this call alone.
         written(|length| unsafe {
             ffi::coronagamba_pair_settle(
-                self.sharding,
+                self.sharding.into(),
                 self.number,
                 self.index.as_ptr(),
                 self.index.len(),
@@ -420,7 +420,7 @@ impl<'a> Pair<'a> {
                 },
             ): &mut (u32, Span)| unsafe {
                 ffi::coronagamba_pair_range(
-                    self.sharding,
+                    self.sharding.into(),
                     self.index.as_ptr(),
                     self.index.len(),
                     self.data.as_ptr(),

@@ -16,7 +16,7 @@ pub enum Unlisted {
 
 impl Unlisted {
     /// The wish as the C interface takes it.
-    pub(crate) fn number(self) -> u8 {
+    pub(crate) fn number(self) -> u64 {
         match self {
             Unlisted::Refuse => 0,
             Unlisted::Drop => 1,
@@ -66,7 +66,7 @@ impl Shard<'_> {
         // a live number, lent to this call alone.
         given(|count| unsafe {
             ffi::coronagamba_unlisted(
-                self.sharding,
+                self.sharding.into(),
                 self.number,
                 self.file.as_ptr(),
                 self.file.len(),
@@ -84,7 +84,7 @@ impl Shard<'_> {
         // a live number, lent to this call alone.
         given(|length| unsafe {
             ffi::coronagamba_settled_length(
-                self.sharding,
+                self.sharding.into(),
                 self.number,
                 self.file.as_ptr(),
                 self.file.len(),
@@ -155,7 +155,7 @@ impl Shard<'_> {
         // and the result are lent to this call alone.
         written(|length| unsafe {
             ffi::coronagamba_settle(
-                self.sharding,
+                self.sharding.into(),
                 self.number,
                 self.file.as_ptr(),
                 self.file.len(),

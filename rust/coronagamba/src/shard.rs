@@ -116,7 +116,7 @@ impl<'a> Shard<'a> {
         // are two live numbers, lent to this call alone.
         given(|Span { start, length }| unsafe {
             ffi::coronagamba_lookup(
-                self.sharding,
+                self.sharding.into(),
                 self.number,
                 self.file.as_ptr(),
                 self.file.len(),
@@ -177,7 +177,7 @@ impl<'a> Shard<'a> {
         // are two live numbers, lent to this call alone.
         given(|Span { start, length }| unsafe {
             ffi::coronagamba_fragment(
-                self.sharding,
+                self.sharding.into(),
                 self.number,
                 self.file.as_ptr(),
                 self.file.len(),
@@ -221,7 +221,7 @@ impl<'a> Shard<'a> {
         // SAFETY: pointer and count are those of one live slice.
         answer(unsafe {
             ffi::coronagamba_check(
-                self.sharding,
+                self.sharding.into(),
                 self.number,
                 self.file.as_ptr(),
                 self.file.len(),
@@ -237,7 +237,7 @@ impl<'a> Shard<'a> {
         // a live number, lent to this call alone.
         given(|chunks| unsafe {
             ffi::coronagamba_listed_count(
-                self.sharding,
+                self.sharding.into(),
                 self.number,
                 self.file.as_ptr(),
                 self.file.len(),
@@ -255,7 +255,7 @@ impl<'a> Shard<'a> {
         // and the result are lent to this call alone.
         written(|length| unsafe {
             ffi::coronagamba_listing(
-                self.sharding,
+                self.sharding.into(),
                 self.number,
                 self.file.as_ptr(),
                 self.file.len(),

@@ -24,7 +24,6 @@ use crate::refusal::{given, written, Refusal};
 /// assert_eq!(sharding.place(4)?.minishard, 0);
 /// # Ok::<(), coronagamba::Refusal>(())
 /// ```
-#[repr(C)]
 #[derive(Clone, Copy, Debug, PartialEq, Eq, Hash)]
 pub struct Sharding {
     /// Low bits of an id that do not count, at most 63.
@@ -39,6 +38,30 @@ pub struct Sharding {
     /// a shard holds, and nothing about the place of an id. A mesh that is
     /// settled as a volume loses its fragments.
     pub kind: u8,
+}
+
+/// The specification as C has it: wider fields, so that a caller's greater number
+/// is refused with 1 and not cut off.
+#[repr(C)]
+#[derive(Clone, Copy)]
+pub(crate) struct CSharding {
+    pub preshift: u32,
+    pub hash: u32,
+    pub minishard_bits: u32,
+    pub shard_bits: u32,
+    pub kind: u32,
+}
+
+impl From<Sharding> for CSharding {
+    fn from(given: Sharding) -> Self {
+        CSharding {
+            preshift: given.preshift.into(),
+            hash: given.hash.into(),
+            minishard_bits: given.minishard_bits.into(),
+            shard_bits: given.shard_bits.into(),
+            kind: given.kind.into(),
+        }
+    }
 }
 
 /// Where an id belongs.
@@ -93,7 +116,7 @@ impl Sharding {
     pub fn place(&self, id: u64) -> Result<Place, Refusal> {
         // SAFETY: the results are two live numbers, lent to this call alone.
         given(|Place { shard, minishard }| unsafe {
-            ffi::coronagamba_place_of(*self, id, shard, minishard)
+            ffi::coronagamba_place_of((*self).into(), id, shard, minishard)
         })
     }
 
@@ -139,7 +162,7 @@ impl Sharding {
         // buffers and the result lent to this call alone.
         written(|length| unsafe {
             ffi::coronagamba_places_of(
-                *self,
+                (*self).into(),
                 ids.as_ptr(),
                 ids.len(),
                 shards.as_mut_ptr(),

@@ -60,7 +60,7 @@ impl Shard<'_> {
         // a live array, lent to this call alone.
         given(|counts| unsafe {
             ffi::coronagamba_measure(
-                self.sharding,
+                self.sharding.into(),
                 self.number,
                 self.file.as_ptr(),
                 self.file.len(),
@@ -80,7 +80,7 @@ impl Pair<'_> {
         // result is a live array, lent to this call alone.
         given(|counts| unsafe {
             ffi::coronagamba_pair_measure(
-                self.sharding(),
+                self.sharding().into(),
                 self.number(),
                 self.index().as_ptr(),
                 self.index().len(),
@@ -196,7 +196,7 @@ impl Sheet {
         answer(unsafe {
             ffi::coronagamba_sheet_add(
                 &mut self.rows,
-                shard.sharding,
+                shard.sharding.into(),
                 shard.number,
                 shard.file.as_ptr(),
                 shard.file.len(),
@@ -211,7 +211,7 @@ impl Sheet {
         answer(unsafe {
             ffi::coronagamba_pair_sheet_add(
                 &mut self.rows,
-                pair.sharding(),
+                pair.sharding().into(),
                 pair.number(),
                 pair.index().as_ptr(),
                 pair.index().len(),

@@ -203,7 +203,7 @@ fn item(name: &str) -> String {
         "f64" => "double".into(),
         _ if name.starts_with('u') => format!("uint{}_t", &name[1..]),
         _ if name.starts_with('i') => format!("int{}_t", &name[1..]),
-        _ => format!("coronagamba_{}", name.to_lowercase()),
+        _ => Struct::name_in_c(name),
     }
 }
 

@@ -27,8 +27,8 @@ pub fn declarations(source: &Source, constants: &[Constant]) -> String {
     }
     let names = source.structs.iter().map(|structure| {
         format!(
-            "    \"coronagamba_{}\": {},\n",
-            structure.name.to_lowercase(),
+            "    \"{}\": {},\n",
+            Struct::name_in_c(&structure.name),
             structure.name
         )
     });

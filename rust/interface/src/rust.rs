@@ -88,8 +88,12 @@ fn function(function: &Function) -> String {
     let result = in_rust(&function.result);
     let name = &function.name;
     let short = format!("    pub fn {name}({}) -> {result};", parameters.join(", "));
-    let declared = if short.len() <= WIDTH {
+    let declared = if short.len() < WIDTH {
         format!("{short}\n")
+    } else if short.len() == WIDTH {
+        // As the formatter has it: the result on a line of its own.
+        let (front, end) = short.split_at(short.len() - format!(" -> {result};").len());
+        format!("{front}\n       {end}\n")
     } else {
         let listed: String = parameters
             .iter()

@@ -105,6 +105,18 @@ impl Source {
     }
 }
 
+impl Struct {
+    /// A struct's name in C, by its Rattle name. The export crate's own structs,
+    /// for which the library has others, have a C in front: `CSharding` is
+    /// `coronagamba_sharding`.
+    pub fn name_in_c(name: &str) -> String {
+        let own = name
+            .strip_prefix('C')
+            .filter(|rest| rest.starts_with(|c: char| c.is_ascii_uppercase()));
+        format!("coronagamba_{}", own.unwrap_or(name).to_lowercase())
+    }
+}
+
 /// A struct's layout in C: where each field begins, then size and alignment.
 pub struct Layout {
     /// Where each field begins.
@@ -451,6 +463,12 @@ pub extern \"C\" fn copy_all(
         assert!(read(&silent).unwrap_err().contains("Refusals"));
         let bare = silent.replace("// Copies all.\n// And more.\n", "");
         assert!(read(&bare).unwrap_err().contains("Refusals"));
+    }
+
+    #[test]
+    fn a_struct_of_the_border_has_the_library_s_name_in_c() {
+        assert_eq!(Struct::name_in_c("CSharding"), "coronagamba_sharding");
+        assert_eq!(Struct::name_in_c("Cell"), "coronagamba_cell");
     }
 
     #[test]

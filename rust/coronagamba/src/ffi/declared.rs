@@ -2,28 +2,28 @@
 //!
 //! Made by ./interface: change the export crate or rust/interface, then run it.
 
-use crate::{Cell, Extents, Offset, Point, Sharding, Volume};
+use crate::{CSharding, Cell, Extents, Offset, Point, Volume};
 use std::mem::{align_of, offset_of, size_of};
 
 // The crate's structs have the fields and the layout that C gives them.
-const _: fn(Sharding) = |given| {
-    let Sharding {
+const _: fn(CSharding) = |given| {
+    let CSharding {
         preshift,
         hash,
         minishard_bits,
         shard_bits,
         kind,
     } = given;
-    let _: (u8, u8, u8, u8, u8) = (preshift, hash, minishard_bits, shard_bits, kind);
+    let _: (u32, u32, u32, u32, u32) = (preshift, hash, minishard_bits, shard_bits, kind);
 };
 const _: () = {
-    assert!(offset_of!(Sharding, preshift) == 0);
-    assert!(offset_of!(Sharding, hash) == 1);
-    assert!(offset_of!(Sharding, minishard_bits) == 2);
-    assert!(offset_of!(Sharding, shard_bits) == 3);
-    assert!(offset_of!(Sharding, kind) == 4);
-    assert!(size_of::<Sharding>() == 5);
-    assert!(align_of::<Sharding>() == 1);
+    assert!(offset_of!(CSharding, preshift) == 0);
+    assert!(offset_of!(CSharding, hash) == 4);
+    assert!(offset_of!(CSharding, minishard_bits) == 8);
+    assert!(offset_of!(CSharding, shard_bits) == 12);
+    assert!(offset_of!(CSharding, kind) == 16);
+    assert!(size_of::<CSharding>() == 20);
+    assert!(align_of::<CSharding>() == 4);
 };
 const _: fn(Extents) = |given| {
     let Extents { x, y, z } = given;
@@ -170,7 +170,7 @@ extern "C" {
     ///
     /// Refusals: 1
     pub fn coronagamba_place_of(
-        sharding: Sharding,
+        sharding: CSharding,
         id: u64,
         shard: *mut u64,
         minishard: *mut u64,
@@ -181,7 +181,7 @@ extern "C" {
     ///
     /// Refusals: 1, 13 where `shards` or `minishards` has room for fewer
     pub fn coronagamba_places_of(
-        sharding: Sharding,
+        sharding: CSharding,
         ids: *const u64,
         count: usize,
         shards: *mut u64,
@@ -208,7 +208,7 @@ extern "C" {
     ///
     /// Refusals: 1, 5, 13 where `out` is shorter than the name
     pub fn coronagamba_shard_name(
-        sharding: Sharding,
+        sharding: CSharding,
         shard: u64,
         out: *mut u8,
         count: usize,
@@ -222,7 +222,7 @@ extern "C" {
     /// Refusals: 1, 5, 6, 7 to 11, 15 to 17 (mesh), 21 (mesh) of the id's minishard with the
     /// position, 12
     pub fn coronagamba_lookup(
-        sharding: Sharding,
+        sharding: CSharding,
         shard: u64,
         file: *const u8,
         count: usize,
@@ -240,7 +240,7 @@ extern "C" {
     /// Refusals: 1, 5, 6, 7 to 11, 15 to 17 (mesh), 21 (mesh) of the id's minishard with the
     /// position, 12, 18 also where the kind is volume
     pub fn coronagamba_fragment(
-        sharding: Sharding,
+        sharding: CSharding,
         shard: u64,
         file: *const u8,
         count: usize,
@@ -256,14 +256,15 @@ extern "C" {
     /// the first such minishard and the position.
     ///
     /// Refusals: 1, 5, 6, 7 to 11, 15 to 17 (mesh), 21 (mesh) with the minishard and the position
-    pub fn coronagamba_check(sharding: Sharding, shard: u64, file: *const u8, count: usize) -> u64;
+    pub fn coronagamba_check(sharding: CSharding, shard: u64, file: *const u8, count: usize)
+        -> u64;
 
     /// How many chunks a minishard lists. Writes the number to `chunks`.
     ///
     /// Refusals: 1, 5 (also for a minishard that is not there), 6, 7 to 11, 15 to 17 (mesh), 21
     /// (mesh) of that minishard with the position
     pub fn coronagamba_listed_count(
-        sharding: Sharding,
+        sharding: CSharding,
         shard: u64,
         file: *const u8,
         count: usize,
@@ -278,7 +279,7 @@ extern "C" {
     /// Refusals: 1, 5 (also for a minishard that is not there), 6, 7 to 11, 15 to 17 (mesh), 21
     /// (mesh) of that minishard with the position, 13 where `out` has room for fewer
     pub fn coronagamba_listing(
-        sharding: Sharding,
+        sharding: CSharding,
         shard: u64,
         file: *const u8,
         count: usize,
@@ -295,7 +296,7 @@ extern "C" {
     /// Refusals: 1, 5, 6, 7 to 11, 15 to 17 (mesh), 21 (mesh) of the first faulty minishard with
     /// the position
     pub fn coronagamba_unlisted(
-        sharding: Sharding,
+        sharding: CSharding,
         shard: u64,
         file: *const u8,
         count: usize,
@@ -310,11 +311,11 @@ extern "C" {
     /// the position, 22 where bytes are unlisted and not dropped, 13 where the form would pass 1
     /// GiB
     pub fn coronagamba_settled_length(
-        sharding: Sharding,
+        sharding: CSharding,
         shard: u64,
         file: *const u8,
         count: usize,
-        drop_unlisted: u8,
+        drop_unlisted: u64,
         length: *mut u64,
     ) -> u64;
 
@@ -327,11 +328,11 @@ extern "C" {
     /// the position, 22 where bytes are unlisted and not dropped, 13 where `out` is shorter than
     /// the form or the form would pass 1 GiB
     pub fn coronagamba_settle(
-        sharding: Sharding,
+        sharding: CSharding,
         shard: u64,
         file: *const u8,
         count: usize,
-        drop_unlisted: u8,
+        drop_unlisted: u64,
         out: *mut u8,
         out_count: usize,
         length: *mut u64,
@@ -343,7 +344,7 @@ extern "C" {
     /// Refusals: 1, 5, 23, 6, 7 to 11, 15 to 17 (mesh), 21 (mesh) with the minishard and the
     /// position
     pub fn coronagamba_pair_check(
-        sharding: Sharding,
+        sharding: CSharding,
         shard: u64,
         index: *const u8,
         count: usize,
@@ -358,7 +359,7 @@ extern "C" {
     /// Refusals: 1, 5, 23, 6, 7 to 11, 15 to 17 (mesh), 21 (mesh) of the id's minishard with the
     /// position, 12
     pub fn coronagamba_pair_lookup(
-        sharding: Sharding,
+        sharding: CSharding,
         shard: u64,
         index: *const u8,
         count: usize,
@@ -377,7 +378,7 @@ extern "C" {
     /// Refusals: 1, 5, 23, 6, 7 to 11, 15 to 17 (mesh), 21 (mesh) of the id's minishard with the
     /// position, 12, 18 also where the kind is volume
     pub fn coronagamba_pair_fragment(
-        sharding: Sharding,
+        sharding: CSharding,
         shard: u64,
         index: *const u8,
         count: usize,
@@ -396,7 +397,7 @@ extern "C" {
     /// Refusals: 1, 5 (also for a minishard that is not there), 23, 6, 7 to 11, 15 to 17 (mesh), 21
     /// (mesh) of that minishard with the position
     pub fn coronagamba_pair_listed_count(
-        sharding: Sharding,
+        sharding: CSharding,
         shard: u64,
         index: *const u8,
         count: usize,
@@ -414,7 +415,7 @@ extern "C" {
     /// Refusals: 1, 5 (also for a minishard that is not there), 23, 6, 7 to 11, 15 to 17 (mesh), 21
     /// (mesh) of that minishard with the position, 13 where `out` has room for fewer
     pub fn coronagamba_pair_listing(
-        sharding: Sharding,
+        sharding: CSharding,
         shard: u64,
         index: *const u8,
         count: usize,
@@ -432,7 +433,7 @@ extern "C" {
     /// Refusals: 1, 5, 23, 6, 7 to 11, 15 to 17 (mesh), 21 (mesh) of the first faulty minishard
     /// with the position
     pub fn coronagamba_pair_unlisted(
-        sharding: Sharding,
+        sharding: CSharding,
         shard: u64,
         index: *const u8,
         count: usize,
@@ -449,13 +450,13 @@ extern "C" {
     /// with the position, 22 where bytes are unlisted and not dropped, 13 where the form would pass
     /// 1 GiB
     pub fn coronagamba_pair_settled_length(
-        sharding: Sharding,
+        sharding: CSharding,
         shard: u64,
         index: *const u8,
         count: usize,
         data: *const u8,
         data_count: usize,
-        drop_unlisted: u8,
+        drop_unlisted: u64,
         length: *mut u64,
     ) -> u64;
 
@@ -468,13 +469,13 @@ extern "C" {
     /// with the position, 22 where bytes are unlisted and not dropped, 13 where `out` is shorter
     /// than the form or the form would pass 1 GiB
     pub fn coronagamba_pair_settle(
-        sharding: Sharding,
+        sharding: CSharding,
         shard: u64,
         index: *const u8,
         count: usize,
         data: *const u8,
         data_count: usize,
-        drop_unlisted: u8,
+        drop_unlisted: u64,
         out: *mut u8,
         out_count: usize,
         length: *mut u64,
@@ -488,7 +489,7 @@ extern "C" {
     ///
     /// Refusals: 1, 23, 6, 24
     pub fn coronagamba_pair_range(
-        sharding: Sharding,
+        sharding: CSharding,
         index: *const u8,
         count: usize,
         data: *const u8,
@@ -505,7 +506,7 @@ extern "C" {
     ///
     /// Refusals: 1, 5, 13 where `out` is shorter than the name
     pub fn coronagamba_index_name(
-        sharding: Sharding,
+        sharding: CSharding,
         shard: u64,
         out: *mut u8,
         count: usize,
@@ -516,7 +517,7 @@ extern "C" {
     ///
     /// Refusals: 1, 5, 13 where `out` is shorter than the name
     pub fn coronagamba_data_name(
-        sharding: Sharding,
+        sharding: CSharding,
         shard: u64,
         out: *mut u8,
         count: usize,
@@ -531,7 +532,7 @@ extern "C" {
     ///
     /// Refusals: 1 also where the kind is mesh, 5, 13 where the shard index passes `out`
     pub fn coronagamba_intake_open(
-        sharding: Sharding,
+        sharding: CSharding,
         shard: u64,
         out: *mut u8,
         count: usize,
@@ -597,7 +598,7 @@ extern "C" {
     /// Refusals: 1, 5, 6, 7 to 11, 15 to 17 (mesh), 21 (mesh) with the minishard and the position,
     /// 27 where the sizes together pass 2^64 - 1
     pub fn coronagamba_measure(
-        sharding: Sharding,
+        sharding: CSharding,
         shard: u64,
         file: *const u8,
         count: usize,
@@ -609,7 +610,7 @@ extern "C" {
     /// Refusals: 1, 5, 23, 6, 7 to 11, 15 to 17 (mesh), 21 (mesh) with the minishard and the
     /// position, 27 where the sizes together pass 2^64 - 1
     pub fn coronagamba_pair_measure(
-        sharding: Sharding,
+        sharding: CSharding,
         shard: u64,
         index: *const u8,
         count: usize,
@@ -628,7 +629,7 @@ extern "C" {
     /// Refusals: 27 where a total would pass 2^64 - 1
     pub fn coronagamba_sheet_add(
         sheet: *mut [u64; 17],
-        sharding: Sharding,
+        sharding: CSharding,
         shard: u64,
         file: *const u8,
         count: usize,
@@ -639,7 +640,7 @@ extern "C" {
     /// Refusals: 27 where a total would pass 2^64 - 1
     pub fn coronagamba_pair_sheet_add(
         sheet: *mut [u64; 17],
-        sharding: Sharding,
+        sharding: CSharding,
         shard: u64,
         index: *const u8,
         count: usize,
@@ -673,7 +674,7 @@ extern "C" {
     ///
     /// Refusals: 1, 2, 3, 13 where `out` is shorter than the card
     pub fn coronagamba_card_write(
-        sharding: Sharding,
+        sharding: CSharding,
         volume: Volume,
         out: *mut u8,
         count: usize,
@@ -782,7 +783,7 @@ extern "C" {
         size: Extents,
         block: Extents,
         channels: u32,
-        bits: u8,
+        bits: u64,
         x: u32,
         y: u32,
         z: u32,
@@ -800,7 +801,7 @@ extern "C" {
         size: Extents,
         block: Extents,
         channels: u32,
-        bits: u8,
+        bits: u64,
         length: *mut u64,
     ) -> u64;
 
@@ -819,7 +820,7 @@ extern "C" {
         size: Extents,
         block: Extents,
         channels: u32,
-        bits: u8,
+        bits: u64,
         out: *mut u8,
         out_count: usize,
         length: *mut u64,

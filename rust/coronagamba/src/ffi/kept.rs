@@ -5,7 +5,7 @@
 //! state and the second buffer, which it reads, are as they were too.
 
 use super::*;
-use crate::{Cell, Extents, Point, Sharding, Volume};
+use crate::{CSharding, Cell, Extents, Point, Volume};
 use std::collections::BTreeSet;
 use std::iter::once;
 
@@ -85,26 +85,36 @@ macro_rules! cases {
 }
 
 /// A specification that is not allowed.
-const FORBIDDEN: Sharding = bits(64, 1);
+const FORBIDDEN: CSharding = bits(64, 1);
 /// One shard of two minishards.
-const TWO: Sharding = bits(0, 1);
+const TWO: CSharding = bits(0, 1);
 /// The same of a mesh.
-const MESH: Sharding = Sharding {
-    kind: Sharding::MESH,
-    ..TWO
-};
+const MESH: CSharding = CSharding { kind: 1, ..TWO };
 /// The same of neither kind.
-const NEITHER: Sharding = Sharding { kind: 2, ..TWO };
+const NEITHER: CSharding = CSharding { kind: 2, ..TWO };
 
-const fn bits(preshift: u8, minishard_bits: u8) -> Sharding {
-    Sharding {
+const fn bits(preshift: u32, minishard_bits: u32) -> CSharding {
+    CSharding {
         preshift,
-        hash: Sharding::IDENTITY,
+        hash: 0,
         minishard_bits,
         shard_bits: 0,
-        kind: Sharding::VOLUME,
+        kind: 0,
     }
 }
+
+/// An allowed specification with 256 more in one field, in each field once. A
+/// byte cannot hold the number; cut off, it would be the allowed one.
+const TOO_WIDE: [CSharding; 5] = [
+    bits(256, 1),
+    CSharding { hash: 256, ..TWO },
+    bits(0, 256 + 1),
+    CSharding {
+        shard_bits: 256,
+        ..TWO
+    },
+    CSharding { kind: 256, ..TWO },
+];
 
 /// A volume of this size in chunks of one voxel.
 fn volume(size: [u32; 3]) -> Volume {
@@ -166,6 +176,26 @@ fn sharding() -> Vec<Case<'static>> {
     })
 }
 
+/// The calls on no shard, with each specification of a number that no byte holds.
+fn too_wide() -> Vec<Case<'static>> {
+    const IDS: &[u64] = &[7, 8];
+    let (ids, row) = (IDS.as_ptr(), volume([5, 3, 1]));
+    let all = TOO_WIDE.into_iter().flat_map(|spec| {
+        cases! { lent:
+            1 => coronagamba_place_of(spec, 7, lent.one(), lent.one());
+            1 => coronagamba_places_of(spec, ids, 2, lent.many(2), 2, lent.many(2), 2, lent.one());
+            1 => coronagamba_shard_name(spec, 0, lent.many(14), 14, lent.one());
+            1 => coronagamba_index_name(spec, 0, lent.many(14), 14, lent.one());
+            1 => coronagamba_data_name(spec, 0, lent.many(13), 13, lent.one());
+            1 => coronagamba_card_write(spec, row, lent.many(65), 65, lent.one());
+            1 => coronagamba_intake_open(
+                spec, 0, lent.many(99), 99, lent.many::<u8>(9), 9, lent.one(),
+            );
+        }
+    });
+    all.collect()
+}
+
 /// Numbers as they stand in a shard.
 fn row(numbers: &[u64]) -> Vec<u8> {
     let bytes = numbers.iter().flat_map(|number| number.to_le_bytes());
@@ -201,7 +231,7 @@ fn sound_mesh() -> Vec<u8> {
 
 /// A specification, a shard number and a file that each call on a shard
 /// refuses with the word in front.
-type Faulty = (u64, Sharding, u64, Vec<u8>);
+type Faulty = (u64, CSharding, u64, Vec<u8>);
 
 /// The word of a number and a position.
 const fn at(number: u64, position: u64) -> u64 {
@@ -210,7 +240,8 @@ const fn at(number: u64, position: u64) -> u64 {
 
 fn faulty_shards() -> Vec<Faulty> {
     let sound = shard([5, 53], ROWS);
-    vec![
+    let too_wide = TOO_WIDE.map(|sharding| (1, sharding, 0, sound.clone()));
+    let others = vec![
         (1, FORBIDDEN, 0, sound.clone()),
         (5, TWO, 1, sound.clone()),
         (6, TWO, 0, sound[..31].to_vec()),
@@ -226,7 +257,8 @@ fn faulty_shards() -> Vec<Faulty> {
         faulty_mesh(17, 1, manifest(1.0, [1, 0]), 10),
         // The fragments of the first manifest would begin a byte too early.
         faulty_mesh(21, 0, manifest(1.0, [0, 1]), 9),
-    ]
+    ];
+    others.into_iter().chain(too_wide).collect()
 }
 
 /// A mesh shard whose second manifest is this one. An entry's start step is the
@@ -299,6 +331,8 @@ fn on_unlisted_byte(file: &[u8]) -> Vec<Case<'_>> {
         22 => coronagamba_settled_length(TWO, 0, from, count, 0, lent.one());
         22 => coronagamba_settle(TWO, 0, from, count, 0, lent.many(99), 99, lent.one());
         22 => coronagamba_settle(TWO, 0, from, count, 2, lent.many(84), 84, lent.one());
+        22 => coronagamba_settled_length(TWO, 0, from, count, 257, lent.one());
+        22 => coronagamba_settle(TWO, 0, from, count, 257, lent.many(99), 99, lent.one());
         13 => coronagamba_settle(TWO, 0, from, count, 1, lent.many(84), 84, lent.one());
     })
 }
@@ -310,7 +344,7 @@ type Files<'a> = (&'a [u8], &'a [u8]);
 /// with the word.
 struct FaultyPair {
     word: u64,
-    sharding: Sharding,
+    sharding: CSharding,
     shard: u64,
     index: Vec<u8>,
     data: Vec<u8>,
@@ -417,6 +451,8 @@ fn on_pairs_to_settle(more: Files<'_>, long: Files<'_>) -> Vec<Case<'static>> {
     let mut all = Vec::from(cases! { lent:
         22 => coronagamba_pair_settled_length(TWO, 0, i, n, d, m, 0, lent.one());
         22 => coronagamba_pair_settle(TWO, 0, i, n, d, m, 2, lent.many(84), 84, lent.one());
+        22 => coronagamba_pair_settled_length(TWO, 0, i, n, d, m, 257, lent.one());
+        22 => coronagamba_pair_settle(TWO, 0, i, n, d, m, 257, lent.many(99), 99, lent.one());
         13 => coronagamba_pair_settle(TWO, 0, i, n, d, m, 1, lent.many(84), 84, lent.one());
     });
     let (i, n, d, m) = files(long);
@@ -454,7 +490,7 @@ fn on_overlapping_shard(file: &[u8]) -> Vec<Case<'_>> {
 }
 
 /// Two shards of two minishards.
-const FOUR: Sharding = Sharding {
+const FOUR: CSharding = CSharding {
     shard_bits: 1,
     ..TWO
 };
@@ -772,6 +808,9 @@ fn on_sound_labels(chunk: &[u8]) -> Vec<Case<'_>> {
         2 => coronagamba_label(from, count, two, two, 1, 32, 0, 0, 2, 0, lent.one());
         2 => coronagamba_label(from, count, two, two, 1, 32, 0, 0, 0, 1, lent.one());
         2 => coronagamba_label(from, count, two, two, 1, 33, 0, 0, 0, 0, lent.one());
+        2 => coronagamba_label(from, count, two, two, 1, 256 + 32, 0, 0, 0, 0, lent.one());
+        2 => coronagamba_unpacked_length(two, two, 1, 256 + 64, lent.one());
+        2 => coronagamba_unpack(from, count, two, two, 1, 288, lent.many(32), 32, lent.one());
         2 => coronagamba_unpacked_length(two, two, 1, 0, lent.one());
         2 => coronagamba_unpacked_length(most, two, 1, 128, lent.one());
         2 => coronagamba_unpack(from, count, two, two, 1, 16, lent.many(31), 31, lent.one());
@@ -844,7 +883,7 @@ fn a_refusal_leaves_every_lent_byte() {
     let pairs = faulty_pairs();
     let [sound_pair, more_pair] = [&sound, &more].map(|file| file.split_at(32));
     let long_pair = long.split_at(16 * MINISHARDS as usize);
-    let cases: Vec<Case> = [grid(), sharding(), intake(), card_write()]
+    let cases: Vec<Case> = [grid(), sharding(), too_wide(), intake(), card_write()]
         .into_iter()
         .chain(shards.iter().map(on_faulty_shard))
         .chain([on_sound_shard(&sound), on_sound_mesh(&mesh)])
