@@ -1,10 +1,9 @@
 -- Measures and sheets across the border. Each law has the shape of a need.
 use Prim.Native.Nat.{ℕ, _+_, _<_}
 use mathlib.Core.Path.{_≡_, refl, sym, _∙_}
-use mathlib.Core.List.{List, [], _∷_}
+use mathlib.Core.List.{List}
 use mathlib.Core.Option.{some}
 use borrow.Author.Needs.{needs}
-use lib.ListN.{getD}
 use Rattle.sharding.specs.declared.Sharding.{Sharding}
 use Rattle.shard.specs.declared.CheckAnswer.the-variants as C
 use Rattle.shard.specs.File.{indexPart, dataPart, checkAnswer}
@@ -19,7 +18,7 @@ use Rattle.holdings.specs.declared.SheetAnswer.{SheetAnswer}
 use Rattle.holdings.specs.declared.SheetAnswer.the-variants.{Total, Refused}
 use Rattle.holdings.specs.one_shard.Sheet.{rows}
 use Rattle.coronagamba.specs.word.Word.{word}
-use Rattle.coronagamba.specs.Sheets.{measureWord, countsOf, countsAfter, sheetOf, sheetWord, rowsAfter}
+use Rattle.coronagamba.specs.Sheets.{measureWord, countsOf, countsAfter, sheetWord, rowsAfter}
 use Rattle.coronagamba.proofs.Told.{told, after}
 use Rattle.coronagamba.proofs.Checked.{minishard-fits, check-fits}
 use Rattle.coronagamba.proofs.Paired.{pair-minishard-fits, pair-check-fits}
@@ -75,14 +74,6 @@ pub ruleset measuring = (measure-given, measure-refused, measure-faulty, counts-
 
 -- ---- the sheet
 
-pub sheet-is : (s : List ℕ) → record { sound = getD s 0 0; refused1 = getD s 1 0; refused5 = getD s 2 0; refused6 = getD s 3 0; refused7 = getD s 4 0; refused8 = getD s 5 0; refused9 = getD s 6 0; refused10 = getD s 7 0; refused11 = getD s 8 0; refused15 = getD s 9 0; refused16 = getD s 10 0; refused17 = getD s 11 0; refused21 = getD s 12 0; refused23 = getD s 13 0; chunks = getD s 14 0; bytes = getD s 15 0; unlisted = getD s 16 0 } ≡ sheetOf s
-unfolding sheetOf
-sheet-is s = refl
-
-pub rows-are : (s : Sheet) → s .sound ∷ s .refused1 ∷ s .refused5 ∷ s .refused6 ∷ s .refused7 ∷ s .refused8 ∷ s .refused9 ∷ s .refused10 ∷ s .refused11 ∷ s .refused15 ∷ s .refused16 ∷ s .refused17 ∷ s .refused21 ∷ s .refused23 ∷ s .chunks ∷ s .bytes ∷ s .unlisted ∷ [] ≡ rows s
-unfolding rows
-rows-are s = refl
-
 module _ {a b : SheetAnswer} (e : b ≡ a) where
   pub sheet-given : {s : Sheet} → b ≡ Total s → 0 ≡ sheetWord a
   sheet-given h = told sheetWord e h
@@ -95,7 +86,5 @@ module _ {a b : SheetAnswer} (e : b ≡ a) where
 
   pub rows-refused : (x : List ℕ) {k : ℕ} → b ≡ Refused k → x ≡ rowsAfter a x
   rows-refused x h = after rowsAfter x e h
-
-pub ruleset rowing = (sheet-is, rows-are, needs)
 
 pub ruleset adding = (sheet-given, sheet-refused, rows-given, rows-refused, needs)

@@ -5,16 +5,17 @@ ghost use Prim.Native.Nat.{ℕ, _+_, _<_};
 ghost use Rattle.holdings.specs.declared.measures.MeasureAnswer.the-variants.{Faulty};
 ghost use Rattle.holdings.specs.measures.Answers.{measureAnswer, pairMeasure};
 ghost use Rattle.holdings.specs.Answers.{joinAnswer, addAnswer, pairAddAnswer};
-ghost use Rattle.holdings.specs.one_shard.Sheet.{rows};
+ghost use Rattle.holdings.specs.one_shard.Sheet.{fromRows};
 ghost use Rattle.coronagamba.specs.Specification.{givenSharding};
-ghost use Rattle.coronagamba.specs.Sheets.{measureWord, countsOf, countsAfter, sheetOf, sheetWord, rowsAfter};
+ghost use Rattle.coronagamba.specs.Sheets.{measureWord, countsOf, countsAfter, sheetWord, rowsAfter};
 use crate::numbers::CSharding;
 use crate::numbers::sharding_of;
 use crate::word::fault_word;
 use holdings::SheetAnswer;
 use holdings::measures::Counts;
 use holdings::measures::MeasureAnswer;
-use holdings::one_shard::Sheet;
+use holdings::one_shard::from_rows;
+use holdings::one_shard::rows_of;
 
 fn counts_of(counts: Counts) -> [u64; 4]
     ensures { λ r. ⌜ r ≡ countsOf counts ⌝ }
@@ -40,55 +41,6 @@ fn put_counts(counts: &mut [u64; 4], answer: MeasureAnswer) -> u64
             position,
         } => fault_word(refusal, minishard, position),
     }
-}
-
-fn sheet_of(numbers: &[u64; 17]) -> Sheet
-    ensures { λ r. ⌜ r ≡ sheetOf (now (numbers .entry)) ⌝ }
-{
-    let n = *numbers;
-    Sheet {
-        sound: n[0],
-        refused1: n[1],
-        refused5: n[2],
-        refused6: n[3],
-        refused7: n[4],
-        refused8: n[5],
-        refused9: n[6],
-        refused10: n[7],
-        refused11: n[8],
-        refused15: n[9],
-        refused16: n[10],
-        refused17: n[11],
-        refused21: n[12],
-        refused23: n[13],
-        chunks: n[14],
-        bytes: n[15],
-        unlisted: n[16],
-    }
-}
-
-fn rows_of(sheet: Sheet) -> [u64; 17]
-    ensures { λ r. ⌜ r ≡ rows sheet ⌝ }
-{
-    [
-        sheet.sound,
-        sheet.refused1,
-        sheet.refused5,
-        sheet.refused6,
-        sheet.refused7,
-        sheet.refused8,
-        sheet.refused9,
-        sheet.refused10,
-        sheet.refused11,
-        sheet.refused15,
-        sheet.refused16,
-        sheet.refused17,
-        sheet.refused21,
-        sheet.refused23,
-        sheet.chunks,
-        sheet.bytes,
-        sheet.unlisted,
-    ]
 }
 
 // The new rows, or the refusal.
@@ -155,10 +107,10 @@ pub extern "C" fn coronagamba_sheet_add(
     shard: u64,
     file: &[u8],
 ) -> u64
-    ensures answer { λ r. ⌜ r ≡ sheetWord (addAnswer (sheetOf (now (sheet .entry))) (givenSharding sharding) shard (now (file .entry))) ⌝ }
-    ensures sheet { λ _. ⌜ now (sheet .exit) ≡ rowsAfter (addAnswer (sheetOf (now (sheet .entry))) (givenSharding sharding) shard (now (file .entry))) (now (sheet .entry)) ⌝ }
+    ensures answer { λ r. ⌜ r ≡ sheetWord (addAnswer (fromRows (now (sheet .entry))) (givenSharding sharding) shard (now (file .entry))) ⌝ }
+    ensures sheet { λ _. ⌜ now (sheet .exit) ≡ rowsAfter (addAnswer (fromRows (now (sheet .entry))) (givenSharding sharding) shard (now (file .entry))) (now (sheet .entry)) ⌝ }
 {
-    let answer = holdings::add(sheet_of(sheet), sharding_of(sharding), shard, file);
+    let answer = holdings::add(from_rows(*sheet), sharding_of(sharding), shard, file);
     put_sheet(sheet, answer)
 }
 
@@ -172,10 +124,10 @@ pub extern "C" fn coronagamba_pair_sheet_add(
     index: &[u8],
     data: &[u8],
 ) -> u64
-    ensures answer { λ r. ⌜ r ≡ sheetWord (pairAddAnswer (sheetOf (now (sheet .entry))) (givenSharding sharding) shard (now (index .entry)) (now («data» .entry))) ⌝ }
-    ensures sheet { λ _. ⌜ now (sheet .exit) ≡ rowsAfter (pairAddAnswer (sheetOf (now (sheet .entry))) (givenSharding sharding) shard (now (index .entry)) (now («data» .entry))) (now (sheet .entry)) ⌝ }
+    ensures answer { λ r. ⌜ r ≡ sheetWord (pairAddAnswer (fromRows (now (sheet .entry))) (givenSharding sharding) shard (now (index .entry)) (now («data» .entry))) ⌝ }
+    ensures sheet { λ _. ⌜ now (sheet .exit) ≡ rowsAfter (pairAddAnswer (fromRows (now (sheet .entry))) (givenSharding sharding) shard (now (index .entry)) (now («data» .entry))) (now (sheet .entry)) ⌝ }
 {
-    let answer = holdings::add_pair(sheet_of(sheet), sharding_of(sharding), shard, index, data);
+    let answer = holdings::add_pair(from_rows(*sheet), sharding_of(sharding), shard, index, data);
     put_sheet(sheet, answer)
 }
 
@@ -184,9 +136,9 @@ pub extern "C" fn coronagamba_pair_sheet_add(
 // Refusals: 27 where a total would pass 2^64 - 1
 #[no_mangle]
 pub extern "C" fn coronagamba_sheet_join(sheet: &mut [u64; 17], other: &[u64; 17]) -> u64
-    ensures answer { λ r. ⌜ r ≡ sheetWord (joinAnswer (sheetOf (now (sheet .entry))) (sheetOf (now (other .entry)))) ⌝ }
-    ensures sheet { λ _. ⌜ now (sheet .exit) ≡ rowsAfter (joinAnswer (sheetOf (now (sheet .entry))) (sheetOf (now (other .entry)))) (now (sheet .entry)) ⌝ }
+    ensures answer { λ r. ⌜ r ≡ sheetWord (joinAnswer (fromRows (now (sheet .entry))) (fromRows (now (other .entry)))) ⌝ }
+    ensures sheet { λ _. ⌜ now (sheet .exit) ≡ rowsAfter (joinAnswer (fromRows (now (sheet .entry))) (fromRows (now (other .entry)))) (now (sheet .entry)) ⌝ }
 {
-    let answer = holdings::join(sheet_of(sheet), sheet_of(other));
+    let answer = holdings::join(from_rows(*sheet), from_rows(*other));
     put_sheet(sheet, answer)
 }

@@ -23,9 +23,8 @@ use Rattle.holdings.proofs.measures.Answered.{measured-pick}
 use Rattle.holdings.specs.declared.one_shard.Sheet.{Sheet}
 use Rattle.holdings.specs.declared.SheetAnswer.{SheetAnswer}
 use Rattle.holdings.specs.declared.SheetAnswer.the-variants.{Total, Refused}
-use Rattle.holdings.specs.one_shard.Sheet.{rows, hasRow, soundSheet, refusedSheet, shardSheet}
-use Rattle.holdings.specs.passing.Totals.{anyPasses, both}
-use Rattle.holdings.specs.Joining.{Joins}
+use Rattle.holdings.specs.one_shard.Sheet.{rows, fromRows, reporting, hasRow, soundSheet, refusedSheet, shardSheet}
+use Rattle.holdings.specs.passing.Totals.{added, anyPasses, both, Totals}
 use Rattle.holdings.specs.Answers.{joinAnswer, sheetOf, addAnswer, pairSheet, pairAddAnswer, measuredAnswer}
 use Rattle.holdings.proofs.one_shard.Numbers.{Told, check-told, pair-told}
 
@@ -40,12 +39,23 @@ module _ (a b : Sheet) where
       go true = unfold unless in refl
       go false = unfold unless in refl
 
-  module _ {t : Bool} (e : t ≡ anyPasses (rows (both a b))) where
-    pub join-refused : t ≡ true → Refused 27 ≡ joinAnswer a b
-    join-refused h = rw (join-pick, ← e, h)
+pub rows-both : (a b : Sheet) → rows (both a b) ≡ added (rows a) (rows b)
+unfolding both added rows fromRows
+rows-both a b = refl
 
-    pub join-total : t ≡ false → {s : Sheet} → Joins a b s → Total s ≡ joinAnswer a b
-    join-total h q = rw (join-pick, ← e, h, q .exact (sym e ∙ h))
+pub from-rows : (s : Sheet) → fromRows (rows s) ≡ s
+unfolding rows fromRows
+from-rows s = refl
+
+module _ (a b : Sheet) {xs ys after : List ℕ} {t : Bool} (h : Totals xs ys after t) (p : xs ≡ rows a) (q : ys ≡ rows b) where
+  same : added xs ys ≡ rows (both a b)
+  same = rw (p, q) (sym (rows-both a b))
+
+  pub join-refused : t ≡ true → Refused 27 ≡ joinAnswer a b
+  join-refused e = rw (join-pick a b, ← same, ← h .test, e)
+
+  pub join-total : t ≡ false → {s : Sheet} → s ≡ fromRows after → Total s ≡ joinAnswer a b
+  join-total e k = rw (join-pick a b, ← same, ← h .test, e, k, h .exact e, same, from-rows (both a b))
 
 pub ruleset joining = (join-refused, join-total, needs)
 
@@ -78,7 +88,7 @@ unfolding passes
 more-passes a b h = lt-ltb mostTotal (a + b) (omega (arith, ltb-true mostTotal b h))
 
 bytes-past : (s : Sheet) (k : Counts) → passes (k .bytes) ≡ true → anyPasses (rows (both s (soundSheet k))) ≡ true
-unfolding anyPasses rows both soundSheet
+unfolding anyPasses passes added rows fromRows reporting both soundSheet
 bytes-past s k h = rw (more-passes (s .bytes) (k .bytes) h) (simp or-true)
 
 no-row : (k : ℕ) → hasRow k ≡ true → k ≡ 27 → ⊥

@@ -1,3 +1,2 @@
 -- Laws of the sheet.
-pub mod Totals
 pub mod Answered

@@ -3,5 +3,4 @@ pub mod chunk_sums
 pub mod measures
 pub mod one_shard
 pub mod passing
-pub mod Joining
 pub mod Answers

@@ -8,9 +8,10 @@ mod rows;
 ghost use mathlib.Core.Path.{_≡_};
 ghost use Rattle.holdings.specs.Answers.{joinAnswer, addAnswer, pairAddAnswer};
 use crate::one_shard::Sheet;
-use crate::passing::passes;
+use crate::one_shard::from_rows;
+use crate::one_shard::rows_of;
+use crate::passing::add_rows;
 use crate::rows::add_measured;
-use crate::rows::together;
 pub use measures::measure;
 pub use measures::measure_pair;
 use sharding::Sharding;
@@ -25,10 +26,12 @@ pub enum SheetAnswer {
 pub fn join(sheet: Sheet, other: Sheet) -> SheetAnswer
     ensures answer { λ r. ⌜ r ≡ joinAnswer sheet other ⌝ }
 {
-    if passes(sheet, other) {
+    let mut totals = rows_of(sheet);
+    let others = rows_of(other);
+    if add_rows(&mut totals, &others) {
         return SheetAnswer::Refused(27);
     }
-    SheetAnswer::Total(together(sheet, other))
+    SheetAnswer::Total(from_rows(totals))
 }
 
 // A sheet with one shard more, sound or not.

@@ -1,7 +1,7 @@
 // The rows of the yearly holdings sheet, and the sheet of one shard.
 
 ghost use mathlib.Core.Path.{_≡_};
-ghost use Rattle.holdings.specs.one_shard.Sheet.{tally, soundSheet, refusedSheet};
+ghost use Rattle.holdings.specs.one_shard.Sheet.{rows, fromRows, empty, tally, soundSheet, refusedSheet};
 use crate::measures::Counts;
 
 // Plain numbers: how many shards were sound, how many were refused with each number that the check gives, and over the sound ones the
@@ -26,6 +26,62 @@ pub struct Sheet {
     pub unlisted: u64,
 }
 
+// Its rows, in the order of the fields.
+pub fn rows_of(sheet: Sheet) -> [u64; 17]
+    ensures { λ r. ⌜ r ≡ rows sheet ⌝ }
+{
+    [
+        sheet.sound,
+        sheet.refused1,
+        sheet.refused5,
+        sheet.refused6,
+        sheet.refused7,
+        sheet.refused8,
+        sheet.refused9,
+        sheet.refused10,
+        sheet.refused11,
+        sheet.refused15,
+        sheet.refused16,
+        sheet.refused17,
+        sheet.refused21,
+        sheet.refused23,
+        sheet.chunks,
+        sheet.bytes,
+        sheet.unlisted,
+    ]
+}
+
+// The sheet with these rows.
+pub fn from_rows(rows: [u64; 17]) -> Sheet
+    ensures { λ r. ⌜ r ≡ fromRows rows ⌝ }
+{
+    Sheet {
+        sound: rows[0],
+        refused1: rows[1],
+        refused5: rows[2],
+        refused6: rows[3],
+        refused7: rows[4],
+        refused8: rows[5],
+        refused9: rows[6],
+        refused10: rows[7],
+        refused11: rows[8],
+        refused15: rows[9],
+        refused16: rows[10],
+        refused17: rows[11],
+        refused21: rows[12],
+        refused23: rows[13],
+        chunks: rows[14],
+        bytes: rows[15],
+        unlisted: rows[16],
+    }
+}
+
+pub fn empty() -> Sheet
+    ensures { λ r. ⌜ r ≡ empty ⌝ }
+{
+    from_rows([0; 17])
+}
+
 // 1 in the row of the number, 0 in the others.
 fn one(row: u8, number: u8) -> u64
     ensures { λ r. ⌜ r ≡ tally row number ⌝ }
@@ -40,25 +96,12 @@ fn one(row: u8, number: u8) -> u64
 pub fn sound_sheet(counts: Counts) -> Sheet
     ensures { λ r. ⌜ r ≡ soundSheet counts ⌝ }
 {
-    Sheet {
-        sound: 1,
-        refused1: 0,
-        refused5: 0,
-        refused6: 0,
-        refused7: 0,
-        refused8: 0,
-        refused9: 0,
-        refused10: 0,
-        refused11: 0,
-        refused15: 0,
-        refused16: 0,
-        refused17: 0,
-        refused21: 0,
-        refused23: 0,
-        chunks: counts.chunks,
-        bytes: counts.bytes,
-        unlisted: counts.unlisted,
-    }
+    let mut sheet = empty();
+    sheet.sound = 1;
+    sheet.chunks = counts.chunks;
+    sheet.bytes = counts.bytes;
+    sheet.unlisted = counts.unlisted;
+    sheet
 }
 
 // The sheet of a shard that the check refuses: none of its chunks is counted.

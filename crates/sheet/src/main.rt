@@ -5,7 +5,6 @@ pub mod one_shard;
 ghost use mathlib.Core.Path.{_≡_};
 ghost use Prim.Native.Nat.{_≤_};
 ghost use lib.ListN.{length};
-ghost use Rattle.holdings.specs.one_shard.Sheet.{empty};
 ghost use Rattle.sheet.specs.one_shard.Turns.{headerBytes, mostBytes, TurnedBy, Turned, Told, Next, Finished};
 use crate::one_shard::Turn;
 use holdings::one_shard::Sheet;
@@ -50,30 +49,6 @@ fn next(sheet: Sheet, head: &mut [u8; 17], body: &mut [u8; 65536]) -> Turn
     tell(read_next(sheet, head, body))
 }
 
-fn empty() -> Sheet
-    ensures { λ r. ⌜ r ≡ empty ⌝ }
-{
-    Sheet {
-        sound: 0,
-        refused1: 0,
-        refused5: 0,
-        refused6: 0,
-        refused7: 0,
-        refused8: 0,
-        refused9: 0,
-        refused10: 0,
-        refused11: 0,
-        refused15: 0,
-        refused16: 0,
-        refused17: 0,
-        refused21: 0,
-        refused23: 0,
-        chunks: 0,
-        bytes: 0,
-        unlisted: 0,
-    }
-}
-
 // Shard by shard, up to what ends the input. A proved loop has to end, and nothing says that the input does: the turns are counted down
 // from a number that no run uses up.
 fn add_all() -> Turn
@@ -82,7 +57,7 @@ fn add_all() -> Turn
     let mut head = [0u8; 17];
     let mut body = [0u8; 65536];
     let mut at = Turn {
-        sheet: empty(),
+        sheet: holdings::one_shard::empty(),
         ending: crate::one_shard::MORE,
     };
     let mut left = u64::MAX;

@@ -7,7 +7,7 @@ use mathlib.Core.List.{List, [], _∷_, _++_}
 use native.Mathlib.Nat.{zero-add}
 use native.Mathlib.Omega.{arith}
 use borrow.Author.Tests.{ltb-false, le-ltb, ne-eqb}
-use lib.ListN.{length, getD}
+use lib.ListN.{length}
 use Rattle.refusal.specs.Choice.{pick}
 use Rattle.refusal.proofs.Tests.{neither}
 use Rattle.duplicate_ids.proofs.ids.Cases.{eq-or-not}
@@ -18,21 +18,16 @@ use Rattle.holdings.specs.chunk_sums.Totals.{mostTotal, passes}
 use Rattle.holdings.specs.declared.one_shard.Sheet.{Sheet}
 use Rattle.holdings.specs.declared.SheetAnswer.{SheetAnswer}
 use Rattle.holdings.specs.declared.SheetAnswer.the-variants.{Total, Refused as SheetRefused}
-use Rattle.holdings.specs.one_shard.Sheet.{rows, empty, tally, soundSheet, refusedSheet, shardSheet, numbers, isAmong, hasRow}
-use Rattle.holdings.specs.passing.Totals.{anyPasses, both}
+use Rattle.holdings.specs.one_shard.Sheet.{rows, fromRows, reporting, empty, tally, soundSheet, refusedSheet, shardSheet, numbers, isAmong, hasRow}
+use Rattle.holdings.specs.passing.Totals.{added, anyPasses, both}
 use Rattle.holdings.specs.Answers.{joinAnswer, sheetOf, addAnswer, pairSheet, pairAddAnswer}
 use Rattle.holdings.proofs.one_shard.Numbers.{Told, check-told, pair-told}
-use Rattle.holdings.proofs.Answered.{join-pick}
-use Rattle.coronagamba.specs.Sheets as L
+use Rattle.holdings.proofs.Answered.{rows-both, from-rows, join-pick}
+use Rattle.coronagamba.specs.Sheets.{rowsAfter}
 use Rattle.theorems.proofs.Counted.{listed-these, chunks-listed, bytes-listed}
 use Rattle.theorems.specs.Holdings.{Holding, oneFile, twoFiles, verdictOn, countsOf, addOne, keptBy, addAll, NoneRefused, isSound, isRefusedWith, howMany, sumOver, sheetOver, Within, Reordered, none, first, swapped, then, shardsOn, Order13}
 
--- ---- rows, added one by one; a list that ends goes on with 0
-
-added : List ℕ → List ℕ → List ℕ
-added [] ys = ys
-added (x ∷ xs) [] = x ∷ xs
-added (x ∷ xs) (y ∷ ys) = (x + y) ∷ added xs ys
+-- ---- rows, added one by one
 
 added-assoc : (xs ys zs : List ℕ) → added (added xs ys) zs ≡ added xs (added ys zs)
 unfolding added
@@ -66,20 +61,11 @@ added-within (x ∷ xs) (y ∷ ys) h =
 
 -- ---- sheets
 
-sheetBy : List ℕ → Sheet
-sheetBy s = record { sound = getD s 0 0; refused1 = getD s 1 0; refused5 = getD s 2 0; refused6 = getD s 3 0; refused7 = getD s 4 0; refused8 = getD s 5 0; refused9 = getD s 6 0; refused10 = getD s 7 0; refused11 = getD s 8 0; refused15 = getD s 9 0; refused16 = getD s 10 0; refused17 = getD s 11 0; refused21 = getD s 12 0; refused23 = getD s 13 0; chunks = getD s 14 0; bytes = getD s 15 0; unlisted = getD s 16 0 }
-
 same-rows : (a b : Sheet) → rows a ≡ rows b → a ≡ b
-unfolding rows sheetBy
-same-rows a b e = ap sheetBy e
+same-rows a b e = sym (from-rows a) ∙ ap fromRows e ∙ from-rows b
 
-module _ (a b : Sheet) where
-  rows-both : rows (both a b) ≡ added (rows a) (rows b)
-  unfolding rows both added
-  rows-both = refl
-
-  pub within-first : anyPasses (rows (both a b)) ≡ false → anyPasses (rows a) ≡ false
-  within-first h = added-within (rows a) (rows b) (rw rows-both at h)
+pub within-first : (a b : Sheet) → anyPasses (rows (both a b)) ≡ false → anyPasses (rows a) ≡ false
+within-first a b h = added-within (rows a) (rows b) (rw (rows-both a b) at h)
 
 both-comm : (a b : Sheet) → both a b ≡ both b a
 both-comm a b = same-rows _ _ (rows-both a b ∙ added-comm (rows a) (rows b) ∙ sym (rows-both b a))
@@ -97,7 +83,7 @@ both-swap : (a b c : Sheet) → both a (both b c) ≡ both b (both a c)
 both-swap a b c = sym (both-assoc a b c) ∙ ap (λ (s : Sheet). both s c) (both-comm a b) ∙ both-assoc b a c
 
 both-empty : (a : Sheet) → both empty a ≡ a
-unfolding both
+unfolding both added rows fromRows reporting
 both-empty a = simp zero-add
 
 -- ---- a list of shards
@@ -109,16 +95,31 @@ sums : List Holding → Sheet
 sums [] = empty
 sums (h ∷ hs) = both (one h) (sums hs)
 
-over-one : (v : CheckAnswer) (k : Counts) (s : Sheet) → record { sound = pick (isSound v) 1 0 + s .sound; refused1 = pick (isRefusedWith 1 v) 1 0 + s .refused1; refused5 = pick (isRefusedWith 5 v) 1 0 + s .refused5; refused6 = pick (isRefusedWith 6 v) 1 0 + s .refused6; refused7 = pick (isRefusedWith 7 v) 1 0 + s .refused7; refused8 = pick (isRefusedWith 8 v) 1 0 + s .refused8; refused9 = pick (isRefusedWith 9 v) 1 0 + s .refused9; refused10 = pick (isRefusedWith 10 v) 1 0 + s .refused10; refused11 = pick (isRefusedWith 11 v) 1 0 + s .refused11; refused15 = pick (isRefusedWith 15 v) 1 0 + s .refused15; refused16 = pick (isRefusedWith 16 v) 1 0 + s .refused16; refused17 = pick (isRefusedWith 17 v) 1 0 + s .refused17; refused21 = pick (isRefusedWith 21 v) 1 0 + s .refused21; refused23 = pick (isRefusedWith 23 v) 1 0 + s .refused23; chunks = pick (isSound v) (k .chunks) 0 + s .chunks; bytes = pick (isSound v) (k .bytes) 0 + s .bytes; unlisted = pick (isSound v) (k .unlisted) 0 + s .unlisted } ≡ both (shardSheet v k) s
-unfolding both shardSheet soundSheet refusedSheet tally
-over-one Sound k s = refl
-over-one (Refused n) k s = refl
-over-one (Faulty n m p) k s = refl
+one-reports : (v : CheckAnswer) (k : Counts)
+    → reporting (pick (isSound v) 1 0) (λ n. pick (isRefusedWith n v) 1 0) (pick (isSound v) (k .chunks) 0) (pick (isSound v) (k .bytes) 0) (pick (isSound v) (k .unlisted) 0) ≡ shardSheet v k
+unfolding shardSheet soundSheet refusedSheet tally
+one-reports Sound k = refl
+one-reports (Refused n) k = refl
+one-reports (Faulty n m p) k = refl
+
+reports-both : (s t : ℕ) (f g : ℕ → ℕ) (c d b e u w : ℕ)
+    → reporting (s + t) (λ n. f n + g n) (c + d) (b + e) (u + w) ≡ both (reporting s f c b u) (reporting t g d e w)
+unfolding both added rows fromRows reporting
+reports-both s t f g c d b e u w = refl
 
 over-sums : (hs : List Holding) → sheetOver hs ≡ sums hs
 unfolding sheetOver howMany sumOver sums one
 over-sums [] = refl
-over-sums (h ∷ hs) = over-one (verdictOn h) (countsOf h) (sheetOver hs) ∙ ap (both (shardSheet (verdictOn h) (countsOf h))) (over-sums hs)
+over-sums (h ∷ hs) =
+    let v = verdictOn h in
+    let k = countsOf h in
+    reports-both
+    (pick (isSound v) 1 0) (howMany isSound hs)
+    (λ n. pick (isRefusedWith n v) 1 0) (λ n. howMany (isRefusedWith n) hs)
+    (pick (isSound v) (k .chunks) 0) (sumOver isSound (λ k. k .chunks) hs)
+    (pick (isSound v) (k .bytes) 0) (sumOver isSound (λ k. k .bytes) hs)
+    (pick (isSound v) (k .unlisted) 0) (sumOver isSound (λ k. k .unlisted) hs)
+    ∙ ap₂ both (one-reports v k) (over-sums hs)
 
 -- ---- adding them
 
@@ -199,7 +200,7 @@ module _ (hs gs : List Holding) (w : Within (hs ++ gs)) where
 -- ---- each shard is in a row
 
 shards-both : (a b : Sheet) → shardsOn (both a b) ≡ shardsOn a + shardsOn b
-unfolding shardsOn both
+unfolding shardsOn both added rows fromRows
 shards-both a b = omega arith
 
 All : (ℕ → Type 0) → List ℕ → Type 0
@@ -217,11 +218,11 @@ unfolding hasRow
 shards-refused k e = all-among (λ j. shardsOn (refusedSheet j) ≡ 1) k numbers each e
   where
     each : All (λ j. shardsOn (refusedSheet j) ≡ 1) numbers
-    each = unfold All shardsOn refusedSheet tally in (refl, (refl, (refl, (refl, (refl, (refl, (refl, (refl, (refl, (refl, (refl, (refl, (refl, tt)))))))))))))
+    each = unfold All shardsOn refusedSheet reporting fromRows tally in (refl, (refl, (refl, (refl, (refl, (refl, (refl, (refl, (refl, (refl, (refl, (refl, (refl, tt)))))))))))))
 
 shards-one : (v : CheckAnswer) (k : Counts) → Told v → shardsOn (shardSheet v k) ≡ 1
 unfolding shardSheet
-shards-one Sound k t = unfold shardsOn soundSheet in refl
+shards-one Sound k t = unfold shardsOn soundSheet reporting fromRows in refl
 shards-one (Refused n) k t = shards-refused n t
 shards-one (Faulty n m p) k t = shards-refused n t
 
@@ -232,7 +233,7 @@ told-of (twoFiles spec shard index d) = pair-told spec shard index d
 
 shards-sums : (hs : List Holding) → shardsOn (sums hs) ≡ length hs
 unfolding sums one
-shards-sums [] = unfold shardsOn in refl
+shards-sums [] = unfold shardsOn reporting fromRows in refl
 shards-sums (h ∷ hs) = omega (arith, shards-both (one h) (sums hs), shards-one (verdictOn h) (countsOf h) (told-of h), shards-sums hs)
 
 -- ---- 27
@@ -252,11 +253,7 @@ only-27 : (b : Bool) (t : Sheet) (k : ℕ) → pick b (SheetRefused 27) (Total t
 only-27 true t k e = cc
 only-27 false t k e = let z : _≡_ {A = ℕ} 0 1 = cc in absurd (omega arith)
 
-of-rows : (s : Sheet) → L.sheetOf (rows s) ≡ s
-unfolding rows L.sheetOf
-of-rows s = refl
-
-rows-left : (s : Sheet) (a : SheetAnswer) → L.rowsAfter a (rows s) ≡ rows (keptBy s a)
+rows-left : (s : Sheet) (a : SheetAnswer) → rowsAfter a (rows s) ≡ rows (keptBy s a)
 unfolding keptBy
 rows-left s (Total t) = refl
 rows-left s (SheetRefused k) = refl
@@ -277,5 +274,5 @@ order-13 = record {
   only = λ sheet h k e. only-27 (anyPasses (rows (both sheet (sheetOver (h ∷ []))))) (both sheet (one h)) k (sym (add-pick sheet h) ∙ e);
   stays = λ lent h k e. rw e;
   joinStays = λ lent other k e. rw e;
-  lent = λ sheet h. rw (of-rows sheet) (rows-left sheet (addOne sheet h));
+  lent = λ sheet h. rw (from-rows sheet) (rows-left sheet (addOne sheet h));
 }

@@ -22,10 +22,10 @@ use Rattle.holdings.specs.measures.Measures.{measureOf, fileMeasure}
 use Rattle.holdings.specs.declared.one_shard.Sheet.{Sheet}
 use Rattle.holdings.specs.declared.SheetAnswer.{SheetAnswer}
 use Rattle.holdings.specs.declared.SheetAnswer.the-variants.{Total, Refused as SheetRefused}
-use Rattle.holdings.specs.one_shard.Sheet.{rows, empty}
+use Rattle.holdings.specs.one_shard.Sheet.{rows, fromRows, reporting, empty}
 use Rattle.holdings.specs.passing.Totals.{anyPasses, both}
 use Rattle.holdings.specs.Answers.{joinAnswer, addAnswer, pairAddAnswer}
-use Rattle.coronagamba.specs.Sheets.{sheetOf, rowsAfter}
+use Rattle.coronagamba.specs.Sheets.{rowsAfter}
 
 -- ---- shards, "with specification and number each"
 
@@ -87,25 +87,10 @@ sumOver test count (h ∷ hs) = pick (test (verdictOn h)) (count (countsOf h)) 0
 -- "shards sound, shards the check refuses for each number and, over sound shards, chunks listed, sum of chunk sizes, and unlisted bytes" (RULES H4)
 unfoldable pub sheetOver : List Holding → Sheet
 sheetOver hs =
-    record {
-      sound = howMany isSound hs;
-      refused1 = howMany (isRefusedWith 1) hs;
-      refused5 = howMany (isRefusedWith 5) hs;
-      refused6 = howMany (isRefusedWith 6) hs;
-      refused7 = howMany (isRefusedWith 7) hs;
-      refused8 = howMany (isRefusedWith 8) hs;
-      refused9 = howMany (isRefusedWith 9) hs;
-      refused10 = howMany (isRefusedWith 10) hs;
-      refused11 = howMany (isRefusedWith 11) hs;
-      refused15 = howMany (isRefusedWith 15) hs;
-      refused16 = howMany (isRefusedWith 16) hs;
-      refused17 = howMany (isRefusedWith 17) hs;
-      refused21 = howMany (isRefusedWith 21) hs;
-      refused23 = howMany (isRefusedWith 23) hs;
-      chunks = sumOver isSound (λ k. k .chunks) hs;
-      bytes = sumOver isSound (λ k. k .bytes) hs;
-      unlisted = sumOver isSound (λ k. k .unlisted) hs;
-    }
+    reporting (howMany isSound hs) (λ number. howMany (isRefusedWith number) hs)
+    (sumOver isSound (λ k. k .chunks) hs)
+    (sumOver isSound (λ k. k .bytes) hs)
+    (sumOver isSound (λ k. k .unlisted) hs)
 
 -- "no total over all of them passes 2^64-1"
 abbrev pub Within : List Holding → Type 0
@@ -158,7 +143,7 @@ pub record Order13 : Type 0 where
   pub past : (sheet : Sheet) (h : Holding) → (addOne sheet h ≡ SheetRefused 27) ↔ WouldPass sheet h
   pub only : (sheet : Sheet) (h : Holding) (k : ℕ) → addOne sheet h ≡ SheetRefused k → k ≡ 27
   -- "the sheet stays as before that shard": what the contracts of the C calls say of the numbers that were lent.
-  pub stays : (lent : List ℕ) (h : Holding) (k : ℕ) → addOne (sheetOf lent) h ≡ SheetRefused k → rowsAfter (addOne (sheetOf lent) h) lent ≡ lent
-  pub joinStays : (lent other : List ℕ) (k : ℕ) → joinAnswer (sheetOf lent) (sheetOf other) ≡ SheetRefused k → rowsAfter (joinAnswer (sheetOf lent) (sheetOf other)) lent ≡ lent
+  pub stays : (lent : List ℕ) (h : Holding) (k : ℕ) → addOne (fromRows lent) h ≡ SheetRefused k → rowsAfter (addOne (fromRows lent) h) lent ≡ lent
+  pub joinStays : (lent other : List ℕ) (k : ℕ) → joinAnswer (fromRows lent) (fromRows other) ≡ SheetRefused k → rowsAfter (joinAnswer (fromRows lent) (fromRows other)) lent ≡ lent
   -- Where the rows of a sheet are lent, the next sheet's rows are left: `addAll` is a run of these calls.
-  pub lent : (sheet : Sheet) (h : Holding) → rowsAfter (addOne (sheetOf (rows sheet)) h) (rows sheet) ≡ rows (keptBy sheet (addOne sheet h))
+  pub lent : (sheet : Sheet) (h : Holding) → rowsAfter (addOne (fromRows (rows sheet)) h) (rows sheet) ≡ rows (keptBy sheet (addOne sheet h))

@@ -7,6 +7,10 @@ join-spec =
     tie.close
     (tie.spec
     (λ c κs. search joining)
+    (λ c κs. search joining)
+    (λ c. search joining)
+    (λ c. search joining)
+    (λ c κs. search joining)
     (λ c. search joining)
     (λ c κs. search joining)
     (λ c. search joining))

@@ -2,8 +2,9 @@
 -- unlisted bytes as defined in order 8" (RULES H2).
 use Prim.Native.Nat.{ℕ}
 use mathlib.Core.Bool.{Bool, false, _||_}
-use mathlib.Core.List.{List, [], _∷_}
+use mathlib.Core.List.{List, [], _∷_, _++_, map}
 use lib.Dec.{eqb}
+use lib.ListN.{getD}
 use Rattle.refusal.specs.Choice.{pick}
 use Rattle.shard.specs.declared.CheckAnswer.{CheckAnswer}
 use Rattle.shard.specs.declared.CheckAnswer.the-variants.{Sound, Refused, Faulty}
@@ -22,7 +23,7 @@ isAmong k (n ∷ ns) = eqb k n || isAmong k ns
 unfoldable pub hasRow : ℕ → Bool
 hasRow k = isAmong k numbers
 
--- the rows of a sheet: shards sound, shards refused with each of these numbers, chunks listed, their bytes, unlisted bytes (RULES H2)
+-- the rows of a sheet, in the order in which the C calls have them (RULES H2)
 unfoldable pub rows : Sheet → List ℕ
 rows s =
     s .sound
@@ -44,9 +45,36 @@ rows s =
     ∷ s .unlisted
     ∷ []
 
+-- the sheet with these rows
+unfoldable pub fromRows : List ℕ → Sheet
+fromRows s =
+    record {
+      sound = getD s 0 0;
+      refused1 = getD s 1 0;
+      refused5 = getD s 2 0;
+      refused6 = getD s 3 0;
+      refused7 = getD s 4 0;
+      refused8 = getD s 5 0;
+      refused9 = getD s 6 0;
+      refused10 = getD s 7 0;
+      refused11 = getD s 8 0;
+      refused15 = getD s 9 0;
+      refused16 = getD s 10 0;
+      refused17 = getD s 11 0;
+      refused21 = getD s 12 0;
+      refused23 = getD s 13 0;
+      chunks = getD s 14 0;
+      bytes = getD s 15 0;
+      unlisted = getD s 16 0;
+    }
+
+-- a sheet that reports this: shards sound, shards refused with each of the numbers, chunks listed, their bytes, unlisted bytes (RULES H2)
+unfoldable pub reporting : ℕ → (ℕ → ℕ) → ℕ → ℕ → ℕ → Sheet
+reporting sound refused chunks bytes unlisted = fromRows (sound ∷ map refused numbers ++ chunks ∷ bytes ∷ unlisted ∷ [])
+
 -- an empty sheet
 abbrev pub empty : Sheet
-empty = record { sound = 0; refused1 = 0; refused5 = 0; refused6 = 0; refused7 = 0; refused8 = 0; refused9 = 0; refused10 = 0; refused11 = 0; refused15 = 0; refused16 = 0; refused17 = 0; refused21 = 0; refused23 = 0; chunks = 0; bytes = 0; unlisted = 0 }
+empty = reporting 0 (λ row. 0) 0 0 0
 
 -- ---- the sheet of one shard
 
@@ -56,49 +84,11 @@ tally row number = pick (eqb number row) 1 0
 
 -- sound, with these counts
 unfoldable pub soundSheet : Counts → Sheet
-soundSheet counts =
-    record {
-      sound = 1;
-      refused1 = 0;
-      refused5 = 0;
-      refused6 = 0;
-      refused7 = 0;
-      refused8 = 0;
-      refused9 = 0;
-      refused10 = 0;
-      refused11 = 0;
-      refused15 = 0;
-      refused16 = 0;
-      refused17 = 0;
-      refused21 = 0;
-      refused23 = 0;
-      chunks = counts .chunks;
-      bytes = counts .bytes;
-      unlisted = counts .unlisted;
-    }
+soundSheet counts = reporting 1 (λ row. 0) (counts .chunks) (counts .bytes) (counts .unlisted)
 
 -- refused with this number: one shard in its row, and nothing of it is counted
 unfoldable pub refusedSheet : ℕ → Sheet
-refusedSheet number =
-    record {
-      sound = 0;
-      refused1 = tally 1 number;
-      refused5 = tally 5 number;
-      refused6 = tally 6 number;
-      refused7 = tally 7 number;
-      refused8 = tally 8 number;
-      refused9 = tally 9 number;
-      refused10 = tally 10 number;
-      refused11 = tally 11 number;
-      refused15 = tally 15 number;
-      refused16 = tally 16 number;
-      refused17 = tally 17 number;
-      refused21 = tally 21 number;
-      refused23 = tally 23 number;
-      chunks = 0;
-      bytes = 0;
-      unlisted = 0;
-    }
+refusedSheet number = reporting 0 (λ row. tally row number) 0 0 0
 
 -- by what the check says of it (RULES H2)
 unfoldable pub shardSheet : CheckAnswer → Counts → Sheet

@@ -36,10 +36,10 @@ module _ (g : Extents) (few : keyBits g ≤ 64) {a b d m l : ℕ} (x : AxisBits 
   shares-no-more : (i : ℕ) → l ≤ i → Shared g i → ⊥
   shares-no-more i h s = by-axis (decLt i a) (decLt i b)
     where
-    by-axis : Dec (i < a) → Dec (i < b) → ⊥
-    by-axis (no n) q = past-axis x (omega arith) (s .x)
-    by-axis (yes p) (no n) = past-axis y (omega arith) (s .y)
-    by-axis (yes p) (yes q) = past-axis z (omega arith) (s .z)
+      by-axis : Dec (i < a) → Dec (i < b) → ⊥
+      by-axis (no n) q = past-axis x (omega arith) (s .x)
+      by-axis (yes p) (no n) = past-axis y (omega arith) (s .y)
+      by-axis (yes p) (yes q) = past-axis z (omega arith) (s .z)
 
   pub low-few : l < 32
   low-few = omega (arith, coarse-sum g x y z la lb ld)

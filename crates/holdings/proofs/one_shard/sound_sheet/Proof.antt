@@ -6,4 +6,5 @@ pub sound-sheet-spec : {M : Type 1} → statement M
 sound-sheet-spec =
     tie.close
     (tie.spec
+    (λ c κs. search sounding)
     (λ c. search sounding))

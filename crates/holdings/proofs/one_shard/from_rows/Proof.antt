@@ -1,9 +1,9 @@
-use Rattle.coronagamba.proofs.Sheeted.{rowing}
-use Rattle.coronagamba.proofs.sheets.sheet_of.Statement.{statement}
-use Rattle.coronagamba.proofs.sheets.sheet_of.Tie as tie
+use Rattle.holdings.proofs.one_shard.Rows.{rowing}
+use Rattle.holdings.proofs.one_shard.from_rows.Statement.{statement}
+use Rattle.holdings.proofs.one_shard.from_rows.Tie as tie
 
-pub sheet-of-spec : {M : Type 1} → statement M
-sheet-of-spec =
+pub from-rows-spec : {M : Type 1} → statement M
+from-rows-spec =
     tie.close
     (tie.spec
     (λ c. search rowing)
