@@ -268,11 +268,11 @@ fn change(rng: &mut Rng, pairs: &mut [[u64; 2]]) {
         0 => pairs[one][0] = pairs[other][0],
         1 => pairs[one][0] = pairs[one][0].wrapping_add(near),
         2 => pairs[one][0] = pairs[one][0].wrapping_sub(near),
-        3 => pairs[one][1] += 1,
+        3 => pairs[one][1] = pairs[one][1].wrapping_add(1),
         4 => pairs[one][1] = rng.edge_u64(),
         5 if pairs[one][1] > 0 => {
             pairs[one][1] -= 1;
-            pairs[other][1] += 1;
+            pairs[other][1] = pairs[other][1].wrapping_add(1);
         }
         6 => pairs.swap(one, other),
         _ => {}
@@ -299,15 +299,26 @@ fn changed_pairs() {
             desk.step(announced, [0, 0]).expect("there is room");
         }
         let most = desk.state.owed() as usize;
-        let came = if rng.once_in(6) { rng.index(most + 1) } else { most };
-        desk.step(Step::Part(&BYTES[..came]), [0, 0]).expect("it is owed");
+        let came = if rng.once_in(6) {
+            rng.index(most + 1)
+        } else {
+            most
+        };
+        desk.step(Step::Part(&BYTES[..came]), [0, 0])
+            .expect("it is owed");
         let held = &mut desk.waiting.part()[..16 * count];
         let word = |at: usize| u64::from_le_bytes(held[at..at + 8].try_into().expect("8 bytes"));
-        let mut pairs: Vec<[u64; 2]> = (0..count).map(|i| [word(16 * i), word(16 * i + 8)]).collect();
+        let mut pairs: Vec<[u64; 2]> = (0..count)
+            .map(|i| [word(16 * i), word(16 * i + 8)])
+            .collect();
         for _ in 0..rng.below(3) {
             change(&mut rng, &mut pairs);
         }
-        let bytes: Vec<u8> = pairs.iter().flatten().flat_map(|n| n.to_le_bytes()).collect();
+        let bytes: Vec<u8> = pairs
+            .iter()
+            .flatten()
+            .flat_map(|n| n.to_le_bytes())
+            .collect();
         held.copy_from_slice(&bytes);
 
         let steps = [
@@ -318,8 +329,11 @@ fn changed_pairs() {
         ];
         for (place, step) in steps.into_iter().enumerate() {
             let mut after = desk.clone();
-            let (mut numbers, mut out, mut waiting) =
-                (Numbers(desk.state.numbers), desk.out.clone(), desk.waiting.clone());
+            let (mut numbers, mut out, mut waiting) = (
+                Numbers(desk.state.numbers),
+                desk.out.clone(),
+                desk.waiting.clone(),
+            );
             let call = match step {
                 Step::Announce(id, size) => Call::Announce { id, size },
                 Step::Part(bytes) => Call::Part(bytes),

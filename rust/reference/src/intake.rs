@@ -276,17 +276,22 @@ impl Numbers {
     }
 
     /// Whether calls could have left the pairs that wait. They are announced anew, to
-    /// an opened shard with buffers of these lengths, and all bytes are handed over
-    /// but those that are owed: no call refuses that, the second buffer is then as it
-    /// is here, and as many bytes came to the same minishard. What was written before
-    /// is not judged.
+    /// a shard with no chunk and buffers of these lengths, and all bytes are handed
+    /// over but those that are owed: no call refuses that, the second buffer is then
+    /// as it is here, and as many bytes came to the same minishard. What was written
+    /// before is not judged.
     fn announced_anew(&self, waiting: &[u8]) -> bool {
-        let (sharding, number) = (self.sharding(), self.0[SHARD]);
         let mut out = vec![0; self.0[OUTPUT] as usize];
         let mut anew = vec![0; waiting.len()];
         let held = &waiting[..PAIR * self.0[COUNT] as usize];
+        let mut intake = Intake {
+            sharding: self.sharding(),
+            number: self.0[SHARD],
+            lengths: [out.len(), anew.len()],
+            chunks: Vec::new(),
+            closed: false,
+        };
         let mut again = || {
-            let mut intake = Intake::open(sharding, number, &mut out, &anew)?;
             for pair in held.chunks(PAIR) {
                 let rest = vec![0; intake.owed() as usize];
                 intake.part(&rest, &mut out, &anew)?;
@@ -294,13 +299,12 @@ impl Numbers {
                 intake.announce(id, size, &mut out, &mut anew)?;
             }
             let rest = intake.owed().checked_sub(self.0[OWED]).ok_or(26)?;
-            intake.part(&vec![0; rest as usize], &mut out, &anew)?;
-            Ok::<Intake, u8>(intake)
+            intake.part(&vec![0; rest as usize], &mut out, &anew)
         };
-        let Ok(intake) = again() else {
+        if again().is_err() {
             return false;
-        };
-        let came = intake.place() as u64 - sharding.index_end();
+        }
+        let came = intake.place() as u64 - intake.sharding.index_end();
         let minishard = intake.chunks.last().map(|last| intake.minishard(last));
         anew.starts_with(held)
             && minishard.is_none_or(|minishard| minishard == self.0[MINISHARD])
@@ -551,10 +555,7 @@ mod tests {
         let (mut out, mut waiting) = ([0; 200], [0; 80]);
         waiting[64] = 4;
         assert!(!numbers.contradict(&waiting));
-        assert_eq!(
-            numbers.call(Call::Close, &mut out, &mut waiting),
-            Err(25)
-        );
+        assert_eq!(numbers.call(Call::Close, &mut out, &mut waiting), Err(25));
         assert_eq!(out, [0; 200]);
     }
 
