@@ -534,7 +534,7 @@ mod tests {
         ];
         for (pairs, could) in cases {
             let numbers = Numbers([0, 0, 1, 0, 0, 0, 200, 64, 0, 3, 8, 0, 6, 0, 0]);
-            let mut waiting = bytes_of(pairs.into_iter());
+            let mut waiting = bytes_of(pairs);
             waiting.resize(64, 7);
             let answer = |call: Call| {
                 let mut out = [0; 200];
