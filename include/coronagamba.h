@@ -58,7 +58,8 @@
  * off: the fields of a specification, the wish to drop unlisted bytes and the
  * width of labels are wider here than what they may be. Extents, cells, voxels,
  * channels, levels, nodes and a manifest's fields have the format's 32 bits. A
- * wider number is cut to them by C, before any call, so look at it first.
+ * wider number is cut to them by C, before any call, so look at it first. A wish
+ * other than 1 is not refused: it does not ask to drop.
  *
  * Meshes. In a shard of the kind mesh each chunk is a manifest, and the bytes
  * right before it are its fragments. 15 to 17 and 21 are tested of such shards
@@ -418,7 +419,7 @@ uint64_t coronagamba_cell_of(coronagamba_volume volume, uint64_t key,
 uint64_t coronagamba_bounds_of(coronagamba_volume volume, coronagamba_cell cell,
                                int64_t begin[3], int64_t end[3]);
 
-/* ---- Ids and shards ------------------------------------------------------ */
+/* ---- The shard and the minishard of ids ---------------------------------- */
 
 /* A sharding specification, its numbers as in a card: hash 0 is identity, 1
  * is murmur; kind 0 is volume, 1 is mesh. Any numbers; each call judges
@@ -446,7 +447,7 @@ uint64_t coronagamba_places_of(coronagamba_sharding sharding,
                                uint64_t *minishards, size_t minishards_count,
                                uint64_t *length);
 
-/* ---- File names ---------------------------------------------------------- */
+/* ---- The file names of chunks and shards --------------------------------- */
 
 /* The file name of a cell's chunk where chunks are not sharded. Writes its
  * ASCII bytes, at most 71 and with no 0 byte behind them, to the front of

@@ -1,4 +1,4 @@
-// Rows of labels in the raw form.
+// Writing a row of voxels in the raw form, block by block.
 
 ghost use mathlib.Core.Path.{_≡_};
 ghost use mathlib.Core.Bool.{false};

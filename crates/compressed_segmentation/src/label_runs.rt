@@ -1,4 +1,4 @@
-// Runs of labels in the raw form.
+// Writing a run of labels in the raw form: the part of a row that lies in one block.
 
 ghost use mathlib.Core.Path.{_≡_};
 ghost use Prim.Native.Nat.{_+_, _*_, _/_, _<_, _≤_, _^_};

@@ -1,4 +1,4 @@
-// Ids and shards.
+// The shard and the minishard of ids.
 
 ghost use mathlib.Core.Path.{_≡_};
 ghost use Rattle.sharding.specs.placement.Place.{placeAnswer};

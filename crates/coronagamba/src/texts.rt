@@ -1,4 +1,4 @@
-// File names.
+// The file names of chunks and shards.
 
 ghost use mathlib.Core.Path.{_≡_};
 ghost use Rattle.names.specs.chunks.Chunks.{chunkNameAnswer, chunkNameLeft};

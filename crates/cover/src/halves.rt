@@ -1,3 +1,4 @@
+// A box of cells, and its halves at a key bit.
 // A box of cells is given by the keys of its first and its last cell, and an axis by its key bits: a key is then compared along each
 // axis as it stands, without its cell. A key bit halves what the higher bits leave of the grid, and the box where it has cells in both.
 

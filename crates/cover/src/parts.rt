@@ -1,4 +1,4 @@
-// How many cells of a grid are marked, and whether as many keys fit.
+// How many cells of a grid are marked, that is, share a voxel with the box, and whether as many keys fit.
 
 ghost use mathlib.Core.Path.{_≡_};
 ghost use Prim.Native.Nat.{_-_, _*_, _^_, _<_};

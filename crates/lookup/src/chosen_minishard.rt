@@ -1,4 +1,4 @@
-// The lookup in a shard of two parts.
+// The lookup in a shard of two parts: the id's minishard is judged, then searched.
 
 ghost use mathlib.Core.Path.{_≡_};
 ghost use mathlib.Core.Bool.{true};

@@ -18,7 +18,7 @@ pub record Together (spec : Sharding) (id other : ℕ) : Type 0 where
 
 -- what holds of what `fill_table` answered and left for `id`, where `answer` is how a lookup answers an id from the same bytes. It is proved of the third call of a
 -- lookup by ranges, whatever slices are handed in, and of the plain lookup on a file f of that length, whose bytes at the ranges are `entry` and
--- `rows` (`Handed` of lookupranges/specs/Ranges.antt): proofs/Agreement.antt, `once-as-ranges` and `once-as-lookup`
+-- `rows` (`Handed` of crates/lookup/specs/ranges/Ranges.antt): proofs/Agreement.antt, `once-as-ranges` and `once-as-lookup`
 pub record Once (answer : ℕ → LookupAnswer) (spec : Sharding) (shard id len : ℕ) (entry rows out : List ℕ) : Type 0 where
   -- filled with n entries: those are searched, by rising id
   pub whole : (n : ℕ) → fillAnswer spec shard id len entry rows out ≡ Filled n

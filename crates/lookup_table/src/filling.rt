@@ -1,4 +1,4 @@
-// The parts of the call.
+// Filling a table: a minishard index judged, its entries written and sorted.
 
 ghost use mathlib.Core.Path.{_≡_};
 ghost use Prim.Native.Nat.{_*_, _/_, _≤_};

@@ -1,4 +1,4 @@
-// The manifest of a multi-resolution mesh: what a sound one is, with laws; the tests of its length and of an item's kind.
+// Test 15 of a manifest, its length; which of its items are reals.
 
 ghost use mathlib.Core.Path.{_≡_};
 ghost use Prim.Native.Nat.{_≤_};

@@ -1,4 +1,4 @@
-// The tests 16 and 17.
+// Tests 16 and 17 of a manifest: its reals, the order of its nodes.
 
 ghost use mathlib.Core.Path.{_≡_};
 ghost use Prim.Native.Nat.{_+_, _*_, _≤_, _<_};

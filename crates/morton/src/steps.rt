@@ -1,4 +1,4 @@
-// What other crates ask of the keys of a grid that they have tested.
+// Keys by the published steps, a turn for each bit, of a grid that the caller has tested: key bits, key, cell.
 
 ghost use mathlib.Core.Path.{_≡_};
 ghost use mathlib.Core.Bool.{false};

@@ -1,4 +1,4 @@
-// Writing the names of shard files.
+// A shard file's name at a place of a buffer: digits and suffix.
 
 ghost use mathlib.Core.Path.{_≡_};
 ghost use Prim.Native.Nat.{_+_, _≤_};

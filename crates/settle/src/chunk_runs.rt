@@ -1,4 +1,4 @@
-// What a minishard that may be written as it stands is written with: its chunks in a run, the row of start steps.
+// The chunks of a minishard copied in stored order, and its row of start steps.
 
 ghost use mathlib.Core.Path.{_≡_};
 ghost use mathlib.Core.List.{_++_};

@@ -1,4 +1,4 @@
-// One minishard of a settled form: what its writers take and make, and its length.
+// The length of one minishard of a settled form, up to the first length that is refused.
 
 ghost use mathlib.Core.Path.{_≡_};
 ghost use Prim.Native.Nat.{_+_, _*_, _≤_};

@@ -1,4 +1,4 @@
--- What a reader believes of an unpacked chunk; `proofs/Laws` ties it to the definitions of `Raw`.
+-- What a reader believes of an unpacked chunk; `proofs/unpacking/Laws` ties it to the definitions of `Raw`.
 use Prim.Native.Nat.{ℕ, _+_, _*_}
 use mathlib.Core.Path.{_≡_}
 use mathlib.Core.Bool.{false}

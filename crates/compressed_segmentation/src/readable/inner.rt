@@ -1,4 +1,4 @@
-// What other crates ask of a chunk whose extents they have tested.
+// What refuses a whole chunk whose extents were tested.
 
 ghost use mathlib.Core.Path.{_≡_};
 ghost use mathlib.Core.Bool.{false};

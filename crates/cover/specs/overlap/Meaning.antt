@@ -1,4 +1,4 @@
--- What a reader believes of the list of keys, said with voxels; `proofs/Laws` ties it to the definitions of `Cover`.
+-- What a reader believes of the list of keys, said with voxels; `proofs/overlap/Laws` ties it to the definitions of `Cover`.
 use Prim.Native.Nat.{ℕ, suc, _≤_}
 use mathlib.Core.Path.{_≡_}
 use mathlib.Core.Bool.{Bool, true, _||_}

@@ -1,4 +1,4 @@
-// The marked cells of a grid: the first and the last of them, if any.
+// The marked cells of a grid, those that share a voxel with the box: the first and the last of them, if any.
 
 ghost use mathlib.Core.Path.{_≡_};
 ghost use mathlib.Core.Bool.{false};

@@ -1,4 +1,4 @@
--- The promises of specs/Ranges.antt.
+-- The promises of specs/ranges/Ranges.antt.
 use Prim.Native.Nat.{ℕ, zero, suc, _+_, _*_, _%_, _≤_, _<_}
 use mathlib.Core.Path.{_≡_, refl, sym, _∙_}
 use mathlib.Core.Bool.{Bool, true, false, or-true, not, _||_}

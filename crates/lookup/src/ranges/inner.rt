@@ -1,4 +1,4 @@
-// The parts of the three calls.
+// What the calls by ranges share: 1, 5, 6 and 31, what an index entry says, what a minishard index says.
 
 ghost use mathlib.Core.Path.{_≡_};
 ghost use mathlib.Core.Bool.{false};

@@ -1,4 +1,4 @@
-// The grid of a volume.
+// The grid of a volume, or 2.
 
 ghost use mathlib.Core.Path.{_≡_};
 ghost use Rattle.morton.specs.grid.Answers.{gridAnswer};
