@@ -4,6 +4,7 @@ use mathlib.Core.Bool.{not}
 use mathlib.Core.List.{List, [], _∷_, _++_}
 use lib.ListN.{length}
 use Rattle.refusal.specs.Checks.{Check, check, firstNumber, answered, left}
+use Rattle.refusal.specs.Result.{Result, success, refused}
 use Rattle.refusal.specs.Buffer.{room, over}
 use Rattle.refusal.specs.declared.Written.{Written}
 use Rattle.refusal.specs.declared.Written.the-variants.{Length, Refused as WriteRefused}
@@ -35,6 +36,10 @@ readChecks s = check 14 (not (wellFormed s)) ∷ recordChecks (cardIn s)
 
 unfoldable pub readAnswer : List ℕ → CardAnswer
 readAnswer s = answered Refused (readChecks s) (Says (cardIn s))
+
+abbrev pub cardResult : CardAnswer → Result Card
+cardResult (Says card) = success card
+cardResult (Refused k) = refused k
 
 -- writing: 1, 2, 3, then 13 (RULES C4)
 unfoldable pub writeChecks : Card → List ℕ → List Check

@@ -5,6 +5,7 @@ use mathlib.Core.List.{List, [], _∷_}
 use lib.Dec.{eqb}
 use Rattle.refusal.specs.Choice.{pick}
 use Rattle.refusal.specs.Checks.{Check, check, answered}
+use Rattle.refusal.specs.Result.{Result, success, refused}
 use Rattle.endian.specs.Little.{leAt}
 use Rattle.compressed_segmentation.specs.declared.Shape.{Shape}
 use Rattle.compressed_segmentation.specs.declared.LabelAnswer.{LabelAnswer}
@@ -67,3 +68,7 @@ labelChecks s sh x y z c =
 unfoldable pub labelAnswer : List ℕ → Shape → ℕ → ℕ → ℕ → ℕ → LabelAnswer
 labelAnswer s sh x y z c =
     answered Refused (labelChecks s sh x y z c) (Label (labelAt s (labelWords (sh .wide)) c (blockNumber sh x y z) (placeNumber sh x y z)))
+
+abbrev pub labelResult : LabelAnswer → Result ℕ
+labelResult (Label label) = success label
+labelResult (Refused k) = refused k

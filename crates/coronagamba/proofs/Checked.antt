@@ -17,14 +17,10 @@ use Rattle.lookup.specs.declared.id_search.LookupAnswer.{LookupAnswer}
 use Rattle.lookup.specs.declared.id_search.LookupAnswer.the-variants as L
 use Rattle.lookup.specs.Find.{lookupAnswer}
 use Rattle.lookup.specs.fragments.Fragment.{fragmentAnswer}
-use Rattle.lookup.specs.declared.listings.CountAnswer.{CountAnswer}
-use Rattle.lookup.specs.declared.listings.CountAnswer.the-variants as N
+use Rattle.refusal.specs.declared.CountAnswer.{CountAnswer}
+use Rattle.refusal.specs.declared.CountAnswer.the-variants as N
 use Rattle.lookup.specs.listings.Listing.{countAnswer, listingAnswer}
-use Rattle.unlisted.specs.declared.UnlistedAnswer.{UnlistedAnswer}
-use Rattle.unlisted.specs.declared.UnlistedAnswer.the-variants as U
 use Rattle.unlisted.specs.Answers.{unlistedAnswer}
-use Rattle.settle.specs.declared.answers.SettleAnswer.{SettleAnswer}
-use Rattle.settle.specs.declared.answers.SettleAnswer.the-variants as S
 use Rattle.settle.specs.answers.Answers.{lengthAnswer, settleAnswer}
 use Rattle.positions.specs.Points.{PointsAt}
 use Rattle.positions.proofs.Points.{check-points, lookup-points, fragment-points, count-points, listing-points, unlisted-named, length-named, settle-named}
@@ -55,13 +51,13 @@ module _ (spec : Sharding) (shard : ℕ) (file : List ℕ) where
   pub listing-fits : (m : ℕ) (out : List ℕ) {a : CountAnswer} {k p : ℕ} → a ≡ listingAnswer spec shard file m out → a ≡ N.Faulty k p → p + 1 < 4294967296
   listing-fits m out {a} {k} {p} e h = fits m k p (listing-points spec shard file m out k p (sym e ∙ h))
 
-  pub unlisted-fits : {a : UnlistedAnswer} {k p : ℕ} → a ≡ unlistedAnswer spec shard file → a ≡ U.Faulty k p → p + 1 < 4294967296
+  pub unlisted-fits : {a : CountAnswer} {k p : ℕ} → a ≡ unlistedAnswer spec shard file → a ≡ N.Faulty k p → p + 1 < 4294967296
   unlisted-fits {a} {k} {p} e h = let t = unlisted-named spec shard file k p (sym e ∙ h) in fits (t .minishard) k p (t .points)
 
-  pub length-fits : (dropping : Bool) {a : SettleAnswer} {k p : ℕ} → a ≡ lengthAnswer spec shard file dropping → a ≡ S.Faulty k p → p + 1 < 4294967296
+  pub length-fits : (dropping : Bool) {a : CountAnswer} {k p : ℕ} → a ≡ lengthAnswer spec shard file dropping → a ≡ N.Faulty k p → p + 1 < 4294967296
   length-fits dropping {a} {k} {p} e h = let t = length-named spec shard file k p dropping (sym e ∙ h) in fits (t .minishard) k p (t .points)
 
-  pub settle-fits : (dropping : Bool) (out : List ℕ) {a : SettleAnswer} {k p : ℕ} → a ≡ settleAnswer spec shard file dropping out → a ≡ S.Faulty k p → p + 1 < 4294967296
+  pub settle-fits : (dropping : Bool) (out : List ℕ) {a : CountAnswer} {k p : ℕ} → a ≡ settleAnswer spec shard file dropping out → a ≡ N.Faulty k p → p + 1 < 4294967296
   settle-fits dropping out {a} {k} {p} e h = let t = settle-named spec shard file dropping out k p (sym e ∙ h) in fits (t .minishard) k p (t .points)
 
 pub ruleset fitting = (minishard-fits, check-fits, lookup-fits, fragment-fits, count-fits, listing-fits, unlisted-fits, length-fits, settle-fits, needs)

@@ -7,15 +7,16 @@ use borrow.Author.Needs.{needs}
 use Rattle.refusal.specs.Checks.{answered}
 use Rattle.refusal.specs.declared.Written.{Written}
 use Rattle.refusal.specs.declared.Written.the-variants.{Refused}
+use Rattle.refusal.specs.Result.{writtenResult}
 use Rattle.refusal.proofs.Picks.{by-picks}
 use Rattle.compressed_segmentation.specs.declared.Shape.{Shape}
 use Rattle.compressed_segmentation.specs.declared.LabelAnswer.{LabelAnswer}
 use Rattle.compressed_segmentation.specs.declared.LabelAnswer.the-variants.{Label, Refused as Unlabelled}
-use Rattle.compressed_segmentation.specs.Labels.{labelAnswer}
+use Rattle.compressed_segmentation.specs.Labels.{labelAnswer, labelResult}
 use Rattle.compressed_segmentation.specs.raw_form.Raw.{lengthAnswer, unpackAnswer, unpackLeft}
-use Rattle.coronagamba.specs.word.Word.{writtenWord, lengthAfter}
-use Rattle.coronagamba.specs.Labels.{noWidth, widthChecks, labelBy, writtenBy, labelsLeftBy, labelWord, labelAfter}
-use Rattle.coronagamba.proofs.Told.{told, after, given, left}
+use Rattle.coronagamba.specs.word.Word.{wordOf, lengthAfter}
+use Rattle.coronagamba.specs.Labels.{noWidth, widthChecks, labelBy, writtenBy, labelsLeftBy, labelAfter}
+use Rattle.coronagamba.proofs.Told.{word-success, word-refused, word-same, after, left}
 
 -- ---- by the label width, w telling whether it is none
 
@@ -28,16 +29,18 @@ module _ (bits : ℕ) {w : Bool} (p : w ≡ noWidth bits) where
     by-width h = sym (by-picks r (widthChecks bits) a refl ∙ rw (sym p ∙ h))
 
   module _ (h : w ≡ true) where
-    pub label-none : (a : LabelAnswer) → 2 ≡ labelWord (labelBy bits a)
-    label-none a = ap labelWord (by-none Unlabelled a h)
+    pub label-none : (a : LabelAnswer) → 2 ≡ wordOf (labelResult (labelBy bits a))
+    label-none a = word-refused labelResult (by-none Unlabelled a h) refl refl
 
     pub label-none-kept : (a : LabelAnswer) (n : ℕ) → n ≡ labelAfter (labelBy bits a) n
+    unfolding labelAfter
     label-none-kept a n = ap (λ (b : LabelAnswer). labelAfter b n) (by-none Unlabelled a h)
 
-    pub written-none : (a : Written) → 2 ≡ writtenWord (writtenBy bits a)
-    written-none a = ap writtenWord (by-none Refused a h)
+    pub written-none : (a : Written) → 2 ≡ wordOf (writtenResult (writtenBy bits a))
+    written-none a = word-refused writtenResult (by-none Refused a h) refl refl
 
     pub written-none-kept : (a : Written) (m : ℕ) → m ≡ lengthAfter (writtenBy bits a) m
+    unfolding lengthAfter
     written-none-kept a m = ap (λ (b : Written). lengthAfter b m) (by-none Refused a h)
 
     pub none-left : (out d : List ℕ) → d ≡ labelsLeftBy bits out d
@@ -48,24 +51,26 @@ module _ (bits : ℕ) {w : Bool} (p : w ≡ noWidth bits) where
       asked : b ≡ labelBy bits (labelAnswer s t x y z c)
       asked = e ∙ ap (λ (r : Shape). labelAnswer s r x y z c) q ∙ by-width Unlabelled (labelAnswer s t x y z c) h
 
-      pub label-given : {v : ℕ} → b ≡ Label v → 0 ≡ labelWord (labelBy bits (labelAnswer s t x y z c))
-      label-given i = told labelWord asked i
+      pub label-given : {v : ℕ} → b ≡ Label v → 0 ≡ wordOf (labelResult (labelBy bits (labelAnswer s t x y z c)))
+      label-given i = word-success labelResult asked i refl
 
-      pub label-refused : {k : ℕ} → b ≡ Unlabelled k → k ≡ labelWord (labelBy bits (labelAnswer s t x y z c))
-      label-refused i = told labelWord asked i
+      pub label-refused : {k : ℕ} → b ≡ Unlabelled k → k ≡ wordOf (labelResult (labelBy bits (labelAnswer s t x y z c)))
+      label-refused i = word-refused labelResult asked i refl
 
       pub label-held : (n : ℕ) {v : ℕ} → b ≡ Label v → v ≡ labelAfter (labelBy bits (labelAnswer s t x y z c)) n
+      unfolding labelAfter
       label-held n i = after labelAfter n asked i
 
       pub label-kept : (n : ℕ) {k : ℕ} → b ≡ Unlabelled k → n ≡ labelAfter (labelBy bits (labelAnswer s t x y z c)) n
+      unfolding labelAfter
       label-kept n i = after labelAfter n asked i
 
     module _ {b : Written} (e : b ≡ lengthAnswer sh) where
       counted : b ≡ writtenBy bits (lengthAnswer t)
       counted = e ∙ ap lengthAnswer q ∙ by-width Refused (lengthAnswer t) h
 
-      pub bytes-word : {r : ℕ} → r ≡ writtenWord b → r ≡ writtenWord (writtenBy bits (lengthAnswer t))
-      bytes-word i = given writtenWord i counted
+      pub bytes-word : {r : ℕ} → r ≡ wordOf (writtenResult b) → r ≡ wordOf (writtenResult (writtenBy bits (lengthAnswer t)))
+      bytes-word i = word-same writtenResult i counted
 
       pub bytes-length : (m : ℕ) {n : ℕ} → n ≡ lengthAfter b m → n ≡ lengthAfter (writtenBy bits (lengthAnswer t)) m
       bytes-length m i = left lengthAfter m i counted
@@ -78,8 +83,8 @@ module _ (bits : ℕ) {w : Bool} (p : w ≡ noWidth bits) where
         unpacked : b ≡ writtenBy bits (unpackAnswer s t d)
         unpacked = e ∙ ap (λ (r : Shape). unpackAnswer s r d) q ∙ by-width Refused (unpackAnswer s t d) h
 
-        pub unpack-word : {r : ℕ} → r ≡ writtenWord b → r ≡ writtenWord (writtenBy bits (unpackAnswer s t d))
-        unpack-word i = given writtenWord i unpacked
+        pub unpack-word : {r : ℕ} → r ≡ wordOf (writtenResult b) → r ≡ wordOf (writtenResult (writtenBy bits (unpackAnswer s t d)))
+        unpack-word i = word-same writtenResult i unpacked
 
         pub unpack-length : (m : ℕ) {n : ℕ} → n ≡ lengthAfter b m → n ≡ lengthAfter (writtenBy bits (unpackAnswer s t d)) m
         unpack-length m i = left lengthAfter m i unpacked

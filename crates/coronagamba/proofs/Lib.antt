@@ -2,6 +2,7 @@ pub mod Checked
 pub mod Paired
 pub mod Patterned
 pub mod Told
+pub mod Given
 pub mod Specified
 pub mod Writing
 pub mod Answered

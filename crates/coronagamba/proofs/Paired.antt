@@ -1,7 +1,7 @@
 -- What comes with a refusal of a pair has room in the answer word, as with one of the joined file; and what the match on the answer to a range
 -- tells.
 use Prim.Native.Nat.{ℕ, zero, suc, _+_, _<_}
-use mathlib.Core.Path.{_≡_, refl, sym, _∙_}
+use mathlib.Core.Path.{_≡_, refl, sym, ap, _∙_}
 use mathlib.Core.Bool.{Bool}
 use mathlib.Core.List.{List, _++_}
 use native.Mathlib.Omega.{arith}
@@ -14,20 +14,17 @@ use Rattle.shard.specs.declared.CheckAnswer.the-variants as C
 use Rattle.shard.specs.File.{checkAnswer}
 use Rattle.lookup.specs.declared.id_search.LookupAnswer.{LookupAnswer}
 use Rattle.lookup.specs.declared.id_search.LookupAnswer.the-variants as L
-use Rattle.lookup.specs.declared.listings.CountAnswer.{CountAnswer}
-use Rattle.lookup.specs.declared.listings.CountAnswer.the-variants as N
-use Rattle.unlisted.specs.declared.UnlistedAnswer.{UnlistedAnswer}
-use Rattle.unlisted.specs.declared.UnlistedAnswer.the-variants as U
-use Rattle.settle.specs.declared.answers.SettleAnswer.{SettleAnswer}
-use Rattle.settle.specs.declared.answers.SettleAnswer.the-variants as S
+use Rattle.refusal.specs.declared.CountAnswer.{CountAnswer}
+use Rattle.refusal.specs.declared.CountAnswer.the-variants as N
 use Rattle.split_shard.specs.declared.held_range.RangeAnswer.{RangeAnswer}
 use Rattle.split_shard.specs.declared.held_range.RangeAnswer.the-variants as R
 use Rattle.split_shard.specs.seam.Pair.{pairChecks}
-use Rattle.split_shard.specs.seam.Range.{rangeAnswer}
+use Rattle.split_shard.specs.seam.Range.{rangeAnswer, rangeResult}
 use Rattle.split_shard.specs.Answers.{otherShard, pairCheck, pairLookup, pairFragment}
 use Rattle.split_shard.specs.form.Answers.{noMinishard, pairCount, pairListing, pairUnlisted, pairLength, pairSettle}
-use Rattle.coronagamba.specs.Pairs.{rangeWord, fileAfter, placeAfter, rangeAfter}
-use Rattle.coronagamba.proofs.Told.{told, after}
+use Rattle.coronagamba.specs.word.Word.{wordOf}
+use Rattle.coronagamba.specs.Pairs.{fileAfter, placeAfter, rangeAfter}
+use Rattle.coronagamba.proofs.Told.{word-success, word-refused, after}
 use Rattle.coronagamba.proofs.Checked.{minishard-fits, check-fits, lookup-fits, fragment-fits, count-fits, listing-fits, unlisted-fits, length-fits, settle-fits}
 
 -- what is no refusal by 1, 5 or 23 is the joined file's answer
@@ -75,23 +72,23 @@ module _ (spec : Sharding) (shard : ℕ) (index d : List ℕ) where
         listing-fits spec shard (index ++ d) m out refl
         (joined (first (noMinishard spec shard m)) N.Refused (λ j q. let z : _≡_ {A = ℕ} 0 1 = cc in omega arith) (sym e ∙ h))
 
-  pub pair-unlisted-fits : {a : UnlistedAnswer} {k p : ℕ} → a ≡ pairUnlisted spec shard index d → a ≡ U.Faulty k p → p + 1 < 4294967296
+  pub pair-unlisted-fits : {a : CountAnswer} {k p : ℕ} → a ≡ pairUnlisted spec shard index d → a ≡ N.Faulty k p → p + 1 < 4294967296
   unfolding pairUnlisted first
   pair-unlisted-fits e h =
-      unlisted-fits spec shard (index ++ d) refl (joined (first (noSuchShard spec shard)) U.Refused (λ j q. let z : _≡_ {A = ℕ} 0 1 = cc in omega arith) (sym e ∙ h))
+      unlisted-fits spec shard (index ++ d) refl (joined (first (noSuchShard spec shard)) N.Refused (λ j q. let z : _≡_ {A = ℕ} 0 1 = cc in omega arith) (sym e ∙ h))
 
-  module _ (dropping : Bool) {a : SettleAnswer} {k p : ℕ} where
-    pub pair-length-fits : a ≡ pairLength spec shard index d dropping → a ≡ S.Faulty k p → p + 1 < 4294967296
+  module _ (dropping : Bool) {a : CountAnswer} {k p : ℕ} where
+    pub pair-length-fits : a ≡ pairLength spec shard index d dropping → a ≡ N.Faulty k p → p + 1 < 4294967296
     unfolding pairLength first
     pair-length-fits e h =
         length-fits spec shard (index ++ d) dropping refl
-        (joined (first (noSuchShard spec shard)) S.Refused (λ j q. let z : _≡_ {A = ℕ} 0 1 = cc in omega arith) (sym e ∙ h))
+        (joined (first (noSuchShard spec shard)) N.Refused (λ j q. let z : _≡_ {A = ℕ} 0 1 = cc in omega arith) (sym e ∙ h))
 
-    pub pair-settle-fits : (out : List ℕ) → a ≡ pairSettle spec shard index d dropping out → a ≡ S.Faulty k p → p + 1 < 4294967296
+    pub pair-settle-fits : (out : List ℕ) → a ≡ pairSettle spec shard index d dropping out → a ≡ N.Faulty k p → p + 1 < 4294967296
     unfolding pairSettle first
     pair-settle-fits out e h =
         settle-fits spec shard (index ++ d) dropping out refl
-        (joined (first (noSuchShard spec shard)) S.Refused (λ j q. let z : _≡_ {A = ℕ} 0 1 = cc in omega arith) (sym e ∙ h))
+        (joined (first (noSuchShard spec shard)) N.Refused (λ j q. let z : _≡_ {A = ℕ} 0 1 = cc in omega arith) (sym e ∙ h))
 
 pub ruleset fitting = (pair-minishard-fits, pair-check-fits, pair-lookup-fits, pair-fragment-fits, pair-count-fits, pair-listing-fits, pair-unlisted-fits, pair-length-fits, pair-settle-fits, needs)
 
@@ -99,46 +96,55 @@ pub ruleset fitting = (pair-minishard-fits, pair-check-fits, pair-lookup-fits, p
 
 -- of the specification that the caller's numbers are
 pub of-range : (index d : List ℕ) (start end : ℕ) {s t : Sharding} {b : RangeAnswer} → s ≡ t → b ≡ rangeAnswer s index d start end → b ≡ rangeAnswer t index d start end
-of-range index d start end q e = cc
+of-range index d start end q e = e ∙ ap (λ (u : Sharding). rangeAnswer u index d start end) q
 
 module _ {a b : RangeAnswer} (e : b ≡ a) where
   module _ {s n : ℕ} (h : b ≡ R.InIndex s n) where
-    pub index-word : 0 ≡ rangeWord a
-    index-word = told rangeWord e h
+    pub index-word : 0 ≡ wordOf (rangeResult a)
+    index-word = word-success rangeResult e h refl
 
     pub index-file : (x : ℕ) → 0 ≡ fileAfter a x
+    unfolding fileAfter
     index-file x = after fileAfter x e h
 
     pub index-place : (x : ℕ) → s ≡ placeAfter a x
+    unfolding placeAfter
     index-place x = after placeAfter x e h
 
     pub index-bytes : (x : ℕ) → n ≡ rangeAfter a x
+    unfolding rangeAfter
     index-bytes x = after rangeAfter x e h
 
   module _ {s n : ℕ} (h : b ≡ R.InData s n) where
-    pub data-word : 0 ≡ rangeWord a
-    data-word = told rangeWord e h
+    pub data-word : 0 ≡ wordOf (rangeResult a)
+    data-word = word-success rangeResult e h refl
 
     pub data-file : (x : ℕ) → 1 ≡ fileAfter a x
+    unfolding fileAfter
     data-file x = after fileAfter x e h
 
     pub data-place : (x : ℕ) → s ≡ placeAfter a x
+    unfolding placeAfter
     data-place x = after placeAfter x e h
 
     pub data-bytes : (x : ℕ) → n ≡ rangeAfter a x
+    unfolding rangeAfter
     data-bytes x = after rangeAfter x e h
 
   module _ {k : ℕ} (h : b ≡ R.Refused k) where
-    pub refused-word : k ≡ rangeWord a
-    refused-word = told rangeWord e h
+    pub refused-word : k ≡ wordOf (rangeResult a)
+    refused-word = word-refused rangeResult e h refl
 
     pub refused-file : (x : ℕ) → x ≡ fileAfter a x
+    unfolding fileAfter
     refused-file x = after fileAfter x e h
 
     pub refused-place : (x : ℕ) → x ≡ placeAfter a x
+    unfolding placeAfter
     refused-place x = after placeAfter x e h
 
     pub refused-bytes : (x : ℕ) → x ≡ rangeAfter a x
+    unfolding rangeAfter
     refused-bytes x = after rangeAfter x e h
 
 pub ruleset ranging = (of-range, index-word, index-file, index-place, index-bytes, data-word, data-file, data-place, data-bytes, refused-word, refused-file, refused-place, refused-bytes, needs)

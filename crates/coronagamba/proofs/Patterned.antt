@@ -51,7 +51,7 @@ module _ (s : List ℕ) {a : HeaderAnswer} {h : Header} (e : a ≡ headerAnswer 
 module _ (s : List ℕ) (sound : manifestVerdict s ≡ 0) (bytes : (i : ℕ) → getD s i 0 < 256) where
   -- the header writes the first six items,
   pub header-items : (before : List ℕ) → headerAfter (headerAnswer s) before ≡ manifestItem s 0 ∷ manifestItem s 1 ∷ manifestItem s 2 ∷ manifestItem s 3 ∷ manifestItem s 4 ∷ manifestItem s 5 ∷ []
-  unfolding headerAt isReal
+  unfolding headerAt isReal headerAfter
   header-items before =
       ap (λ (a : HeaderAnswer). headerAfter a before) (sym (header-given s (sym sound) refl refl))
       ∙ rw (item 0 (omega arith), item 1 (omega arith), item 2 (omega arith), item 3 (omega arith), item 4 (omega arith), item 5 (omega arith))
@@ -61,7 +61,7 @@ module _ (s : List ℕ) (sound : manifestVerdict s ≡ 0) (bytes : (i : ℕ) →
 
   -- and a field the item of its number
   pub field-item : (i before : ℕ) → i < fieldCount s → valueAfter (fieldAnswer s i) before ≡ manifestItem s i
-  unfolding fieldAt
+  unfolding fieldAt valueAfter
   field-item i before h =
       ap (λ a. valueAfter a before) (sym (field-given s (sym sound) i refl refl (omega (arith, sound-ends s sound))))
       ∙ value (isReal (levelsOf s) i) refl

@@ -1,4 +1,4 @@
--- Labels across the C border: how a chunk's labels are laid out, the answer word, and what the lent label holds afterwards.
+-- Labels across the C border: how a chunk's labels are laid out, and what the lent label holds afterwards.
 use Prim.Native.Nat.{ℕ}
 use mathlib.Core.Bool.{Bool, not, _&&_}
 use mathlib.Core.List.{List, [], _∷_}
@@ -9,7 +9,9 @@ use Rattle.refusal.specs.declared.Written.the-variants as W
 use Rattle.morton.specs.declared.grid.Extents.{Extents}
 use Rattle.compressed_segmentation.specs.declared.Shape.{Shape}
 use Rattle.compressed_segmentation.specs.declared.LabelAnswer.{LabelAnswer}
-use Rattle.compressed_segmentation.specs.declared.LabelAnswer.the-variants.{Label, Refused}
+use Rattle.compressed_segmentation.specs.declared.LabelAnswer.the-variants.{Refused}
+use Rattle.compressed_segmentation.specs.Labels.{labelResult}
+use Rattle.coronagamba.specs.word.Word.{after}
 
 -- "32- or 64-bit labels" (RULES E1): no other number is a label width
 abbrev pub noWidth : ℕ → Bool
@@ -32,10 +34,5 @@ labelsLeftBy bits after before = left (widthChecks bits) after before
 abbrev pub shapeOf : Extents → Extents → ℕ → ℕ → Shape
 shapeOf size block channels bits = record { extents = size; block = block; channels = channels; wide = eqb bits 64 }
 
-abbrev pub labelWord : LabelAnswer → ℕ
-labelWord (Label v) = 0
-labelWord (Refused k) = k
-
-abbrev pub labelAfter : LabelAnswer → ℕ → ℕ
-labelAfter (Label v) before = v
-labelAfter (Refused k) before = before
+unfoldable pub labelAfter : LabelAnswer → ℕ → ℕ
+labelAfter a before = after (λ (label : ℕ). label) (labelResult a) before

@@ -1,16 +1,12 @@
--- The place of an id across the C border: the answer word, and what the two lent numbers hold afterwards.
+-- The place of an id across the C border: what the two lent numbers hold afterwards.
 use Prim.Native.Nat.{ℕ}
+use Rattle.sharding.specs.declared.placement.Place.{Place}
 use Rattle.sharding.specs.declared.placement.PlaceAnswer.{PlaceAnswer}
-use Rattle.sharding.specs.declared.placement.PlaceAnswer.the-variants.{At, Refused}
+use Rattle.sharding.specs.placement.Place.{placeResult}
+use Rattle.coronagamba.specs.word.Word.{after}
 
-abbrev pub placeWord : PlaceAnswer → ℕ
-placeWord (At place) = 0
-placeWord (Refused k) = k
+unfoldable pub shardAfter : PlaceAnswer → ℕ → ℕ
+shardAfter a before = after (λ (place : Place). place .shard) (placeResult a) before
 
-abbrev pub shardAfter : PlaceAnswer → ℕ → ℕ
-shardAfter (At place) before = place .shard
-shardAfter (Refused k) before = before
-
-abbrev pub minishardAfter : PlaceAnswer → ℕ → ℕ
-minishardAfter (At place) before = place .minishard
-minishardAfter (Refused k) before = before
+unfoldable pub minishardAfter : PlaceAnswer → ℕ → ℕ
+minishardAfter a before = after (λ (place : Place). place .minishard) (placeResult a) before

@@ -1,10 +1,11 @@
 // Deposit cards.
 
 ghost use mathlib.Core.Path.{_≡_};
-ghost use Rattle.card.specs.Answers.{readAnswer, writeAnswer, writeLeft};
+ghost use Rattle.card.specs.Answers.{readAnswer, writeAnswer, writeLeft, cardResult};
+ghost use Rattle.refusal.specs.Result.{writtenResult};
 ghost use Rattle.coronagamba.specs.Specification.{givenSharding};
-ghost use Rattle.coronagamba.specs.word.Word.{writtenWord, lengthAfter};
-ghost use Rattle.coronagamba.specs.Cards.{cardWord, shardingAfter, volumeAfter, chunkAfter, offsetAfter};
+ghost use Rattle.coronagamba.specs.word.Word.{lengthAfter, wordOf};
+ghost use Rattle.coronagamba.specs.Cards.{shardingAfter, volumeAfter, chunkAfter, offsetAfter};
 use crate::answers::put_length;
 use crate::numbers::CSharding;
 use crate::numbers::put_card;
@@ -24,7 +25,7 @@ pub extern "C" fn coronagamba_card_read(
     chunk: &mut [u32; 3],
     offset: &mut [i32; 3],
 ) -> u64
-    ensures answer { λ r. ⌜ r ≡ cardWord (readAnswer (now (bytes .entry))) ⌝ }
+    ensures answer { λ r. ⌜ r ≡ wordOf (cardResult (readAnswer (now (bytes .entry)))) ⌝ }
     ensures sharding { λ _. ⌜ now (sharding .exit) ≡ shardingAfter (readAnswer (now (bytes .entry))) (now (sharding .entry)) ⌝ }
     ensures size { λ _. ⌜ now (size .exit) ≡ volumeAfter (readAnswer (now (bytes .entry))) (now (size .entry)) ⌝ }
     ensures chunk { λ _. ⌜ now (chunk .exit) ≡ chunkAfter (readAnswer (now (bytes .entry))) (now (chunk .entry)) ⌝ }
@@ -44,7 +45,7 @@ pub extern "C" fn coronagamba_card_write(
     out: &mut [u8],
     length: &mut u64,
 ) -> u64
-    ensures answer { λ r. ⌜ r ≡ writtenWord (writeAnswer (record { sharding = givenSharding sharding; volume = volume }) (now (out .entry))) ⌝ }
+    ensures answer { λ r. ⌜ r ≡ wordOf (writtenResult (writeAnswer (record { sharding = givenSharding sharding; volume = volume }) (now (out .entry)))) ⌝ }
     ensures out { λ _. ⌜ now (out .exit) ≡ writeLeft (record { sharding = givenSharding sharding; volume = volume }) (now (out .entry)) ⌝ }
     ensures length { λ _. ⌜ now (length .exit) ≡ lengthAfter (writeAnswer (record { sharding = givenSharding sharding; volume = volume }) (now (out .entry))) (now (length .entry)) ⌝ }
 {

@@ -2,14 +2,15 @@
 
 ghost use mathlib.Core.Path.{_≡_};
 ghost use mathlib.Core.List.{[], _∷_};
-ghost use Rattle.morton.specs.grid.Answers.{gridAnswer};
-ghost use Rattle.morton.specs.Answers.{keyAnswer, cellAnswer};
-ghost use Rattle.morton.specs.bounds.Answers.{boundsAnswer};
+ghost use Rattle.morton.specs.grid.Answers.{gridAnswer, gridResult};
+ghost use Rattle.morton.specs.Answers.{keyAnswer, cellAnswer, cellResult, keyResult};
+ghost use Rattle.morton.specs.bounds.Answers.{boundsAnswer, boundsResult};
 ghost use Rattle.morton.specs.batch.Batch.{cellsOf, keysAnswer, keysLeft};
 ghost use Rattle.morton.specs.rows.Row.{rowOf};
 ghost use Rattle.cover.specs.overlap.Cover.{coverAnswer, coverLeft};
-ghost use Rattle.coronagamba.specs.word.Word.{writtenWord, lengthAfter};
-ghost use Rattle.coronagamba.specs.Cells.{gridWord, gridAfter, keyWord, keyAfter, cellWord, cellAfter, boundsWord, beginAfter, endAfter};
+ghost use Rattle.refusal.specs.Result.{writtenResult};
+ghost use Rattle.coronagamba.specs.word.Word.{lengthAfter, wordOf};
+ghost use Rattle.coronagamba.specs.Cells.{gridAfter, keyAfter, cellAfter, beginAfter, endAfter};
 use crate::answers::put_length;
 use morton::CellAnswer;
 use morton::KeyAnswer;
@@ -23,7 +24,7 @@ use morton::grid::Volume;
 // Refusals: 2 where an extent is 0
 #[no_mangle]
 pub extern "C" fn coronagamba_grid_of(volume: Volume, grid: &mut [u32; 3]) -> u64
-    ensures answer { λ r. ⌜ r ≡ gridWord (gridAnswer volume) ⌝ }
+    ensures answer { λ r. ⌜ r ≡ wordOf (gridResult (gridAnswer volume)) ⌝ }
     ensures grid { λ _. ⌜ now (grid .exit) ≡ gridAfter (gridAnswer volume) (now (grid .entry)) ⌝ }
 {
     match morton::grid_of(volume) {
@@ -39,7 +40,7 @@ pub extern "C" fn coronagamba_grid_of(volume: Volume, grid: &mut [u32; 3]) -> u6
 // Refusals: 2, 3
 #[no_mangle]
 pub extern "C" fn coronagamba_key_of(volume: Volume, cell: Cell, key: &mut u64) -> u64
-    ensures answer { λ r. ⌜ r ≡ keyWord (keyAnswer volume cell) ⌝ }
+    ensures answer { λ r. ⌜ r ≡ wordOf (keyResult (keyAnswer volume cell)) ⌝ }
     ensures key { λ _. ⌜ now (key .exit) ≡ keyAfter (keyAnswer volume cell) (now (key .entry)) ⌝ }
 {
     match morton::key_of(volume, cell) {
@@ -63,7 +64,7 @@ pub extern "C" fn coronagamba_keys_of(
     keys: &mut [u64],
     length: &mut u64,
 ) -> u64
-    ensures answer { λ r. ⌜ r ≡ writtenWord (keysAnswer volume (cellsOf (now (cells .entry))) (now (keys .entry))) ⌝ }
+    ensures answer { λ r. ⌜ r ≡ wordOf (writtenResult (keysAnswer volume (cellsOf (now (cells .entry))) (now (keys .entry)))) ⌝ }
     ensures keys { λ _. ⌜ now (keys .exit) ≡ keysLeft volume (cellsOf (now (cells .entry))) (now (keys .entry)) ⌝ }
     ensures length { λ _. ⌜ now (length .exit) ≡ lengthAfter (keysAnswer volume (cellsOf (now (cells .entry))) (now (keys .entry))) (now (length .entry)) ⌝ }
 {
@@ -86,7 +87,7 @@ pub extern "C" fn coronagamba_row_keys(
     keys: &mut [u64],
     length: &mut u64,
 ) -> u64
-    ensures answer { λ r. ⌜ r ≡ writtenWord (keysAnswer volume (rowOf from to y z) (now (keys .entry))) ⌝ }
+    ensures answer { λ r. ⌜ r ≡ wordOf (writtenResult (keysAnswer volume (rowOf from to y z) (now (keys .entry)))) ⌝ }
     ensures keys { λ _. ⌜ now (keys .exit) ≡ keysLeft volume (rowOf from to y z) (now (keys .entry)) ⌝ }
     ensures length { λ _. ⌜ now (length .exit) ≡ lengthAfter (keysAnswer volume (rowOf from to y z) (now (keys .entry))) (now (length .entry)) ⌝ }
 {
@@ -108,7 +109,7 @@ pub extern "C" fn coronagamba_cover(
     keys: &mut [u64],
     length: &mut u64,
 ) -> u64
-    ensures answer { λ r. ⌜ r ≡ writtenWord (coverAnswer volume lower upper (now (keys .entry))) ⌝ }
+    ensures answer { λ r. ⌜ r ≡ wordOf (writtenResult (coverAnswer volume lower upper (now (keys .entry)))) ⌝ }
     ensures keys { λ _. ⌜ now (keys .exit) ≡ coverLeft volume lower upper (now (keys .entry)) ⌝ }
     ensures length { λ _. ⌜ now (length .exit) ≡ lengthAfter (coverAnswer volume lower upper (now (keys .entry))) (now (length .entry)) ⌝ }
 {
@@ -120,7 +121,7 @@ pub extern "C" fn coronagamba_cover(
 // Refusals: 2 where an extent is 0, 3, 4
 #[no_mangle]
 pub extern "C" fn coronagamba_cell_of(volume: Volume, key: u64, cell: &mut [u32; 3]) -> u64
-    ensures answer { λ r. ⌜ r ≡ cellWord (cellAnswer volume key) ⌝ }
+    ensures answer { λ r. ⌜ r ≡ wordOf (cellResult (cellAnswer volume key)) ⌝ }
     ensures cell { λ _. ⌜ now (cell .exit) ≡ cellAfter (cellAnswer volume key) (now (cell .entry)) ⌝ }
 {
     match morton::cell_of(volume, key) {
@@ -148,7 +149,7 @@ pub extern "C" fn coronagamba_bounds_of(
     begin: &mut [i64; 3],
     end: &mut [i64; 3],
 ) -> u64
-    ensures answer { λ r. ⌜ r ≡ boundsWord (boundsAnswer volume cell) ⌝ }
+    ensures answer { λ r. ⌜ r ≡ wordOf (boundsResult (boundsAnswer volume cell)) ⌝ }
     ensures begin { λ _. ⌜ now (begin .exit) ≡ beginAfter (boundsAnswer volume cell) (now (begin .entry)) ⌝ }
     ensures end { λ _. ⌜ now (end .exit) ≡ endAfter (boundsAnswer volume cell) (now (end .entry)) ⌝ }
 {

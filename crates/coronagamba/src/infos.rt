@@ -2,7 +2,9 @@
 
 ghost use mathlib.Core.Path.{_≡_};
 ghost use Rattle.info.specs.Answers.{infoAnswer};
-ghost use Rattle.coronagamba.specs.Cards.{cardWord, shardingAfter, volumeAfter, chunkAfter, offsetAfter};
+ghost use Rattle.card.specs.Answers.{cardResult};
+ghost use Rattle.coronagamba.specs.word.Word.{wordOf};
+ghost use Rattle.coronagamba.specs.Cards.{shardingAfter, volumeAfter, chunkAfter, offsetAfter};
 use crate::numbers::put_card;
 
 // What the text of an info file says of its scale number `scale`, from 0: the numbers that a deposit
@@ -17,7 +19,7 @@ pub extern "C" fn coronagamba_info_read(
     chunk: &mut [u32; 3],
     offset: &mut [i32; 3],
 ) -> u64
-    ensures answer { λ r. ⌜ r ≡ cardWord (infoAnswer (now (text .entry)) scale) ⌝ }
+    ensures answer { λ r. ⌜ r ≡ wordOf (cardResult (infoAnswer (now (text .entry)) scale)) ⌝ }
     ensures sharding { λ _. ⌜ now (sharding .exit) ≡ shardingAfter (infoAnswer (now (text .entry)) scale) (now (sharding .entry)) ⌝ }
     ensures size { λ _. ⌜ now (size .exit) ≡ volumeAfter (infoAnswer (now (text .entry)) scale) (now (size .entry)) ⌝ }
     ensures chunk { λ _. ⌜ now (chunk .exit) ≡ chunkAfter (infoAnswer (now (text .entry)) scale) (now (chunk .entry)) ⌝ }

@@ -1,10 +1,11 @@
 // Intake: a new volume shard, written while its chunks come in parts.
 
 ghost use mathlib.Core.Path.{_≡_};
-ghost use Rattle.intake.specs.Calls.{openAnswer, openLeft, announceAnswer, announceLeft, announceWaiting, partAnswer, partLeft, closeAnswer, closeLeft};
+ghost use Rattle.intake.specs.Calls.{openAnswer, openLeft, announceAnswer, announceLeft, announceWaiting, partAnswer, partLeft, closeAnswer, closeLeft, closeResult, intakeResult};
 ghost use Rattle.intake.specs.numbers.Numbers.{stateOf};
+ghost use Rattle.coronagamba.specs.word.Word.{wordOf};
 ghost use Rattle.coronagamba.specs.Specification.{givenSharding};
-ghost use Rattle.coronagamba.specs.Intakes.{intakeWord, stateAfter, partAfter, closeWord, closedAfter, shardLengthAfter};
+ghost use Rattle.coronagamba.specs.Intakes.{stateAfter, partAfter, closedAfter, shardLengthAfter};
 use crate::numbers::CSharding;
 use crate::numbers::sharding_of;
 use intake::CloseAnswer;
@@ -14,7 +15,7 @@ use intake::state_of;
 
 // The numbers of the new state, or the refusal.
 fn put_state(state: &mut [u64; 15], answer: IntakeAnswer) -> u64
-    ensures { λ r. ⌜ r ≡ intakeWord answer ⌝ }
+    ensures { λ r. ⌜ r ≡ wordOf (intakeResult answer) ⌝ }
     ensures { λ _. ⌜ now (state .exit) ≡ stateAfter answer (now (state .entry)) ⌝ }
 {
     match answer {
@@ -40,7 +41,7 @@ pub extern "C" fn coronagamba_intake_open(
     waiting: &[u8],
     state: &mut [u64; 15],
 ) -> u64
-    ensures answer { λ r. ⌜ r ≡ intakeWord (openAnswer (givenSharding sharding) shard (now (out .entry)) (now (waiting .entry))) ⌝ }
+    ensures answer { λ r. ⌜ r ≡ wordOf (intakeResult (openAnswer (givenSharding sharding) shard (now (out .entry)) (now (waiting .entry)))) ⌝ }
     ensures out { λ _. ⌜ now (out .exit) ≡ openLeft (givenSharding sharding) shard (now (out .entry)) ⌝ }
     ensures state { λ _. ⌜ now (state .exit) ≡ stateAfter (openAnswer (givenSharding sharding) shard (now (out .entry)) (now (waiting .entry))) (now (state .entry)) ⌝ }
 {
@@ -64,7 +65,7 @@ pub extern "C" fn coronagamba_intake_announce(
     out: &mut [u8],
     waiting: &mut [u8],
 ) -> u64
-    ensures answer { λ r. ⌜ r ≡ intakeWord (announceAnswer (stateOf (now (state .entry))) id size (now (out .entry)) (now (waiting .entry))) ⌝ }
+    ensures answer { λ r. ⌜ r ≡ wordOf (intakeResult (announceAnswer (stateOf (now (state .entry))) id size (now (out .entry)) (now (waiting .entry)))) ⌝ }
     ensures state { λ _. ⌜ now (state .exit) ≡ stateAfter (announceAnswer (stateOf (now (state .entry))) id size (now (out .entry)) (now (waiting .entry))) (now (state .entry)) ⌝ }
     ensures out { λ _. ⌜ now (out .exit) ≡ announceLeft (stateOf (now (state .entry))) id size (now (out .entry)) (now (waiting .entry)) ⌝ }
     ensures waiting { λ _. ⌜ now (waiting .exit) ≡ announceWaiting (stateOf (now (state .entry))) id size (now (out .entry)) (now (waiting .entry)) ⌝ }
@@ -86,7 +87,7 @@ pub extern "C" fn coronagamba_intake_part(
     out: &mut [u8],
     waiting: &[u8],
 ) -> u64
-    ensures answer { λ r. ⌜ r ≡ intakeWord (partAnswer (stateOf (now (state .entry))) (now (bytes .entry)) (now (out .entry)) (now (waiting .entry))) ⌝ }
+    ensures answer { λ r. ⌜ r ≡ wordOf (intakeResult (partAnswer (stateOf (now (state .entry))) (now (bytes .entry)) (now (out .entry)) (now (waiting .entry)))) ⌝ }
     ensures state { λ _. ⌜ now (state .exit) ≡ partAfter (partAnswer (stateOf (now (state .entry))) (now (bytes .entry)) (now (out .entry)) (now (waiting .entry))) (now (state .entry)) ⌝ }
     ensures out { λ _. ⌜ now (out .exit) ≡ partLeft (stateOf (now (state .entry))) (now (bytes .entry)) (now (out .entry)) (now (waiting .entry)) ⌝ }
 {
@@ -112,7 +113,7 @@ pub extern "C" fn coronagamba_intake_close(
     waiting: &[u8],
     length: &mut u64,
 ) -> u64
-    ensures answer { λ r. ⌜ r ≡ closeWord (closeAnswer (stateOf (now (state .entry))) (now (out .entry)) (now (waiting .entry))) ⌝ }
+    ensures answer { λ r. ⌜ r ≡ wordOf (closeResult (closeAnswer (stateOf (now (state .entry))) (now (out .entry)) (now (waiting .entry)))) ⌝ }
     ensures state { λ _. ⌜ now (state .exit) ≡ closedAfter (closeAnswer (stateOf (now (state .entry))) (now (out .entry)) (now (waiting .entry))) (now (state .entry)) ⌝ }
     ensures out { λ _. ⌜ now (out .exit) ≡ closeLeft (stateOf (now (state .entry))) (now (out .entry)) (now (waiting .entry)) ⌝ }
     ensures length { λ _. ⌜ now (length .exit) ≡ shardLengthAfter (closeAnswer (stateOf (now (state .entry))) (now (out .entry)) (now (waiting .entry))) (now (length .entry)) ⌝ }

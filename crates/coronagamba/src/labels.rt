@@ -1,10 +1,11 @@
 // Labels inside a chunk: the label of a voxel, a whole chunk unpacked.
 
 ghost use mathlib.Core.Path.{_≡_};
-ghost use Rattle.compressed_segmentation.specs.Labels.{labelAnswer};
+ghost use Rattle.compressed_segmentation.specs.Labels.{labelAnswer, labelResult};
 ghost use Rattle.compressed_segmentation.specs.raw_form.Raw.{lengthAnswer, unpackAnswer, unpackLeft};
-ghost use Rattle.coronagamba.specs.word.Word.{writtenWord, lengthAfter};
-ghost use Rattle.coronagamba.specs.Labels.{noWidth, labelBy, writtenBy, labelsLeftBy, shapeOf, labelWord, labelAfter};
+ghost use Rattle.refusal.specs.Result.{writtenResult};
+ghost use Rattle.coronagamba.specs.word.Word.{lengthAfter, wordOf};
+ghost use Rattle.coronagamba.specs.Labels.{noWidth, labelBy, writtenBy, labelsLeftBy, shapeOf, labelAfter};
 use crate::answers::put_length;
 use compressed_segmentation::LabelAnswer;
 use compressed_segmentation::Shape;
@@ -50,7 +51,7 @@ pub extern "C" fn coronagamba_label(
     channel: u32,
     label: &mut u64,
 ) -> u64
-    ensures answer { λ r. ⌜ r ≡ labelWord (labelBy bits (labelAnswer (now (chunk .entry)) (shapeOf size block channels bits) x y z channel)) ⌝ }
+    ensures answer { λ r. ⌜ r ≡ wordOf (labelResult (labelBy bits (labelAnswer (now (chunk .entry)) (shapeOf size block channels bits) x y z channel))) ⌝ }
     ensures label { λ _. ⌜ now (label .exit) ≡ labelAfter (labelBy bits (labelAnswer (now (chunk .entry)) (shapeOf size block channels bits) x y z channel)) (now (label .entry)) ⌝ }
 {
     if no_width(bits) {
@@ -85,7 +86,7 @@ pub extern "C" fn coronagamba_unpacked_length(
     bits: u64,
     length: &mut u64,
 ) -> u64
-    ensures answer { λ r. ⌜ r ≡ writtenWord (writtenBy bits (lengthAnswer (shapeOf size block channels bits))) ⌝ }
+    ensures answer { λ r. ⌜ r ≡ wordOf (writtenResult (writtenBy bits (lengthAnswer (shapeOf size block channels bits)))) ⌝ }
     ensures length { λ _. ⌜ now (length .exit) ≡ lengthAfter (writtenBy bits (lengthAnswer (shapeOf size block channels bits))) (now (length .entry)) ⌝ }
 {
     if no_width(bits) {
@@ -112,7 +113,7 @@ pub extern "C" fn coronagamba_unpack(
     out: &mut [u8],
     length: &mut u64,
 ) -> u64
-    ensures answer { λ r. ⌜ r ≡ writtenWord (writtenBy bits (unpackAnswer (now (chunk .entry)) (shapeOf size block channels bits) (now (out .entry)))) ⌝ }
+    ensures answer { λ r. ⌜ r ≡ wordOf (writtenResult (writtenBy bits (unpackAnswer (now (chunk .entry)) (shapeOf size block channels bits) (now (out .entry))))) ⌝ }
     ensures out { λ _. ⌜ now (out .exit) ≡ labelsLeftBy bits (unpackLeft (now (chunk .entry)) (shapeOf size block channels bits) (now (out .entry))) (now (out .entry)) ⌝ }
     ensures length { λ _. ⌜ now (length .exit) ≡ lengthAfter (writtenBy bits (unpackAnswer (now (chunk .entry)) (shapeOf size block channels bits) (now (out .entry)))) (now (length .entry)) ⌝ }
 {

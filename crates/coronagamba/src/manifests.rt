@@ -2,13 +2,14 @@
 
 ghost use mathlib.Core.Path.{_≡_};
 ghost use mathlib.Core.Bool.{true};
-ghost use Rattle.mesh_manifest.specs.sound.Verdict.{manifestAnswer};
-ghost use Rattle.mesh_manifest.specs.Fields.{headerAnswer, fieldAnswer};
-ghost use Rattle.mesh_manifest.specs.nodes.Nodes.{nodeAnswer};
+ghost use Rattle.mesh_manifest.specs.sound.Verdict.{manifestAnswer, manifestResult};
+ghost use Rattle.mesh_manifest.specs.Fields.{headerAnswer, fieldAnswer, fieldResult, headerResult};
+ghost use Rattle.mesh_manifest.specs.nodes.Nodes.{nodeAnswer, nodeResult};
 ghost use Rattle.mesh_manifest.specs.level.Level.{nodesAnswer, nodesLeft};
-ghost use Rattle.mesh_manifest.specs.corners.Boxes.{finiteCorner, cornersAnswer};
-ghost use Rattle.coronagamba.specs.word.Word.{writtenWord, lengthAfter};
-ghost use Rattle.coronagamba.specs.Manifests.{manifestWord, headerWord, headerAfter, fieldWord, kindAfter, valueAfter, nodeWord, positionAfter, fragmentAfter, bytesAfter, cornersWord, cornerBits, nearAfter, farAfter};
+ghost use Rattle.mesh_manifest.specs.corners.Boxes.{finiteCorner, cornersAnswer, cornersResult};
+ghost use Rattle.refusal.specs.Result.{writtenResult};
+ghost use Rattle.coronagamba.specs.word.Word.{lengthAfter, wordOf};
+ghost use Rattle.coronagamba.specs.Manifests.{headerAfter, kindAfter, valueAfter, positionAfter, fragmentAfter, bytesAfter, cornerBits, nearAfter, farAfter};
 use crate::answers::put_length;
 use mesh_manifest::Field;
 use mesh_manifest::HeaderAnswer;
@@ -21,7 +22,7 @@ use mesh_manifest::sound::ManifestAnswer;
 // Refusals: 15, 16, 17
 #[no_mangle]
 pub extern "C" fn coronagamba_manifest_check(bytes: &[u8]) -> u64
-    ensures answer { λ r. ⌜ r ≡ manifestWord (manifestAnswer (now (bytes .entry))) ⌝ }
+    ensures answer { λ r. ⌜ r ≡ wordOf (manifestResult (manifestAnswer (now (bytes .entry)))) ⌝ }
 {
     match mesh_manifest::check_manifest(bytes) {
         ManifestAnswer::Sound => 0,
@@ -34,7 +35,7 @@ pub extern "C" fn coronagamba_manifest_check(bytes: &[u8]) -> u64
 // Refusals: 15, 16, 17
 #[no_mangle]
 pub extern "C" fn coronagamba_manifest_header(bytes: &[u8], header: &mut [u32; 6]) -> u64
-    ensures answer { λ r. ⌜ r ≡ headerWord (headerAnswer (now (bytes .entry))) ⌝ }
+    ensures answer { λ r. ⌜ r ≡ wordOf (headerResult (headerAnswer (now (bytes .entry)))) ⌝ }
     ensures header { λ _. ⌜ now (header .exit) ≡ headerAfter (headerAnswer (now (bytes .entry))) (now (header .entry)) ⌝ }
 {
     match mesh_manifest::header_of(bytes) {
@@ -64,7 +65,7 @@ pub extern "C" fn coronagamba_manifest_field(
     kind: &mut u32,
     value: &mut u32,
 ) -> u64
-    ensures answer { λ r. ⌜ r ≡ fieldWord (fieldAnswer (now (bytes .entry)) number) ⌝ }
+    ensures answer { λ r. ⌜ r ≡ wordOf (fieldResult (fieldAnswer (now (bytes .entry)) number)) ⌝ }
     ensures kind { λ _. ⌜ now (kind .exit) ≡ kindAfter (fieldAnswer (now (bytes .entry)) number) (now (kind .entry)) ⌝ }
     ensures value { λ _. ⌜ now (value .exit) ≡ valueAfter (fieldAnswer (now (bytes .entry)) number) (now (value .entry)) ⌝ }
 {
@@ -96,7 +97,7 @@ pub extern "C" fn coronagamba_manifest_node(
     start: &mut u64,
     size: &mut u32,
 ) -> u64
-    ensures answer { λ r. ⌜ r ≡ nodeWord (nodeAnswer (now (bytes .entry)) level node) ⌝ }
+    ensures answer { λ r. ⌜ r ≡ wordOf (nodeResult (nodeAnswer (now (bytes .entry)) level node)) ⌝ }
     ensures position { λ _. ⌜ now (position .exit) ≡ positionAfter (nodeAnswer (now (bytes .entry)) level node) (now (position .entry)) ⌝ }
     ensures start { λ _. ⌜ now (start .exit) ≡ fragmentAfter (nodeAnswer (now (bytes .entry)) level node) (now (start .entry)) ⌝ }
     ensures size { λ _. ⌜ now (size .exit) ≡ bytesAfter (nodeAnswer (now (bytes .entry)) level node) (now (size .entry)) ⌝ }
@@ -124,7 +125,7 @@ pub extern "C" fn coronagamba_manifest_nodes(
     out: &mut [u64],
     length: &mut u64,
 ) -> u64
-    ensures answer { λ r. ⌜ r ≡ writtenWord (nodesAnswer (now (bytes .entry)) level (now (out .entry))) ⌝ }
+    ensures answer { λ r. ⌜ r ≡ wordOf (writtenResult (nodesAnswer (now (bytes .entry)) level (now (out .entry)))) ⌝ }
     ensures out { λ _. ⌜ now (out .exit) ≡ nodesLeft (now (bytes .entry)) level (now (out .entry)) ⌝ }
     ensures length { λ _. ⌜ now (length .exit) ≡ lengthAfter (nodesAnswer (now (bytes .entry)) level (now (out .entry))) (now (length .entry)) ⌝ }
 {
@@ -153,7 +154,7 @@ pub extern "C" fn coronagamba_manifest_corners(
     near_corner: &mut [u32; 3],
     far_corner: &mut [u32; 3],
 ) -> u64
-    ensures answer { λ r. ⌜ r ≡ cornersWord (cornersAnswer (now (bytes .entry)) level node) ⌝ }
+    ensures answer { λ r. ⌜ r ≡ wordOf (cornersResult (cornersAnswer (now (bytes .entry)) level node)) ⌝ }
     ensures near { λ _. ⌜ now («near_corner» .exit) ≡ nearAfter (cornersAnswer (now (bytes .entry)) level node) (now («near_corner» .entry)) ⌝ }
     ensures far { λ _. ⌜ now («far_corner» .exit) ≡ farAfter (cornersAnswer (now (bytes .entry)) level node) (now («far_corner» .entry)) ⌝ }
 {

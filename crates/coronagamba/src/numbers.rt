@@ -3,8 +3,10 @@
 ghost use mathlib.Core.Path.{_≡_};
 ghost use mathlib.Core.List.{[], _∷_};
 ghost use Rattle.sharding.specs.Specification.{minishardBits, shardBits};
+ghost use Rattle.card.specs.Answers.{cardResult};
+ghost use Rattle.coronagamba.specs.word.Word.{wordOf};
 ghost use Rattle.coronagamba.specs.Specification.{givenSharding};
-ghost use Rattle.coronagamba.specs.Cards.{cardWord, shardingAfter, volumeAfter, chunkAfter, offsetAfter};
+ghost use Rattle.coronagamba.specs.Cards.{shardingAfter, volumeAfter, chunkAfter, offsetAfter};
 use card::CardAnswer;
 use intake::numbers::capped;
 use morton::grid::Extents;
@@ -67,7 +69,7 @@ pub fn put_card(
     chunk: &mut [u32; 3],
     offset: &mut [i32; 3],
 ) -> u64
-    ensures word { λ r. ⌜ r ≡ cardWord answer ⌝ }
+    ensures word { λ r. ⌜ r ≡ wordOf (cardResult answer) ⌝ }
     ensures sharding { λ _. ⌜ now (sharding .exit) ≡ shardingAfter answer (now (sharding .entry)) ⌝ }
     ensures size { λ _. ⌜ now (size .exit) ≡ volumeAfter answer (now (size .entry)) ⌝ }
     ensures chunk { λ _. ⌜ now (chunk .exit) ≡ chunkAfter answer (now (chunk .entry)) ⌝ }

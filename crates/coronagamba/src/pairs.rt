@@ -1,21 +1,22 @@
 // Shards of the earlier edition, an index file and a data file each.
 
 ghost use mathlib.Core.Path.{_≡_};
-ghost use Rattle.split_shard.specs.seam.Range.{rangeAnswer};
+ghost use Rattle.split_shard.specs.seam.Range.{rangeAnswer, rangeResult};
 ghost use Rattle.split_shard.specs.Answers.{pairCheck, pairLookup, pairFragment};
 ghost use Rattle.split_shard.specs.form.Answers.{pairCount, pairListing, pairListingLeft, pairUnlisted, pairLength, pairSettle, pairSettleLeft};
 ghost use Rattle.names.specs.Shards.{fileNameAnswer, fileNameLeft};
 ghost use Rattle.names.specs.declared.FileKind.the-variants.{Index, Data};
+ghost use Rattle.shard.specs.File.{checkResult};
+ghost use Rattle.refusal.specs.Result.{countResult, writtenResult};
+ghost use Rattle.lookup.specs.Find.{lookupResult};
 ghost use Rattle.coronagamba.specs.Specification.{givenSharding};
-ghost use Rattle.coronagamba.specs.word.Word.{writtenWord, lengthAfter, asksToDrop};
-ghost use Rattle.coronagamba.specs.Shards.{checkWord, lookupWord, startAfter, sizeAfter, countWord, countAfter, settleWord, formAfter, unlistedWord, unlistedAfter};
-ghost use Rattle.coronagamba.specs.Pairs.{rangeWord, fileAfter, placeAfter, rangeAfter};
+ghost use Rattle.coronagamba.specs.word.Word.{lengthAfter, asksToDrop, wordOf};
+ghost use Rattle.coronagamba.specs.Shards.{startAfter, sizeAfter, countAfter};
+ghost use Rattle.coronagamba.specs.Pairs.{fileAfter, placeAfter, rangeAfter};
 use crate::answers::check_word;
 use crate::answers::put_count;
-use crate::answers::put_form;
 use crate::answers::put_found;
 use crate::answers::put_length;
-use crate::answers::put_unlisted;
 use crate::numbers::CSharding;
 use crate::numbers::sharding_of;
 use crate::word::asks_to_drop;
@@ -31,7 +32,7 @@ pub extern "C" fn coronagamba_pair_check(
     index: &[u8],
     data: &[u8],
 ) -> u64
-    ensures answer { λ r. ⌜ r ≡ checkWord (pairCheck (givenSharding sharding) shard (now (index .entry)) (now («data» .entry))) ⌝ }
+    ensures answer { λ r. ⌜ r ≡ wordOf (checkResult (pairCheck (givenSharding sharding) shard (now (index .entry)) (now («data» .entry)))) ⌝ }
 {
     let answer = split_shard::check(sharding_of(sharding), shard, index, data);
     check_word(answer)
@@ -52,7 +53,7 @@ pub extern "C" fn coronagamba_pair_lookup(
     start: &mut u64,
     length: &mut u64,
 ) -> u64
-    ensures answer { λ r. ⌜ r ≡ lookupWord (pairLookup (givenSharding sharding) shard (now (index .entry)) (now («data» .entry)) id) ⌝ }
+    ensures answer { λ r. ⌜ r ≡ wordOf (lookupResult (pairLookup (givenSharding sharding) shard (now (index .entry)) (now («data» .entry)) id)) ⌝ }
     ensures start { λ _. ⌜ now (start .exit) ≡ startAfter (pairLookup (givenSharding sharding) shard (now (index .entry)) (now («data» .entry)) id) (now (start .entry)) ⌝ }
     ensures length { λ _. ⌜ now (length .exit) ≡ sizeAfter (pairLookup (givenSharding sharding) shard (now (index .entry)) (now («data» .entry)) id) (now (length .entry)) ⌝ }
 {
@@ -77,7 +78,7 @@ pub extern "C" fn coronagamba_pair_fragment(
     start: &mut u64,
     length: &mut u64,
 ) -> u64
-    ensures answer { λ r. ⌜ r ≡ lookupWord (pairFragment (givenSharding sharding) shard (now (index .entry)) (now («data» .entry)) id level node) ⌝ }
+    ensures answer { λ r. ⌜ r ≡ wordOf (lookupResult (pairFragment (givenSharding sharding) shard (now (index .entry)) (now («data» .entry)) id level node)) ⌝ }
     ensures start { λ _. ⌜ now (start .exit) ≡ startAfter (pairFragment (givenSharding sharding) shard (now (index .entry)) (now («data» .entry)) id level node) (now (start .entry)) ⌝ }
     ensures length { λ _. ⌜ now (length .exit) ≡ sizeAfter (pairFragment (givenSharding sharding) shard (now (index .entry)) (now («data» .entry)) id level node) (now (length .entry)) ⌝ }
 {
@@ -98,7 +99,7 @@ pub extern "C" fn coronagamba_pair_listed_count(
     minishard: u64,
     chunks: &mut u64,
 ) -> u64
-    ensures answer { λ r. ⌜ r ≡ countWord (pairCount (givenSharding sharding) shard (now (index .entry)) (now («data» .entry)) minishard) ⌝ }
+    ensures answer { λ r. ⌜ r ≡ wordOf (countResult (pairCount (givenSharding sharding) shard (now (index .entry)) (now («data» .entry)) minishard)) ⌝ }
     ensures chunks { λ _. ⌜ now (chunks .exit) ≡ countAfter (pairCount (givenSharding sharding) shard (now (index .entry)) (now («data» .entry)) minishard) (now (chunks .entry)) ⌝ }
 {
     let answer = split_shard::listed_count(sharding_of(sharding), shard, index, data, minishard);
@@ -121,7 +122,7 @@ pub extern "C" fn coronagamba_pair_listing(
     out: &mut [u64],
     length: &mut u64,
 ) -> u64
-    ensures answer { λ r. ⌜ r ≡ countWord (pairListing (givenSharding sharding) shard (now (index .entry)) (now («data» .entry)) minishard (now (out .entry))) ⌝ }
+    ensures answer { λ r. ⌜ r ≡ wordOf (countResult (pairListing (givenSharding sharding) shard (now (index .entry)) (now («data» .entry)) minishard (now (out .entry)))) ⌝ }
     ensures out { λ _. ⌜ now (out .exit) ≡ pairListingLeft (givenSharding sharding) shard (now (index .entry)) (now («data» .entry)) minishard (now (out .entry)) ⌝ }
     ensures length { λ _. ⌜ now (length .exit) ≡ countAfter (pairListing (givenSharding sharding) shard (now (index .entry)) (now («data» .entry)) minishard (now (out .entry))) (now (length .entry)) ⌝ }
 {
@@ -141,11 +142,11 @@ pub extern "C" fn coronagamba_pair_unlisted(
     data: &[u8],
     bytes: &mut u64,
 ) -> u64
-    ensures answer { λ r. ⌜ r ≡ unlistedWord (pairUnlisted (givenSharding sharding) shard (now (index .entry)) (now («data» .entry))) ⌝ }
-    ensures bytes { λ _. ⌜ now (bytes .exit) ≡ unlistedAfter (pairUnlisted (givenSharding sharding) shard (now (index .entry)) (now («data» .entry))) (now (bytes .entry)) ⌝ }
+    ensures answer { λ r. ⌜ r ≡ wordOf (countResult (pairUnlisted (givenSharding sharding) shard (now (index .entry)) (now («data» .entry)))) ⌝ }
+    ensures bytes { λ _. ⌜ now (bytes .exit) ≡ countAfter (pairUnlisted (givenSharding sharding) shard (now (index .entry)) (now («data» .entry))) (now (bytes .entry)) ⌝ }
 {
     let answer = split_shard::unlisted_count(sharding_of(sharding), shard, index, data);
-    put_unlisted(answer, bytes)
+    put_count(answer, bytes)
 }
 
 // coronagamba_settled_length of a pair: how many bytes its settled form has, which is one file. Writes
@@ -162,8 +163,8 @@ pub extern "C" fn coronagamba_pair_settled_length(
     drop_unlisted: u64,
     length: &mut u64,
 ) -> u64
-    ensures answer { λ r. ⌜ r ≡ settleWord (pairLength (givenSharding sharding) shard (now (index .entry)) (now («data» .entry)) (asksToDrop «drop_unlisted»)) ⌝ }
-    ensures length { λ _. ⌜ now (length .exit) ≡ formAfter (pairLength (givenSharding sharding) shard (now (index .entry)) (now («data» .entry)) (asksToDrop «drop_unlisted»)) (now (length .entry)) ⌝ }
+    ensures answer { λ r. ⌜ r ≡ wordOf (countResult (pairLength (givenSharding sharding) shard (now (index .entry)) (now («data» .entry)) (asksToDrop «drop_unlisted»))) ⌝ }
+    ensures length { λ _. ⌜ now (length .exit) ≡ countAfter (pairLength (givenSharding sharding) shard (now (index .entry)) (now («data» .entry)) (asksToDrop «drop_unlisted»)) (now (length .entry)) ⌝ }
 {
     let answer = split_shard::settled_length(
         sharding_of(sharding),
@@ -172,7 +173,7 @@ pub extern "C" fn coronagamba_pair_settled_length(
         data,
         asks_to_drop(drop_unlisted),
     );
-    put_form(answer, length)
+    put_count(answer, length)
 }
 
 // coronagamba_settle of a pair: its settled form, which is one file. Writes it to the front of `out`,
@@ -192,9 +193,9 @@ pub extern "C" fn coronagamba_pair_settle(
     out: &mut [u8],
     length: &mut u64,
 ) -> u64
-    ensures answer { λ r. ⌜ r ≡ settleWord (pairSettle (givenSharding sharding) shard (now (index .entry)) (now («data» .entry)) (asksToDrop «drop_unlisted») (now (out .entry))) ⌝ }
+    ensures answer { λ r. ⌜ r ≡ wordOf (countResult (pairSettle (givenSharding sharding) shard (now (index .entry)) (now («data» .entry)) (asksToDrop «drop_unlisted») (now (out .entry)))) ⌝ }
     ensures out { λ _. ⌜ now (out .exit) ≡ pairSettleLeft (givenSharding sharding) shard (now (index .entry)) (now («data» .entry)) (asksToDrop «drop_unlisted») (now (out .entry)) ⌝ }
-    ensures length { λ _. ⌜ now (length .exit) ≡ formAfter (pairSettle (givenSharding sharding) shard (now (index .entry)) (now («data» .entry)) (asksToDrop «drop_unlisted») (now (out .entry))) (now (length .entry)) ⌝ }
+    ensures length { λ _. ⌜ now (length .exit) ≡ countAfter (pairSettle (givenSharding sharding) shard (now (index .entry)) (now («data» .entry)) (asksToDrop «drop_unlisted») (now (out .entry))) (now (length .entry)) ⌝ }
 {
     let answer = split_shard::settle(
         sharding_of(sharding),
@@ -204,7 +205,7 @@ pub extern "C" fn coronagamba_pair_settle(
         asks_to_drop(drop_unlisted),
         out,
     );
-    put_form(answer, length)
+    put_count(answer, length)
 }
 
 // Where the bytes of the joined file from `start` up to `end`, end excluded, are. Writes which file
@@ -223,7 +224,7 @@ pub extern "C" fn coronagamba_pair_range(
     place: &mut u64,
     length: &mut u64,
 ) -> u64
-    ensures answer { λ r. ⌜ r ≡ rangeWord (rangeAnswer (givenSharding sharding) (now (index .entry)) (now («data» .entry)) start end) ⌝ }
+    ensures answer { λ r. ⌜ r ≡ wordOf (rangeResult (rangeAnswer (givenSharding sharding) (now (index .entry)) (now («data» .entry)) start end)) ⌝ }
     ensures file { λ _. ⌜ now (file .exit) ≡ fileAfter (rangeAnswer (givenSharding sharding) (now (index .entry)) (now («data» .entry)) start end) (now (file .entry)) ⌝ }
     ensures place { λ _. ⌜ now (place .exit) ≡ placeAfter (rangeAnswer (givenSharding sharding) (now (index .entry)) (now («data» .entry)) start end) (now (place .entry)) ⌝ }
     ensures length { λ _. ⌜ now (length .exit) ≡ rangeAfter (rangeAnswer (givenSharding sharding) (now (index .entry)) (now («data» .entry)) start end) (now (length .entry)) ⌝ }
@@ -261,7 +262,7 @@ pub extern "C" fn coronagamba_index_name(
     out: &mut [u8],
     length: &mut u64,
 ) -> u64
-    ensures answer { λ r. ⌜ r ≡ writtenWord (fileNameAnswer Index (givenSharding sharding) shard (now (out .entry))) ⌝ }
+    ensures answer { λ r. ⌜ r ≡ wordOf (writtenResult (fileNameAnswer Index (givenSharding sharding) shard (now (out .entry)))) ⌝ }
     ensures out { λ _. ⌜ now (out .exit) ≡ fileNameLeft Index (givenSharding sharding) shard (now (out .entry)) ⌝ }
     ensures length { λ _. ⌜ now (length .exit) ≡ lengthAfter (fileNameAnswer Index (givenSharding sharding) shard (now (out .entry))) (now (length .entry)) ⌝ }
 {
@@ -278,7 +279,7 @@ pub extern "C" fn coronagamba_data_name(
     out: &mut [u8],
     length: &mut u64,
 ) -> u64
-    ensures answer { λ r. ⌜ r ≡ writtenWord (fileNameAnswer Data (givenSharding sharding) shard (now (out .entry))) ⌝ }
+    ensures answer { λ r. ⌜ r ≡ wordOf (writtenResult (fileNameAnswer Data (givenSharding sharding) shard (now (out .entry)))) ⌝ }
     ensures out { λ _. ⌜ now (out .exit) ≡ fileNameLeft Data (givenSharding sharding) shard (now (out .entry)) ⌝ }
     ensures length { λ _. ⌜ now (length .exit) ≡ lengthAfter (fileNameAnswer Data (givenSharding sharding) shard (now (out .entry))) (now (length .entry)) ⌝ }
 {

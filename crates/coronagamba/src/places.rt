@@ -1,11 +1,12 @@
 // The shard and the minishard of ids.
 
 ghost use mathlib.Core.Path.{_≡_};
-ghost use Rattle.sharding.specs.placement.Place.{placeAnswer};
+ghost use Rattle.sharding.specs.placement.Place.{placeAnswer, placeResult};
 ghost use Rattle.sharding.specs.batch.Batch.{placesAnswer, shardsLeft, minishardsLeft};
+ghost use Rattle.refusal.specs.Result.{writtenResult};
 ghost use Rattle.coronagamba.specs.Specification.{givenSharding};
-ghost use Rattle.coronagamba.specs.word.Word.{writtenWord, lengthAfter};
-ghost use Rattle.coronagamba.specs.Places.{placeWord, shardAfter, minishardAfter};
+ghost use Rattle.coronagamba.specs.word.Word.{lengthAfter, wordOf};
+ghost use Rattle.coronagamba.specs.Places.{shardAfter, minishardAfter};
 use crate::answers::put_length;
 use crate::numbers::CSharding;
 use crate::numbers::sharding_of;
@@ -20,7 +21,7 @@ pub extern "C" fn coronagamba_place_of(
     shard: &mut u64,
     minishard: &mut u64,
 ) -> u64
-    ensures answer { λ r. ⌜ r ≡ placeWord (placeAnswer (givenSharding sharding) id) ⌝ }
+    ensures answer { λ r. ⌜ r ≡ wordOf (placeResult (placeAnswer (givenSharding sharding) id)) ⌝ }
     ensures shard { λ _. ⌜ now (shard .exit) ≡ shardAfter (placeAnswer (givenSharding sharding) id) (now (shard .entry)) ⌝ }
     ensures minishard { λ _. ⌜ now (minishard .exit) ≡ minishardAfter (placeAnswer (givenSharding sharding) id) (now (minishard .entry)) ⌝ }
 {
@@ -45,7 +46,7 @@ pub extern "C" fn coronagamba_places_of(
     minishards: &mut [u64],
     length: &mut u64,
 ) -> u64
-    ensures answer { λ r. ⌜ r ≡ writtenWord (placesAnswer (givenSharding sharding) (now (ids .entry)) (now (shards .entry)) (now (minishards .entry))) ⌝ }
+    ensures answer { λ r. ⌜ r ≡ wordOf (writtenResult (placesAnswer (givenSharding sharding) (now (ids .entry)) (now (shards .entry)) (now (minishards .entry)))) ⌝ }
     ensures shards { λ _. ⌜ now (shards .exit) ≡ shardsLeft (givenSharding sharding) (now (ids .entry)) (now (shards .entry)) (now (minishards .entry)) ⌝ }
     ensures minishards { λ _. ⌜ now (minishards .exit) ≡ minishardsLeft (givenSharding sharding) (now (ids .entry)) (now (shards .entry)) (now (minishards .entry)) ⌝ }
     ensures length { λ _. ⌜ now (length .exit) ≡ lengthAfter (placesAnswer (givenSharding sharding) (now (ids .entry)) (now (shards .entry)) (now (minishards .entry))) (now (length .entry)) ⌝ }

@@ -1,20 +1,19 @@
 // Shards: lookup, fragments, the check, listings, unlisted bytes, settling.
 
 ghost use mathlib.Core.Path.{_≡_};
-ghost use Rattle.shard.specs.File.{checkAnswer};
-ghost use Rattle.lookup.specs.Find.{lookupAnswer};
+ghost use Rattle.shard.specs.File.{checkAnswer, checkResult};
+ghost use Rattle.lookup.specs.Find.{lookupAnswer, lookupResult};
 ghost use Rattle.lookup.specs.fragments.Fragment.{fragmentAnswer};
 ghost use Rattle.lookup.specs.listings.Listing.{countAnswer, listingAnswer, listingLeft};
 ghost use Rattle.unlisted.specs.Answers.{unlistedAnswer};
 ghost use Rattle.settle.specs.answers.Answers.{lengthAnswer, settleAnswer, settleLeft};
+ghost use Rattle.refusal.specs.Result.{countResult};
 ghost use Rattle.coronagamba.specs.Specification.{givenSharding};
-ghost use Rattle.coronagamba.specs.word.Word.{asksToDrop};
-ghost use Rattle.coronagamba.specs.Shards.{checkWord, lookupWord, startAfter, sizeAfter, countWord, countAfter, settleWord, formAfter, unlistedWord, unlistedAfter};
+ghost use Rattle.coronagamba.specs.word.Word.{asksToDrop, wordOf};
+ghost use Rattle.coronagamba.specs.Shards.{startAfter, sizeAfter, countAfter};
 use crate::answers::check_word;
 use crate::answers::put_count;
-use crate::answers::put_form;
 use crate::answers::put_found;
-use crate::answers::put_unlisted;
 use crate::numbers::CSharding;
 use crate::numbers::sharding_of;
 use crate::word::asks_to_drop;
@@ -32,7 +31,7 @@ pub extern "C" fn coronagamba_lookup(
     start: &mut u64,
     length: &mut u64,
 ) -> u64
-    ensures answer { λ r. ⌜ r ≡ lookupWord (lookupAnswer (givenSharding sharding) shard (now (file .entry)) id) ⌝ }
+    ensures answer { λ r. ⌜ r ≡ wordOf (lookupResult (lookupAnswer (givenSharding sharding) shard (now (file .entry)) id)) ⌝ }
     ensures start { λ _. ⌜ now (start .exit) ≡ startAfter (lookupAnswer (givenSharding sharding) shard (now (file .entry)) id) (now (start .entry)) ⌝ }
     ensures length { λ _. ⌜ now (length .exit) ≡ sizeAfter (lookupAnswer (givenSharding sharding) shard (now (file .entry)) id) (now (length .entry)) ⌝ }
 {
@@ -58,7 +57,7 @@ pub extern "C" fn coronagamba_fragment(
     start: &mut u64,
     length: &mut u64,
 ) -> u64
-    ensures answer { λ r. ⌜ r ≡ lookupWord (fragmentAnswer (givenSharding sharding) shard (now (file .entry)) id level node) ⌝ }
+    ensures answer { λ r. ⌜ r ≡ wordOf (lookupResult (fragmentAnswer (givenSharding sharding) shard (now (file .entry)) id level node)) ⌝ }
     ensures start { λ _. ⌜ now (start .exit) ≡ startAfter (fragmentAnswer (givenSharding sharding) shard (now (file .entry)) id level node) (now (start .entry)) ⌝ }
     ensures length { λ _. ⌜ now (length .exit) ≡ sizeAfter (fragmentAnswer (givenSharding sharding) shard (now (file .entry)) id level node) (now (length .entry)) ⌝ }
 {
@@ -72,7 +71,7 @@ pub extern "C" fn coronagamba_fragment(
 // Refusals: 1, 5, 6, 7 to 11, 15 to 17 (mesh), 21 (mesh) with the minishard and the position
 #[no_mangle]
 pub extern "C" fn coronagamba_check(sharding: CSharding, shard: u64, file: &[u8]) -> u64
-    ensures answer { λ r. ⌜ r ≡ checkWord (checkAnswer (givenSharding sharding) shard (now (file .entry))) ⌝ }
+    ensures answer { λ r. ⌜ r ≡ wordOf (checkResult (checkAnswer (givenSharding sharding) shard (now (file .entry)))) ⌝ }
 {
     let answer = shard::check(sharding_of(sharding), shard, file);
     check_word(answer)
@@ -89,7 +88,7 @@ pub extern "C" fn coronagamba_listed_count(
     minishard: u64,
     chunks: &mut u64,
 ) -> u64
-    ensures answer { λ r. ⌜ r ≡ countWord (countAnswer (givenSharding sharding) shard (now (file .entry)) minishard) ⌝ }
+    ensures answer { λ r. ⌜ r ≡ wordOf (countResult (countAnswer (givenSharding sharding) shard (now (file .entry)) minishard)) ⌝ }
     ensures chunks { λ _. ⌜ now (chunks .exit) ≡ countAfter (countAnswer (givenSharding sharding) shard (now (file .entry)) minishard) (now (chunks .entry)) ⌝ }
 {
     let answer = lookup::listed_count(sharding_of(sharding), shard, file, minishard);
@@ -110,7 +109,7 @@ pub extern "C" fn coronagamba_listing(
     out: &mut [u64],
     length: &mut u64,
 ) -> u64
-    ensures answer { λ r. ⌜ r ≡ countWord (listingAnswer (givenSharding sharding) shard (now (file .entry)) minishard (now (out .entry))) ⌝ }
+    ensures answer { λ r. ⌜ r ≡ wordOf (countResult (listingAnswer (givenSharding sharding) shard (now (file .entry)) minishard (now (out .entry)))) ⌝ }
     ensures out { λ _. ⌜ now (out .exit) ≡ listingLeft (givenSharding sharding) shard (now (file .entry)) minishard (now (out .entry)) ⌝ }
     ensures length { λ _. ⌜ now (length .exit) ≡ countAfter (listingAnswer (givenSharding sharding) shard (now (file .entry)) minishard (now (out .entry))) (now (length .entry)) ⌝ }
 {
@@ -130,11 +129,11 @@ pub extern "C" fn coronagamba_unlisted(
     file: &[u8],
     bytes: &mut u64,
 ) -> u64
-    ensures answer { λ r. ⌜ r ≡ unlistedWord (unlistedAnswer (givenSharding sharding) shard (now (file .entry))) ⌝ }
-    ensures bytes { λ _. ⌜ now (bytes .exit) ≡ unlistedAfter (unlistedAnswer (givenSharding sharding) shard (now (file .entry))) (now (bytes .entry)) ⌝ }
+    ensures answer { λ r. ⌜ r ≡ wordOf (countResult (unlistedAnswer (givenSharding sharding) shard (now (file .entry)))) ⌝ }
+    ensures bytes { λ _. ⌜ now (bytes .exit) ≡ countAfter (unlistedAnswer (givenSharding sharding) shard (now (file .entry))) (now (bytes .entry)) ⌝ }
 {
     let answer = unlisted::unlisted_count(sharding_of(sharding), shard, file);
-    put_unlisted(answer, bytes)
+    put_count(answer, bytes)
 }
 
 // How many bytes a shard's settled form has. Writes the number to `length`. Unlisted bytes are not in
@@ -149,8 +148,8 @@ pub extern "C" fn coronagamba_settled_length(
     drop_unlisted: u64,
     length: &mut u64,
 ) -> u64
-    ensures answer { λ r. ⌜ r ≡ settleWord (lengthAnswer (givenSharding sharding) shard (now (file .entry)) (asksToDrop «drop_unlisted»)) ⌝ }
-    ensures length { λ _. ⌜ now (length .exit) ≡ formAfter (lengthAnswer (givenSharding sharding) shard (now (file .entry)) (asksToDrop «drop_unlisted»)) (now (length .entry)) ⌝ }
+    ensures answer { λ r. ⌜ r ≡ wordOf (countResult (lengthAnswer (givenSharding sharding) shard (now (file .entry)) (asksToDrop «drop_unlisted»))) ⌝ }
+    ensures length { λ _. ⌜ now (length .exit) ≡ countAfter (lengthAnswer (givenSharding sharding) shard (now (file .entry)) (asksToDrop «drop_unlisted»)) (now (length .entry)) ⌝ }
 {
     let answer = settle::settled_length(
         sharding_of(sharding),
@@ -158,7 +157,7 @@ pub extern "C" fn coronagamba_settled_length(
         file,
         asks_to_drop(drop_unlisted),
     );
-    put_form(answer, length)
+    put_count(answer, length)
 }
 
 // A shard's settled form; in a mesh each manifest has its fragments right before it there too. Writes
@@ -177,9 +176,9 @@ pub extern "C" fn coronagamba_settle(
     out: &mut [u8],
     length: &mut u64,
 ) -> u64
-    ensures answer { λ r. ⌜ r ≡ settleWord (settleAnswer (givenSharding sharding) shard (now (file .entry)) (asksToDrop «drop_unlisted») (now (out .entry))) ⌝ }
+    ensures answer { λ r. ⌜ r ≡ wordOf (countResult (settleAnswer (givenSharding sharding) shard (now (file .entry)) (asksToDrop «drop_unlisted») (now (out .entry)))) ⌝ }
     ensures out { λ _. ⌜ now (out .exit) ≡ settleLeft (givenSharding sharding) shard (now (file .entry)) (asksToDrop «drop_unlisted») (now (out .entry)) ⌝ }
-    ensures length { λ _. ⌜ now (length .exit) ≡ formAfter (settleAnswer (givenSharding sharding) shard (now (file .entry)) (asksToDrop «drop_unlisted») (now (out .entry))) (now (length .entry)) ⌝ }
+    ensures length { λ _. ⌜ now (length .exit) ≡ countAfter (settleAnswer (givenSharding sharding) shard (now (file .entry)) (asksToDrop «drop_unlisted») (now (out .entry))) (now (length .entry)) ⌝ }
 {
     let answer = settle::settle(
         sharding_of(sharding),
@@ -188,5 +187,5 @@ pub extern "C" fn coronagamba_settle(
         asks_to_drop(drop_unlisted),
         out,
     );
-    put_form(answer, length)
+    put_count(answer, length)
 }

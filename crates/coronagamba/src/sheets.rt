@@ -3,11 +3,12 @@
 ghost use mathlib.Core.Path.{_≡_};
 ghost use Prim.Native.Nat.{ℕ, _+_, _<_};
 ghost use Rattle.holdings.specs.declared.measures.MeasureAnswer.the-variants.{Faulty};
-ghost use Rattle.holdings.specs.measures.Answers.{measureAnswer, pairMeasure};
-ghost use Rattle.holdings.specs.Answers.{joinAnswer, addAnswer, pairAddAnswer};
+ghost use Rattle.holdings.specs.measures.Answers.{measureAnswer, pairMeasure, measureResult};
+ghost use Rattle.holdings.specs.Answers.{joinAnswer, addAnswer, pairAddAnswer, sheetResult};
 ghost use Rattle.holdings.specs.one_shard.Sheet.{fromRows};
+ghost use Rattle.coronagamba.specs.word.Word.{wordOf};
 ghost use Rattle.coronagamba.specs.Specification.{givenSharding};
-ghost use Rattle.coronagamba.specs.Sheets.{measureWord, countsOf, countsAfter, sheetWord, rowsAfter};
+ghost use Rattle.coronagamba.specs.Sheets.{countsOf, countsAfter, rowsAfter};
 use crate::numbers::CSharding;
 use crate::numbers::sharding_of;
 use crate::word::fault_word;
@@ -26,7 +27,7 @@ fn counts_of(counts: Counts) -> [u64; 4]
 // The counts, or the refusal.
 fn put_counts(counts: &mut [u64; 4], answer: MeasureAnswer) -> u64
     requires { ⌜ ((k m p : ℕ) → answer ≡ Faulty k m p → (m + 1 < 16777216) × (p + 1 < 4294967296)) ⌝ }
-    ensures { λ r. ⌜ r ≡ measureWord answer ⌝ }
+    ensures { λ r. ⌜ r ≡ wordOf (measureResult answer) ⌝ }
     ensures { λ _. ⌜ now (counts .exit) ≡ countsAfter answer (now (counts .entry)) ⌝ }
 {
     match answer {
@@ -45,7 +46,7 @@ fn put_counts(counts: &mut [u64; 4], answer: MeasureAnswer) -> u64
 
 // The new rows, or the refusal.
 fn put_sheet(sheet: &mut [u64; 17], answer: SheetAnswer) -> u64
-    ensures { λ r. ⌜ r ≡ sheetWord answer ⌝ }
+    ensures { λ r. ⌜ r ≡ wordOf (sheetResult answer) ⌝ }
     ensures { λ _. ⌜ now (sheet .exit) ≡ rowsAfter answer (now (sheet .entry)) ⌝ }
 {
     match answer {
@@ -69,7 +70,7 @@ pub extern "C" fn coronagamba_measure(
     file: &[u8],
     counts: &mut [u64; 4],
 ) -> u64
-    ensures answer { λ r. ⌜ r ≡ measureWord (measureAnswer (givenSharding sharding) shard (now (file .entry))) ⌝ }
+    ensures answer { λ r. ⌜ r ≡ wordOf (measureResult (measureAnswer (givenSharding sharding) shard (now (file .entry)))) ⌝ }
     ensures counts { λ _. ⌜ now (counts .exit) ≡ countsAfter (measureAnswer (givenSharding sharding) shard (now (file .entry))) (now (counts .entry)) ⌝ }
 {
     let answer = holdings::measure(sharding_of(sharding), shard, file);
@@ -87,7 +88,7 @@ pub extern "C" fn coronagamba_pair_measure(
     data: &[u8],
     counts: &mut [u64; 4],
 ) -> u64
-    ensures answer { λ r. ⌜ r ≡ measureWord (pairMeasure (givenSharding sharding) shard (now (index .entry)) (now («data» .entry))) ⌝ }
+    ensures answer { λ r. ⌜ r ≡ wordOf (measureResult (pairMeasure (givenSharding sharding) shard (now (index .entry)) (now («data» .entry)))) ⌝ }
     ensures counts { λ _. ⌜ now (counts .exit) ≡ countsAfter (pairMeasure (givenSharding sharding) shard (now (index .entry)) (now («data» .entry))) (now (counts .entry)) ⌝ }
 {
     let answer = holdings::measure_pair(sharding_of(sharding), shard, index, data);
@@ -107,7 +108,7 @@ pub extern "C" fn coronagamba_sheet_add(
     shard: u64,
     file: &[u8],
 ) -> u64
-    ensures answer { λ r. ⌜ r ≡ sheetWord (addAnswer (fromRows (now (sheet .entry))) (givenSharding sharding) shard (now (file .entry))) ⌝ }
+    ensures answer { λ r. ⌜ r ≡ wordOf (sheetResult (addAnswer (fromRows (now (sheet .entry))) (givenSharding sharding) shard (now (file .entry)))) ⌝ }
     ensures sheet { λ _. ⌜ now (sheet .exit) ≡ rowsAfter (addAnswer (fromRows (now (sheet .entry))) (givenSharding sharding) shard (now (file .entry))) (now (sheet .entry)) ⌝ }
 {
     let answer = holdings::add(from_rows(*sheet), sharding_of(sharding), shard, file);
@@ -124,7 +125,7 @@ pub extern "C" fn coronagamba_pair_sheet_add(
     index: &[u8],
     data: &[u8],
 ) -> u64
-    ensures answer { λ r. ⌜ r ≡ sheetWord (pairAddAnswer (fromRows (now (sheet .entry))) (givenSharding sharding) shard (now (index .entry)) (now («data» .entry))) ⌝ }
+    ensures answer { λ r. ⌜ r ≡ wordOf (sheetResult (pairAddAnswer (fromRows (now (sheet .entry))) (givenSharding sharding) shard (now (index .entry)) (now («data» .entry)))) ⌝ }
     ensures sheet { λ _. ⌜ now (sheet .exit) ≡ rowsAfter (pairAddAnswer (fromRows (now (sheet .entry))) (givenSharding sharding) shard (now (index .entry)) (now («data» .entry))) (now (sheet .entry)) ⌝ }
 {
     let answer = holdings::add_pair(from_rows(*sheet), sharding_of(sharding), shard, index, data);
@@ -136,7 +137,7 @@ pub extern "C" fn coronagamba_pair_sheet_add(
 // Refusals: 27 where a total would pass 2^64 - 1
 #[no_mangle]
 pub extern "C" fn coronagamba_sheet_join(sheet: &mut [u64; 17], other: &[u64; 17]) -> u64
-    ensures answer { λ r. ⌜ r ≡ sheetWord (joinAnswer (fromRows (now (sheet .entry))) (fromRows (now (other .entry)))) ⌝ }
+    ensures answer { λ r. ⌜ r ≡ wordOf (sheetResult (joinAnswer (fromRows (now (sheet .entry))) (fromRows (now (other .entry))))) ⌝ }
     ensures sheet { λ _. ⌜ now (sheet .exit) ≡ rowsAfter (joinAnswer (fromRows (now (sheet .entry))) (fromRows (now (other .entry)))) (now (sheet .entry)) ⌝ }
 {
     let answer = holdings::join(from_rows(*sheet), from_rows(*other));

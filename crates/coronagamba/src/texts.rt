@@ -3,8 +3,9 @@
 ghost use mathlib.Core.Path.{_≡_};
 ghost use Rattle.names.specs.chunks.Chunks.{chunkNameAnswer, chunkNameLeft};
 ghost use Rattle.names.specs.Shards.{shardNameAnswer, shardNameLeft};
+ghost use Rattle.refusal.specs.Result.{writtenResult};
 ghost use Rattle.coronagamba.specs.Specification.{givenSharding};
-ghost use Rattle.coronagamba.specs.word.Word.{writtenWord, lengthAfter};
+ghost use Rattle.coronagamba.specs.word.Word.{lengthAfter, wordOf};
 use crate::answers::put_length;
 use crate::numbers::CSharding;
 use crate::numbers::sharding_of;
@@ -21,7 +22,7 @@ pub extern "C" fn coronagamba_chunk_name(
     out: &mut [u8],
     length: &mut u64,
 ) -> u64
-    ensures answer { λ r. ⌜ r ≡ writtenWord (chunkNameAnswer volume cell (now (out .entry))) ⌝ }
+    ensures answer { λ r. ⌜ r ≡ wordOf (writtenResult (chunkNameAnswer volume cell (now (out .entry)))) ⌝ }
     ensures out { λ _. ⌜ now (out .exit) ≡ chunkNameLeft volume cell (now (out .entry)) ⌝ }
     ensures length { λ _. ⌜ now (length .exit) ≡ lengthAfter (chunkNameAnswer volume cell (now (out .entry))) (now (length .entry)) ⌝ }
 {
@@ -39,7 +40,7 @@ pub extern "C" fn coronagamba_shard_name(
     out: &mut [u8],
     length: &mut u64,
 ) -> u64
-    ensures answer { λ r. ⌜ r ≡ writtenWord (shardNameAnswer (givenSharding sharding) shard (now (out .entry))) ⌝ }
+    ensures answer { λ r. ⌜ r ≡ wordOf (writtenResult (shardNameAnswer (givenSharding sharding) shard (now (out .entry)))) ⌝ }
     ensures out { λ _. ⌜ now (out .exit) ≡ shardNameLeft (givenSharding sharding) shard (now (out .entry)) ⌝ }
     ensures length { λ _. ⌜ now (length .exit) ≡ lengthAfter (shardNameAnswer (givenSharding sharding) shard (now (out .entry))) (now (length .entry)) ⌝ }
 {

@@ -5,6 +5,7 @@ use mathlib.Core.List.{List, [], _∷_}
 use lib.Dec.{eqb}
 use Rattle.refusal.specs.Choice.{pick}
 use Rattle.refusal.specs.Checks.{check, answered}
+use Rattle.refusal.specs.Result.{Result, success, refused}
 use Rattle.sharding.specs.declared.Sharding.{Sharding}
 use Rattle.shard.specs.File.{checkAnswer}
 use Rattle.split_shard.specs.Answers.{pairCheck}
@@ -20,6 +21,10 @@ use Rattle.holdings.specs.passing.Totals.{anyPasses, both}
 -- two sheets together (RULES H3)
 unfoldable pub joinAnswer : Sheet → Sheet → SheetAnswer
 joinAnswer a b = answered Refused (check 27 (anyPasses (rows (both a b))) ∷ []) (Total (both a b))
+
+abbrev pub sheetResult : SheetAnswer → Result Sheet
+sheetResult (Total sheet) = success sheet
+sheetResult (Refused k) = refused k
 
 -- the sheet of one shard, and a sheet with it
 unfoldable pub sheetOf : Sharding → ℕ → List ℕ → Sheet

@@ -4,8 +4,10 @@ use mathlib.Core.Path.{_≡_, refl}
 use mathlib.Core.List.{List}
 use native.Mathlib.Omega.{arith}
 use lib.ListN.{length}
-use Rattle.refusal.specs.Checks.{firstNumber, unless, Refuses}
-use Rattle.refusal.proofs.Refusing.{refuses, keeping}
+use Rattle.refusal.specs.Checks.{firstNumber, unless}
+use Rattle.refusal.specs.Result.{DecidedBy}
+use Rattle.refusal.proofs.Refusing.{keeping}
+use Rattle.refusal.proofs.Results.{decided}
 use Rattle.sharding.specs.declared.Sharding.{Sharding}
 use Rattle.intake.specs.declared.state.Intake.{Intake}
 use Rattle.intake.specs.state.State.{announcedLength}
@@ -13,7 +15,7 @@ use Rattle.intake.specs.admission.Refusals.{openChecks, announceChecks, 
 use Rattle.intake.specs.declared.IntakeAnswer.the-variants.{Next, Refused}
 use Rattle.intake.specs.declared.CloseAnswer.the-variants.{Closed, Refused as NotClosed}
 use Rattle.intake.specs.steps.Steps.{opened, announced, taken, closed}
-use Rattle.intake.specs.Calls.{openAnswer, openLeft, announceAnswer, announceLeft, announceWaiting, partAnswer, partLeft, closeAnswer, closeLeft}
+use Rattle.intake.specs.Calls.{openAnswer, openLeft, announceAnswer, announceLeft, announceWaiting, partAnswer, partLeft, closeAnswer, closeLeft, intakeResult, closeResult}
 
 -- ---- an answer that is no refusal
 
@@ -30,9 +32,9 @@ closed-told (suc n) a b k l e = let z : _≡_ {A = ℕ} 0 1 = cc in absurd (omeg
 -- ---- open
 
 module _ (spec : Sharding) (shard : ℕ) (o w : List ℕ) where
-  pub open-refuses : Refuses (openAnswer spec shard o w) Refused (openChecks spec shard (length o))
+  pub open-decided : DecidedBy (openChecks spec shard (length o)) (intakeResult (openAnswer spec shard o w))
   unfolding openAnswer openChecks
-  open-refuses = refuses Refused (λ j k e. cc) _ _ refl (λ k e. cc)
+  open-decided = decided intakeResult Refused (λ k. refl) _ _ refl refl refl
 
   pub open-keeps : (k : ℕ) → openAnswer spec shard o w ≡ Refused k → openLeft spec shard o ≡ o
   unfolding openAnswer openLeft
@@ -45,9 +47,9 @@ module _ (spec : Sharding) (shard : ℕ) (o w : List ℕ) where
 -- ---- announce
 
 module _ (s : Intake) (id size : ℕ) (o w : List ℕ) where
-  pub announce-refuses : Refuses (announceAnswer s id size o w) Refused (announceChecks s id size (length o) w)
+  pub announce-decided : DecidedBy (announceChecks s id size (length o) w) (intakeResult (announceAnswer s id size o w))
   unfolding announceAnswer announceChecks
-  announce-refuses = refuses Refused (λ j k e. cc) _ _ refl (λ k e. cc)
+  announce-decided = decided intakeResult Refused (λ k. refl) _ _ refl refl refl
 
   pub announce-keeps : (k : ℕ) → announceAnswer s id size o w ≡ Refused k → (announceLeft s id size o w ≡ o) × (announceWaiting s id size o w ≡ w)
   unfolding announceAnswer announceLeft announceWaiting
@@ -63,9 +65,9 @@ module _ (s : Intake) (id size : ℕ) (o w : List ℕ) where
 -- ---- part
 
 module _ (s : Intake) (b o w : List ℕ) where
-  pub part-refuses : Refuses (partAnswer s b o w) Refused (partChecks s (length b) (length o) w)
+  pub part-decided : DecidedBy (partChecks s (length b) (length o) w) (intakeResult (partAnswer s b o w))
   unfolding partAnswer partChecks
-  part-refuses = refuses Refused (λ j k e. cc) _ _ refl (λ k e. cc)
+  part-decided = decided intakeResult Refused (λ k. refl) _ _ refl refl refl
 
   pub part-keeps : (k : ℕ) → partAnswer s b o w ≡ Refused k → partLeft s b o w ≡ o
   unfolding partAnswer partLeft
@@ -78,9 +80,9 @@ module _ (s : Intake) (b o w : List ℕ) where
 -- ---- close
 
 module _ (s : Intake) (o w : List ℕ) where
-  pub close-refuses : Refuses (closeAnswer s o w) NotClosed (closeChecks s (length o) w)
+  pub close-decided : DecidedBy (closeChecks s (length o) w) (closeResult (closeAnswer s o w))
   unfolding closeAnswer closeChecks
-  close-refuses = refuses NotClosed (λ j k e. cc) _ _ refl (λ k e. cc)
+  close-decided = decided closeResult NotClosed (λ k. refl) _ _ refl refl refl
 
   pub close-keeps : (k : ℕ) → closeAnswer s o w ≡ NotClosed k → closeLeft s o w ≡ o
   unfolding closeAnswer closeLeft

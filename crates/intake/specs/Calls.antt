@@ -4,6 +4,7 @@ use Prim.Native.Nat.{ℕ, _+_, _*_}
 use mathlib.Core.List.{List}
 use lib.ListN.{length, replicate}
 use Rattle.refusal.specs.Checks.{answered, left}
+use Rattle.refusal.specs.Result.{Result, success, refused}
 use Rattle.endian.specs.Place.{paste}
 use Rattle.sharding.specs.declared.Sharding.{Sharding}
 use Rattle.sharding.specs.placement.Place.{minishardOf}
@@ -63,3 +64,15 @@ closeAnswer s out w = answered NotClosed (closeChecks s (length out) w) (Closed 
 -- RULES N5
 unfoldable pub closeLeft : Intake → List ℕ → List ℕ → List ℕ
 closeLeft s out w = left (closeChecks s (length out) w) (endedLeft s out w) out
+
+-- ---- what the answers tell
+
+-- the next state
+abbrev pub intakeResult : IntakeAnswer → Result Intake
+intakeResult (Next state) = success state
+intakeResult (Refused k) = refused k
+
+-- the state afterwards, and the shard's length
+abbrev pub closeResult : CloseAnswer → Result (Intake × ℕ)
+closeResult (Closed state n) = success (state, n)
+closeResult (NotClosed k) = refused k

@@ -1,10 +1,13 @@
 -- A lookup refuses by its checks.
 use Prim.Native.Nat.{ℕ}
 use mathlib.Core.List.{List}
+use mathlib.Core.Path.{refl}
 use mathlib.Core.Bool.{not, _||_}
 use native.Mathlib.Omega.{arith}
 use lib.Dec.{eqb}
 use Rattle.refusal.specs.Checks.{RefusesAt}
+use Rattle.refusal.specs.Result.{DecidedBy}
+use Rattle.refusal.proofs.Results.{decided-at}
 use Rattle.refusal.proofs.Picks.{AllIn, all-in-both}
 use Rattle.refusal.proofs.Positions.{refusing-at}
 use Rattle.sharding.specs.declared.Sharding.{Sharding}
@@ -16,7 +19,7 @@ use Rattle.shard.proofs.Numbers.{minishard-in, file-in}
 use Rattle.lookup.specs.declared.id_search.LookupAnswer.the-variants.{Refused, Faulty}
 use Rattle.lookup.specs.id_search.Search.{chunkOf}
 use Rattle.lookup.specs.chosen_minishard.Chosen.{chosenChecks, chosenChunk}
-use Rattle.lookup.specs.Find.{lookupChecks, lookupAnswer}
+use Rattle.lookup.specs.Find.{lookupChecks, lookupAnswer, lookupResult}
 
 chosen-in : (spec : Sharding) (shard : ℕ) (x d : List ℕ) (id : ℕ) → AllIn (chosenChecks spec shard x d id)
 unfolding chosenChecks
@@ -33,3 +36,7 @@ module _ (spec : Sharding) (shard : ℕ) (file : List ℕ) (id : ℕ) where
   pub lookup-refuses : RefusesAt (lookupAnswer spec shard file id) Refused Faulty (lookupChecks spec shard file id)
   unfolding lookupAnswer chosenChunk chunkOf
   lookup-refuses = refusing-at Refused Faulty (λ j k e. cc) (λ j k p q e. (cc, cc)) (λ j k p e. cc) (lookupChecks spec shard file id) _ (λ k e. cc) (λ k p e. cc) all-in-lookup
+
+  pub lookup-decided : DecidedBy (lookupChecks spec shard file id) (lookupResult (lookupAnswer spec shard file id))
+  unfolding lookupAnswer chosenChunk chunkOf
+  lookup-decided = decided-at lookupResult Refused (λ k. refl) Faulty (λ k p. (refl, refl, refl)) (lookupChecks spec shard file id) _ refl all-in-lookup

@@ -6,6 +6,7 @@ use mathlib.Core.List.{List, [], _++_}
 use lib.Dec.{eqb}
 use lib.ListN.{take, drop}
 use Rattle.refusal.specs.Checks.{Check, answeredAt}
+use Rattle.refusal.specs.Result.{Result, success, refused, faulty}
 use Rattle.sharding.specs.declared.Sharding.{Sharding}
 use Rattle.sharding.specs.Specification.{noSuchShard}
 use Rattle.sharding.specs.placement.Place.{shardOf}
@@ -26,6 +27,12 @@ lookupChecks spec shard file id =
 unfoldable pub lookupAnswer : Sharding → ℕ → List ℕ → ℕ → LookupAnswer
 lookupAnswer spec shard file id =
     answeredAt Refused Faulty (lookupChecks spec shard file id) (chosenChunk spec (indexPart spec file) (dataPart spec file) id)
+
+-- where the bytes begin, and how many they are
+abbrev pub lookupResult : LookupAnswer → Result (ℕ × ℕ)
+lookupResult (Found start n) = success (start, n)
+lookupResult (Refused k) = refused k
+lookupResult (Faulty k p) = faulty k p
 
 -- the part handed out: the bytes found, or, refused, the empty part at the file's start (RULES L2)
 abbrev pub partStart : LookupAnswer → ℕ

@@ -14,7 +14,6 @@ ghost use Rattle.lookup.specs.Find.{lookupAnswer, partStart, partBytes};
 pub use fragments::fragment;
 pub use fragments::fragment_part;
 pub use id_search::LookupAnswer;
-pub use listings::CountAnswer;
 pub use listings::listed_count;
 pub use listings::listing;
 pub use ranges::chunk_range;

@@ -4,20 +4,13 @@ pub mod inner;
 ghost use mathlib.Core.Path.{_≡_};
 ghost use Rattle.lookup.specs.listings.Listing.{countAnswer, listingAnswer, listingLeft};
 use crate::entries::put_listing;
+use refusal::CountAnswer;
 use shard::lengths::MOST_SHARD_BYTES;
 use shard::lengths::index_length;
 use sharding::Sharding;
 use sharding::limits::is_allowed;
 use sharding::limits::minishard_count;
 use sharding::limits::shard_count;
-
-// How many there are. 7 to 11, for a mesh also 15 to 17 and 21, come with the byte position of what is wrong, counted from the
-// beginning of the shard.
-pub enum CountAnswer {
-    Count(usize),
-    Refused(u8),
-    Faulty { number: u8, position: u64 },
-}
 
 // How many chunks a minishard lists.
 pub fn listed_count(spec: Sharding, shard: u64, file: &[u8], minishard: u64) -> CountAnswer

@@ -44,7 +44,7 @@ use Rattle.lookup_table.specs.sorting.Table.{each, idIn, entryIn, number
 use Rattle.lookup_table.proofs.sorting.Entries.{length-each, each-at, length-numbers}
 use Rattle.lookup_table.specs.finding.Find.{searched, tableAnswer, Rises, OneOf, Finds}
 use Rattle.lookup_table.proofs.finding.Laws.{n-searched, table-first}
-use Rattle.lookup_table.specs.declared.FillAnswer.the-variants.{Filled, Refused, Faulty}
+use Rattle.refusal.specs.declared.CountAnswer.the-variants.{Count, Refused, Faulty}
 use Rattle.lookup_table.specs.Fill.{listed, tableOf, countIn, fillAnswer, fillLeft}
 use Rattle.lookup_table.specs.Says.{Verdict, passes, refuses, faults, told, entriesJudged, judged, fillSays, fillHolds}
 use Rattle.lookup_table.specs.Once.{Together, Once}
@@ -158,11 +158,11 @@ module _ (spec : Sharding) (shard m room at base n : ℕ) (rows rest : List ℕ)
 
 -- ---- what an answer tells of the verdict
 
-says-filled : (v : Verdict) (n : ℕ) (out : List ℕ) (k : ℕ) → fillSays v n out ≡ Filled k → (v ≡ passes) × (3 * n ≤ length out) × (k ≡ n)
+says-filled : (v : Verdict) (n : ℕ) (out : List ℕ) (k : ℕ) → fillSays v n out ≡ Count k → (v ≡ passes) × (3 * n ≤ length out) × (k ≡ n)
 unfolding fillSays
 says-filled passes n out k e = go (ltb (length out) (3 * n)) refl e
   where
-    go : (b : Bool) → ltb (length out) (3 * n) ≡ b → pick b (Refused 13) (Filled n) ≡ Filled k → (passes ≡ passes) × (3 * n ≤ length out) × (k ≡ n)
+    go : (b : Bool) → ltb (length out) (3 * n) ≡ b → pick b (Refused 13) (Count n) ≡ Count k → (passes ≡ passes) × (3 * n ≤ length out) × (k ≡ n)
     go true q p = let z : _≡_ {A = ℕ} 0 1 = cc in absurd (omega arith)
     go false q p = (refl, ltb-false (length out) (3 * n) q, cc)
 says-filled (refuses j) n out k e = let z : _≡_ {A = ℕ} 0 1 = cc in absurd (omega arith)
@@ -172,7 +172,7 @@ says-refused : (v : Verdict) (n : ℕ) (out : List ℕ) (k : ℕ) → fillSays v
 unfolding fillSays
 says-refused passes n out k e = go (ltb (length out) (3 * n)) refl e
   where
-    go : (b : Bool) → ltb (length out) (3 * n) ≡ b → pick b (Refused 13) (Filled n) ≡ Refused k → (passes ≡ refuses k) ⊎ ((length out < 3 * n) × (k ≡ 13))
+    go : (b : Bool) → ltb (length out) (3 * n) ≡ b → pick b (Refused 13) (Count n) ≡ Refused k → (passes ≡ refuses k) ⊎ ((length out < 3 * n) × (k ≡ 13))
     go true q p = inr (ltb-true (length out) (3 * n) q, cc)
     go false q p = let z : _≡_ {A = ℕ} 0 1 = cc in absurd (omega arith)
 says-refused (refuses j) n out k e = inl cc
@@ -182,7 +182,7 @@ says-faulty : (v : Verdict) (n : ℕ) (out : List ℕ) (k p : ℕ) → fillSays 
 unfolding fillSays
 says-faulty passes n out k p e = go (ltb (length out) (3 * n)) e
   where
-    go : (b : Bool) → pick b (Refused 13) (Filled n) ≡ Faulty k p → passes ≡ faults k p
+    go : (b : Bool) → pick b (Refused 13) (Count n) ≡ Faulty k p → passes ≡ faults k p
     go true q = let z : _≡_ {A = ℕ} 0 1 = cc in absurd (omega arith)
     go false q = let z : _≡_ {A = ℕ} 0 1 = cc in absurd (omega arith)
 says-faulty (refuses j) n out k p e = let z : _≡_ {A = ℕ} 0 1 = cc in absurd (omega arith)
@@ -290,7 +290,7 @@ module _ (answer : ℕ → LookupAnswer) (spec : Sharding) (shard id len : ℕ) 
       → answer other ≡ told lookup.Refused lookup.Faulty (judged spec shard id len entry rows) (foundIn (indexLength spec) rows 0 (countIn entry) other)
   answer-told other t = by other t ∙ chunk-together spec shard len t entry rows
 
-  module _ (n : ℕ) (e : fillAnswer spec shard id len entry rows out ≡ Filled n) where
+  module _ (n : ℕ) (e : fillAnswer spec shard id len entry rows out ≡ Count n) where
     filled : (judged spec shard id len entry rows ≡ passes) × (3 * countIn entry ≤ length out) × (n ≡ countIn entry)
     filled = says-filled (judged spec shard id len entry rows) (countIn entry) out n (sym (answer-says spec shard id len entry rows out) ∙ e)
 

@@ -22,7 +22,7 @@ use Rattle.lookup.specs.row_judge.Rows.{rowTests}
 use Rattle.lookup.specs.ranges.Steps.{callChecks, room, badBounds, badSlices, chunkRange}
 use Rattle.lookup.specs.ranges.Says.{entriesSay}
 use Rattle.lookup.proofs.ranges.Answers.{plain-check, placed-check, no-checks, call-first, three-checks, chunk-picks}
-use Rattle.lookup_table.specs.declared.FillAnswer.the-variants.{Filled, Refused, Faulty}
+use Rattle.refusal.specs.declared.CountAnswer.the-variants.{Count, Refused, Faulty}
 use Rattle.lookup_table.specs.Fill.{tableOf, countIn, fillChecks, fillAnswer, fillLeft}
 use Rattle.lookup_table.specs.Says.{Verdict, passes, refuses, faults, told, entriesJudged, judged, fillSays, fillHolds}
 
@@ -104,7 +104,7 @@ left-at {A} cs a b = go (firstNumber cs) (firstPosition cs)
 module _ (spec : Sharding) (shard id len : ℕ) (entry rows out : List ℕ) where
   pub answer-says : fillAnswer spec shard id len entry rows out ≡ fillSays (judged spec shard id len entry rows) (countIn entry) out
   unfolding fillAnswer fillSays
-  answer-says = checks-told Refused Faulty spec shard id len entry rows out (Filled (countIn entry))
+  answer-says = checks-told Refused Faulty spec shard id len entry rows out (Count (countIn entry))
 
   pub left-holds : fillLeft spec shard id len entry rows out ≡ fillHolds (judged spec shard id len entry rows) (indexLength spec) rows (countIn entry) out
   unfolding fillLeft fillHolds

@@ -27,8 +27,8 @@ use Rattle.index_sort.specs.three_rows.Rows.{idOf}
 use Rattle.index_sort.specs.phases.Rows.{sortById}
 use Rattle.lookup_table.specs.sorting.Table.{each, entriesIn, numbersOf, Front}
 use Rattle.lookup_table.proofs.sorting.Entries.{table-over, only-then}
-use Rattle.lookup_table.specs.declared.FillAnswer.{FillAnswer}
-use Rattle.lookup_table.specs.declared.FillAnswer.the-variants.{Filled, Refused, Faulty}
+use Rattle.refusal.specs.declared.CountAnswer.{CountAnswer}
+use Rattle.refusal.specs.declared.CountAnswer.the-variants.{Count, Refused, Faulty}
 use Rattle.lookup_table.specs.Fill.{listed, tableOf, countIn, fillAnswer, fillLeft}
 use Rattle.lookup_table.specs.Says.{passes, refuses, faults, entriesJudged, rowsJudged, judged, fillSays, fillHolds, emptyOr}
 use Rattle.lookup_table.proofs.Verdicts.{answer-says, left-holds}
@@ -100,7 +100,7 @@ module _ (spec : Sharding) (shard id len at count : ℕ) (rows out : List ℕ) w
           short-holds = rw (sound, lt-ltb (length out) (3 * (count / 24)) l)
 
         module _ (l : 3 * (count / 24) ≤ length out) where
-          pub filled-says : Filled (count / 24) ≡ fillSays (rowsJudged spec shard id len at count rows) (count / 24) out
+          pub filled-says : Count (count / 24) ≡ fillSays (rowsJudged spec shard id len at count rows) (count / 24) out
           unfolding fillSays
           filled-says = rw (sound, le-ltb (length out) (3 * (count / 24)) l)
 
@@ -112,7 +112,7 @@ pub ruleset filling = (wrong-says, wrong-holds, faulty-says, faulty-holds, rows-
 
 -- ---- the call
 
-pub is-empty : (k : ℕ) → k ≡ 12 → Filled 0 ≡ emptyOr k
+pub is-empty : (k : ℕ) → k ≡ 12 → Count 0 ≡ emptyOr k
 unfolding emptyOr
 is-empty k e = rw (eq-eqb k 12 e)
 
@@ -134,7 +134,7 @@ module _ (spec : Sharding) (shard id len : ℕ) (entry rows out : List ℕ) {g :
     verdict-is : rowsJudged spec shard id len at k rows ≡ judged spec shard id len entry rows
     verdict-is = sym (by-index spec shard id len entry rows ∙ rw (← h, e))
 
-    pub call-says : {r : FillAnswer} → r ≡ fillSays (rowsJudged spec shard id len at k rows) (k / 24) out → r ≡ fillAnswer spec shard id len entry rows out
+    pub call-says : {r : CountAnswer} → r ≡ fillSays (rowsJudged spec shard id len at k rows) (k / 24) out → r ≡ fillAnswer spec shard id len entry rows out
     call-says p = rw (answer-says spec shard id len entry rows out, ← count-is, ← verdict-is) p
 
     pub call-holds : {d : List ℕ} → d ≡ fillHolds (rowsJudged spec shard id len at k rows) (indexLength spec) rows (k / 24) out → d ≡ fillLeft spec shard id len entry rows out
@@ -154,7 +154,7 @@ module _ (spec : Sharding) (shard id len : ℕ) (entry rows out : List ℕ) {g :
     holds-by true q = rw (twelve-empty spec shard id len entry (sym h ∙ e ∙ ap lookup.Refused (eqb-true k 12 q)), le-ltb (length out) (3 * 0) (omega arith), no-table (indexLength spec) rows)
     holds-by false q = refl
 
-    pub refused-says : {r : FillAnswer} → r ≡ emptyOr k → r ≡ fillAnswer spec shard id len entry rows out
+    pub refused-says : {r : CountAnswer} → r ≡ emptyOr k → r ≡ fillAnswer spec shard id len entry rows out
     refused-says p = rw (answer-says spec shard id len entry rows out, refusal-is) (p ∙ says-by (eqb k 12) refl)
 
     pub refused-holds : out ≡ fillLeft spec shard id len entry rows out

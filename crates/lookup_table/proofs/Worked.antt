@@ -20,8 +20,8 @@ use Rattle.lookup.specs.ranges.Steps.{callChecks, otherLength, badBounds, badSl
 use Rattle.settled_form.specs.Sorted.{notAbove, insertBy, sortBy}
 use Rattle.lookup_table.specs.sorting.Table.{each, numbersOf}
 use Rattle.lookup_table.specs.finding.Find.{hasId, tableAnswer}
-use Rattle.lookup_table.specs.declared.FillAnswer.{FillAnswer}
-use Rattle.lookup_table.specs.declared.FillAnswer.the-variants.{Filled, Refused, Faulty}
+use Rattle.refusal.specs.declared.CountAnswer.{CountAnswer}
+use Rattle.refusal.specs.declared.CountAnswer.the-variants.{Count, Refused, Faulty}
 use Rattle.lookup_table.specs.Fill.{tableOf, fillChecks, fillAnswer, fillLeft}
 
 abbrev pub spec : Sharding
@@ -41,7 +41,7 @@ falling = row (10 ∷ 18446744073709551610 ∷ 2 ∷ 18446744073709551611 ∷ 3 
 unfoldable pub lent : List ℕ
 lent = 1 ∷ 2 ∷ 3 ∷ 4 ∷ 5 ∷ 6 ∷ 7 ∷ []
 
-abbrev pub fills : List FillAnswer
+abbrev pub fills : List CountAnswer
 fills =
     fillAnswer spec 0 10 85 entry rows lent
     ∷ fillAnswer spec 0 10 85 entry falling lent
@@ -59,7 +59,7 @@ abbrev pub found : List LookupAnswer
 found = tableAnswer (4 ∷ 32 ∷ 2 ∷ 10 ∷ 34 ∷ 3 ∷ []) 2 10 ∷ tableAnswer (4 ∷ 32 ∷ 2 ∷ 10 ∷ 34 ∷ 3 ∷ []) 2 6 ∷ []
 
 -- filled with two entries, in either order; an empty table; 13, 31, 7 with its position, 5
-pub filled : fills ≡ Filled 2 ∷ Filled 2 ∷ Filled 0 ∷ Refused 13 ∷ Refused 31 ∷ Faulty 7 16 ∷ Refused 5 ∷ []
+pub filled : fills ≡ Count 2 ∷ Count 2 ∷ Count 0 ∷ Refused 13 ∷ Refused 31 ∷ Faulty 7 16 ∷ Refused 5 ∷ []
 unfolding entry rows falling lent firstNumber firstPosition unless le leAt row sumTo anyBelow first repeats allowed hashedId shardOf minishardOf idAt startAt badLength foreign foreignAt endsPast entryChecks badFileLength rowTests callChecks otherLength badBounds badSlices fillChecks fillAnswer
 filled = refl
 

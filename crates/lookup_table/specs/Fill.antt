@@ -16,8 +16,8 @@ use Rattle.lookup.specs.ranges.Steps.{callChecks, room, entryFaults, badSlices}
 use Rattle.index_sort.specs.declared.three_rows.Entry.{Entry}
 use Rattle.index_sort.specs.phases.Rows.{sortById}
 use Rattle.lookup_table.specs.sorting.Table.{each, numbersOf}
-use Rattle.lookup_table.specs.declared.FillAnswer.{FillAnswer}
-use Rattle.lookup_table.specs.declared.FillAnswer.the-variants.{Filled, Refused, Faulty}
+use Rattle.refusal.specs.declared.CountAnswer.{CountAnswer}
+use Rattle.refusal.specs.declared.CountAnswer.the-variants.{Count, Refused, Faulty}
 
 -- entry i of the n in a minishard index, behind a shard index of `base` bytes: its id, where its chunk lies in the file, how many bytes that has
 abbrev pub listed : ℕ → List ℕ → ℕ → ℕ → Entry
@@ -44,8 +44,8 @@ fillChecks spec shard id len entry rows out =
     (entryChecks (indexLength spec + s) n (rowTests spec shard m (room spec len) rows n) ++ (check 13 (ltb (length out) (3 * n)) ∷ [])))
 
 -- the answer: how many entries the table has, or the refusal
-unfoldable pub fillAnswer : Sharding → ℕ → ℕ → ℕ → List ℕ → List ℕ → List ℕ → FillAnswer
-fillAnswer spec shard id len entry rows out = answeredAt Refused Faulty (fillChecks spec shard id len entry rows out) (Filled (countIn entry))
+unfoldable pub fillAnswer : Sharding → ℕ → ℕ → ℕ → List ℕ → List ℕ → List ℕ → CountAnswer
+fillAnswer spec shard id len entry rows out = answeredAt Refused Faulty (fillChecks spec shard id len entry rows out) (Count (countIn entry))
 
 -- what `out` then holds: the table at its front and past it what was there; on a refusal what it held before
 unfoldable pub fillLeft : Sharding → ℕ → ℕ → ℕ → List ℕ → List ℕ → List ℕ → List ℕ

@@ -14,8 +14,8 @@ use Rattle.shard.specs.Faults.{badLength}
 use Rattle.shard.specs.File.{indexLength}
 use Rattle.lookup.specs.row_judge.Rows.{rowTests}
 use Rattle.lookup.specs.ranges.Steps.{callChecks, otherLength, room, badBounds, badSlices}
-use Rattle.lookup_table.specs.declared.FillAnswer.{FillAnswer}
-use Rattle.lookup_table.specs.declared.FillAnswer.the-variants.{Filled, Refused, Faulty}
+use Rattle.refusal.specs.declared.CountAnswer.{CountAnswer}
+use Rattle.refusal.specs.declared.CountAnswer.the-variants.{Count, Refused, Faulty}
 use Rattle.lookup_table.specs.Fill.{tableOf, countIn}
 
 -- what the judge says, whatever is asked of the entries
@@ -53,12 +53,12 @@ judged spec shard id len entry rows =
 
 -- ---- the answer and what `out` holds, of n entries under a verdict
 
-unfoldable pub fillSays : Verdict → ℕ → List ℕ → FillAnswer
-fillSays v n out = told Refused Faulty v (pick (ltb (length out) (3 * n)) (Refused 13) (Filled n))
+unfoldable pub fillSays : Verdict → ℕ → List ℕ → CountAnswer
+fillSays v n out = told Refused Faulty v (pick (ltb (length out) (3 * n)) (Refused 13) (Count n))
 
 unfoldable pub fillHolds : Verdict → ℕ → List ℕ → ℕ → List ℕ → List ℕ
 fillHolds v base rows n out = told (λ k. out) (λ k p. out) v (pick (ltb (length out) (3 * n)) out (over (tableOf base rows n) out))
 
 -- what the second call of a lookup by ranges refused, with 12 where the minishard is empty
-unfoldable pub emptyOr : ℕ → FillAnswer
-emptyOr number = pick (eqb number 12) (Filled 0) (Refused number)
+unfoldable pub emptyOr : ℕ → CountAnswer
+emptyOr number = pick (eqb number 12) (Count 0) (Refused number)

@@ -12,7 +12,6 @@ ghost use Rattle.lookup.specs.ranges.Says.{Pointed};
 ghost use Rattle.lookup_table.specs.sorting.Table.{each, entriesIn, Front};
 ghost use Rattle.lookup_table.specs.Fill.{listed, tableOf};
 ghost use Rattle.lookup_table.specs.Says.{rowsJudged, fillSays, fillHolds, emptyOr};
-use crate::FillAnswer;
 use crate::sorting::put;
 use crate::sorting::sort_table;
 use index_sort::three_rows::Entry;
@@ -21,6 +20,7 @@ use lookup::row_judge::id_step;
 use lookup::row_judge::rows_fault;
 use lookup::row_judge::size_of;
 use lookup::row_judge::start_step;
+use refusal::CountAnswer;
 use shard::lengths::index_length;
 use sharding::Sharding;
 use sharding::placement::inner::minishard_of;
@@ -71,37 +71,37 @@ pub fn rows_fill(
     count: usize,
     rows: &[u8],
     out: &mut [u64],
-) -> FillAnswer
+) -> CountAnswer
     requires { ⌜ Pointed spec shard id len at count ⌝ }
     ensures { λ r. ⌜ r ≡ fillSays (rowsJudged spec shard id len at count (now (rows .entry))) (count / 24) (now (out .entry)) ⌝ }
     ensures { λ _. ⌜ now (out .exit) ≡ fillHolds (rowsJudged spec shard id len at count (now (rows .entry))) (indexLength spec) (now (rows .entry)) (count / 24) (now (out .entry)) ⌝ }
 {
     if other_length(rows, count) {
-        return FillAnswer::Refused(31);
+        return CountAnswer::Refused(31);
     }
     let n = count / 24;
     let base = index_length(spec);
     let room = len - base as u64;
     let fault = rows_fault(spec, shard, minishard_of(spec, id), room, at, rows, n);
     if fault.number != 0 {
-        return FillAnswer::Faulty {
+        return CountAnswer::Faulty {
             number: fault.number,
             position: fault.position,
         };
     }
     if out.len() < 3 * n {
-        return FillAnswer::Refused(13);
+        return CountAnswer::Refused(13);
     }
     write_table(base, rows, n, out);
-    FillAnswer::Filled(n)
+    CountAnswer::Count(n)
 }
 
 // What the second call of a lookup by ranges refused: 12 is an empty minishard, whose table is empty.
-pub fn empty_or(number: u8) -> FillAnswer
+pub fn empty_or(number: u8) -> CountAnswer
     ensures { λ r. ⌜ r ≡ emptyOr number ⌝ }
 {
     if number == 12 {
-        return FillAnswer::Filled(0);
+        return CountAnswer::Count(0);
     }
-    FillAnswer::Refused(number)
+    CountAnswer::Refused(number)
 }

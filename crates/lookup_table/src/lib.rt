@@ -9,14 +9,8 @@ ghost use Rattle.lookup_table.specs.Fill.{fillAnswer, fillLeft};
 pub use finding::find_in_table;
 use lookup::LookupAnswer;
 use lookup::index_range;
+use refusal::CountAnswer;
 use sharding::Sharding;
-
-// How many entries the table has. 7 to 11 come with a position, as in a lookup.
-pub enum FillAnswer {
-    Filled(usize),
-    Refused(u8),
-    Faulty { number: u8, position: u64 },
-}
 
 // The table of the minishard that `id` belongs to, from the bytes of its entry in the shard index and of its minishard index, in a file of `len` bytes: for
 // each entry its id, where its chunk lies in the file and its length, by rising id, at the front of `out`. Refusals: 1 (of a mesh too), 5, 6, 31 where a
@@ -29,7 +23,7 @@ pub fn fill_table(
     entry: &[u8],
     rows: &[u8],
     out: &mut [u64],
-) -> FillAnswer
+) -> CountAnswer
     ensures answer { λ r. ⌜ r ≡ fillAnswer spec shard id len (now (entry .entry)) (now (rows .entry)) (now (out .entry)) ⌝ }
     ensures table { λ _. ⌜ now (out .exit) ≡ fillLeft spec shard id len (now (entry .entry)) (now (rows .entry)) (now (out .entry)) ⌝ }
 {
@@ -39,6 +33,6 @@ pub fn fill_table(
             filling::rows_fill(spec, shard, id, len, start, length, rows, out)
         }
         LookupAnswer::Refused(number) => filling::empty_or(number),
-        LookupAnswer::Faulty { number, position } => FillAnswer::Faulty { number, position },
+        LookupAnswer::Faulty { number, position } => CountAnswer::Faulty { number, position },
     }
 }

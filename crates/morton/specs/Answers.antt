@@ -3,6 +3,7 @@ use Prim.Native.Nat.{ℕ}
 use mathlib.Core.Bool.{not}
 use mathlib.Core.List.{List, [], _∷_}
 use Rattle.refusal.specs.Checks.{Check, check, answered}
+use Rattle.refusal.specs.Result.{Result, success, refused}
 use Rattle.morton.specs.declared.grid.Volume.{Volume}
 use Rattle.morton.specs.declared.grid.Cell.{Cell}
 use Rattle.morton.specs.grid.Grid.{gridOf, zeroExtent}
@@ -21,6 +22,10 @@ keyChecks v c = check 2 (noCell v c) ∷ check 3 (tooManyBits (gridOf v)) ∷ []
 unfoldable pub keyAnswer : Volume → Cell → KeyAnswer
 keyAnswer v c = answered KeyRefused (keyChecks v c) (Key (keyOf (gridOf v) c))
 
+abbrev pub keyResult : KeyAnswer → Result ℕ
+keyResult (Key key) = success key
+keyResult (KeyRefused k) = refused k
+
 -- ---- the cell of a key
 
 unfoldable pub cellChecks : Volume → ℕ → List Check
@@ -28,3 +33,7 @@ cellChecks v key = check 2 (zeroExtent v) ∷ check 3 (tooManyBits (gridOf v)) �
 
 unfoldable pub cellAnswer : Volume → ℕ → CellAnswer
 cellAnswer v key = answered CellRefused (cellChecks v key) (At (cellOf (gridOf v) key))
+
+abbrev pub cellResult : CellAnswer → Result Cell
+cellResult (At cell) = success cell
+cellResult (CellRefused k) = refused k

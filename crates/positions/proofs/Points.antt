@@ -43,14 +43,12 @@ use Rattle.lookup.specs.Find.{lookupChecks, lookupAnswer}
 use Rattle.lookup.proofs.Refused.{lookup-refuses}
 use Rattle.lookup.specs.fragments.Fragment.{fragmentAnswer}
 use Rattle.lookup.proofs.fragments.Handed.{fragment-faulty}
-use Rattle.lookup.specs.declared.listings.CountAnswer.the-variants as N
+use Rattle.refusal.specs.declared.CountAnswer.the-variants as N
 use Rattle.lookup.specs.listings.Listing.{listingOf, countChecks, countAnswer, listingChecks, listingAnswer}
 use Rattle.lookup.proofs.listings.Refused.{count-refuses, listing-refuses}
 use Rattle.unlisted.specs.ranges.Covered.{fileUnlisted}
-use Rattle.unlisted.specs.declared.UnlistedAnswer.the-variants as U
 use Rattle.unlisted.specs.Answers.{unlistedAnswer}
 use Rattle.unlisted.proofs.Counted.{unlisted-by-check}
-use Rattle.settle.specs.declared.answers.SettleAnswer.the-variants as S
 use Rattle.settle.specs.answers.Answers.{answerOf, lengthIn, settleIn, lengthAnswer, settleAnswer}
 use Rattle.settle.proofs.answers.Answered.{length-by-check, settle-by-check}
 use Rattle.positions.specs.Points.{AtEntry, AtFirst, AtIdStep, AtStartStep, Offending, seven, eight, nine, ten, eleven, fifteen, sixteen, seventeen, twentyone, PointsAt, Named}
@@ -276,10 +274,10 @@ listing-points spec shard file m out k p e =
     let b = before-last (countChecks spec shard file m) (room (listingOf spec file m) out) refl (g .1) in
     counted spec shard file m k p (sym (b .0) ∙ g .0) (b .1)
 
-pub unlisted-named : (spec : Sharding) (shard : ℕ) (file : List ℕ) (k p : ℕ) → unlistedAnswer spec shard file ≡ U.Faulty k p → Named spec shard file k p
+pub unlisted-named : (spec : Sharding) (shard : ℕ) (file : List ℕ) (k p : ℕ) → unlistedAnswer spec shard file ≡ N.Faulty k p → Named spec shard file k p
 unlisted-named spec shard file k p e = go (checkAnswer spec shard file) refl (sym (unlisted-by-check spec shard file) ∙ e)
   where
-    go : (c : CheckAnswer) → checkAnswer spec shard file ≡ c → afterCheck U.Refused U.Faulty c (U.Count (fileUnlisted spec file)) ≡ U.Faulty k p → Named spec shard file k p
+    go : (c : CheckAnswer) → checkAnswer spec shard file ≡ c → afterCheck N.Refused N.Faulty c (N.Count (fileUnlisted spec file)) ≡ N.Faulty k p → Named spec shard file k p
     go Sound q e = let z : _≡_ {A = ℕ} 0 1 = cc in absurd (omega arith)
     go (CheckRefused j) q e = let z : _≡_ {A = ℕ} 0 1 = cc in absurd (omega arith)
     go (Faulty j m i) q e =
@@ -289,7 +287,7 @@ unlisted-named spec shard file k p e = go (checkAnswer spec shard file) refl (sy
         record { minishard = m; named = t; points = check-points spec shard file k m p t }
 
 module _ (spec : Sharding) (shard : ℕ) (file : List ℕ) (k p : ℕ) where
-  named : (c : CheckAnswer) (w : Written) → checkAnswer spec shard file ≡ c → afterCheck S.Refused S.Faulty c (answerOf w) ≡ S.Faulty k p → Named spec shard file k p
+  named : (c : CheckAnswer) (w : Written) → checkAnswer spec shard file ≡ c → afterCheck N.Refused N.Faulty c (answerOf w) ≡ N.Faulty k p → Named spec shard file k p
   named Sound (Wrote n) q e = let z : _≡_ {A = ℕ} 0 1 = cc in absurd (omega arith)
   named Sound (NotWritten n) q e = let z : _≡_ {A = ℕ} 0 1 = cc in absurd (omega arith)
   named (CheckRefused j) w q e = let z : _≡_ {A = ℕ} 0 1 = cc in absurd (omega arith)
@@ -299,9 +297,9 @@ module _ (spec : Sharding) (shard : ℕ) (file : List ℕ) (k p : ℕ) where
       let t : checkAnswer spec shard file ≡ Faulty k m p = rw (u, v) at q in
       record { minishard = m; named = t; points = check-points spec shard file k m p t }
 
-  pub length-named : (dropping : Bool) → lengthAnswer spec shard file dropping ≡ S.Faulty k p → Named spec shard file k p
+  pub length-named : (dropping : Bool) → lengthAnswer spec shard file dropping ≡ N.Faulty k p → Named spec shard file k p
   length-named dropping e = named (checkAnswer spec shard file) (lengthIn spec (indexPart spec file) (dataPart spec file) dropping) refl (sym (length-by-check spec shard file dropping) ∙ e)
 
-pub settle-named : (spec : Sharding) (shard : ℕ) (file : List ℕ) (dropping : Bool) (out : List ℕ) (k p : ℕ) → settleAnswer spec shard file dropping out ≡ S.Faulty k p → Named spec shard file k p
+pub settle-named : (spec : Sharding) (shard : ℕ) (file : List ℕ) (dropping : Bool) (out : List ℕ) (k p : ℕ) → settleAnswer spec shard file dropping out ≡ N.Faulty k p → Named spec shard file k p
 settle-named spec shard file dropping out k p e =
     named spec shard file k p (checkAnswer spec shard file) (settleIn spec (indexPart spec file) (dataPart spec file) dropping out) refl (sym (settle-by-check spec shard file dropping out) ∙ e)

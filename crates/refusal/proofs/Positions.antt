@@ -22,7 +22,7 @@ pick-same : (b : Bool) (p q r : Option ℕ) → p ≡ r → q ≡ r → pick b p
 pick-same true p q r e f = e
 pick-same false p q r e f = f
 
-no-position : (checks : List Check) → Plain checks → firstPosition checks ≡ none
+pub no-position : (checks : List Check) → Plain checks → firstPosition checks ≡ none
 unfolding firstPosition
 no-position [] t = refl
 no-position (c ∷ cs) t = pick-same (c .holds) (c .position) (firstPosition cs) none (t .0) (no-position cs (t .1))

@@ -2,4 +2,5 @@
 pub mod Choice
 pub mod Table
 pub mod Checks
+pub mod Result
 pub mod Buffer

@@ -14,7 +14,7 @@ use Rattle.shard.specs.Sound.{SoundShard}
 use Rattle.settled_form.specs.Content.{fileForm}
 use Rattle.settled_form.proofs.Demand3.{Short, demand-3-form-sound, demand-3-form-same}
 use Rattle.settled_form.proofs.shortest.Listed.{form-listed}
-use Rattle.settle.specs.declared.answers.SettleAnswer.the-variants.{Length, Refused, Faulty}
+use Rattle.refusal.specs.declared.CountAnswer.the-variants.{Count, Refused, Faulty}
 use Rattle.settle.specs.answers.Answers.{lengthAnswer, settleAnswer, settleLeft}
 use Rattle.settle.proofs.answers.Answered.{Ready, length-long, length-fits, answer-long, left-long, answer-fits, left-fits, refused-long}
 
@@ -25,7 +25,7 @@ Longer spec a out = (length out < length (fileForm spec a)) ⊎ (mostShardBytes 
 -- The settled form of a sound shard, at most 1 GiB long, settles to itself in every output long enough for it, whatever the caller asks: nothing in
 -- it is unlisted.
 pub demand-3-form-settles : {spec : Sharding} {shard : ℕ} {a : List ℕ} → SoundShard spec shard a → Short spec a → (dropping : Bool) (out : List ℕ) → length (fileForm spec a) ≤ length out
-    → (settleAnswer spec shard (fileForm spec a) dropping out ≡ Length (length (fileForm spec a))) × (settleLeft spec shard (fileForm spec a) dropping out ≡ over (fileForm spec a) out)
+    → (settleAnswer spec shard (fileForm spec a) dropping out ≡ Count (length (fileForm spec a))) × (settleLeft spec shard (fileForm spec a) dropping out ≡ over (fileForm spec a) out)
 demand-3-form-settles sound short dropping out h =
     let e = demand-3-form-same sound short in
     let s = demand-3-form-sound sound short in
@@ -35,7 +35,7 @@ demand-3-form-settles sound short dropping out h =
 -- The settled length of a sound shard whose unlisted bytes are dropped, or which has none,
 module _ {spec : Sharding} {shard : ℕ} {a : List ℕ} (sound : SoundShard spec shard a) {dropping : Bool} (ready : Ready spec a dropping) where
   -- is answered with the form's length,
-  pub demand-3-length : Short spec a → lengthAnswer spec shard a dropping ≡ Length (length (fileForm spec a))
+  pub demand-3-length : Short spec a → lengthAnswer spec shard a dropping ≡ Count (length (fileForm spec a))
   demand-3-length short = length-fits sound ready short
 
   -- or refused with 13 where that is above 1 GiB.
@@ -54,5 +54,5 @@ module _ {spec : Sharding} {shard : ℕ} {a : List ℕ} (sound : SoundShard spec
 
   -- Otherwise it reports the form's length, and writes exactly the form: past it the output is as it was.
   pub demand-3-written : length (fileForm spec a) ≤ length out → Short spec a
-      → (settleAnswer spec shard a dropping out ≡ Length (length (fileForm spec a))) × (settleLeft spec shard a dropping out ≡ over (fileForm spec a) out)
+      → (settleAnswer spec shard a dropping out ≡ Count (length (fileForm spec a))) × (settleLeft spec shard a dropping out ≡ over (fileForm spec a) out)
   demand-3-written h short = (answer-fits sound ready out h short, left-fits sound ready out h short)

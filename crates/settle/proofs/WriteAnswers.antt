@@ -15,8 +15,8 @@ use Rattle.shard.proofs.AfterCheck.{passed-sound, passed-allowed, passed-held, 
 use Rattle.unlisted.specs.runs.Reading.{RangedShard}
 use Rattle.unlisted.proofs.Counted.{sound-ranged}
 use Rattle.settle.specs.length.Settleable.{SettleableShard}
-use Rattle.settle.specs.declared.answers.SettleAnswer.{SettleAnswer}
-use Rattle.settle.specs.declared.answers.SettleAnswer.the-variants.{Refused, Faulty}
+use Rattle.refusal.specs.declared.CountAnswer.{CountAnswer}
+use Rattle.refusal.specs.declared.CountAnswer.the-variants.{Refused, Faulty}
 use Rattle.settle.specs.answers.Answers.{answerOf, lengthIn, settleIn, leftIn, lengthAnswer, settleAnswer, settleLeft}
 use Rattle.settle.proofs.answers.Answered.{length-by-check, settle-by-check, left-by-check}
 use Rattle.settle.proofs.parts.WriteAnswers.{sound-settleable}
@@ -53,10 +53,10 @@ module _ (spec : Sharding) (shard : ℕ) (file : List ℕ) (dropping : Bool) {a 
       pub passed-ranges : RangedShard spec (take n file) (restOf n file)
       passed-ranges = rw (rest-whole n file, c) (sound-ranged (passed-sound spec shard file e q))
 
-      pub length-passed : {w : Written} {r : SettleAnswer} → w ≡ lengthIn spec (take n file) (restOf n file) dropping → r ≡ answerOf w → r ≡ lengthAnswer spec shard file dropping
+      pub length-passed : {w : Written} {r : CountAnswer} → w ≡ lengthIn spec (take n file) (restOf n file) dropping → r ≡ answerOf w → r ≡ lengthAnswer spec shard file dropping
       length-passed h g = rw (length-by-check spec shard file dropping, ← e, q) (g ∙ ap (λ (w : Written). answerOf w) (rw (rest-whole n file, c) at h))
 
-      pub settle-passed : (out : List ℕ) {w : Written} {r : SettleAnswer} → w ≡ settleIn spec (take n file) (restOf n file) dropping out → r ≡ answerOf w → r ≡ settleAnswer spec shard file dropping out
+      pub settle-passed : (out : List ℕ) {w : Written} {r : CountAnswer} → w ≡ settleIn spec (take n file) (restOf n file) dropping out → r ≡ answerOf w → r ≡ settleAnswer spec shard file dropping out
       settle-passed out h g = rw (settle-by-check spec shard file dropping out, ← e, q) (g ∙ ap (λ (w : Written). answerOf w) (rw (rest-whole n file, c) at h))
 
       pub left-passed : (out : List ℕ) {o : List ℕ} → o ≡ leftIn spec (take n file) (restOf n file) dropping out → o ≡ settleLeft spec shard file dropping out

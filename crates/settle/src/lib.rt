@@ -12,15 +12,15 @@ pub mod writing;
 
 ghost use mathlib.Core.Path.{_≡_};
 ghost use Rattle.settle.specs.answers.Answers.{lengthAnswer, settleAnswer, settleLeft};
-use crate::answers::SettleAnswer;
 use crate::answers::answer_of;
+use refusal::CountAnswer;
 use shard::CheckAnswer;
 use shard::check;
 use shard::lengths::index_length;
 use sharding::Sharding;
 
 // The length of the settled form of a sound shard, or the refusal. Unlisted bytes are refused unless the caller asks for `dropping` them.
-pub fn settled_length(spec: Sharding, shard: u64, file: &[u8], dropping: bool) -> SettleAnswer
+pub fn settled_length(spec: Sharding, shard: u64, file: &[u8], dropping: bool) -> CountAnswer
     ensures answer { λ r. ⌜ r ≡ lengthAnswer spec shard (now (file .entry)) dropping ⌝ }
 {
     match check(spec, shard, file) {
@@ -28,12 +28,12 @@ pub fn settled_length(spec: Sharding, shard: u64, file: &[u8], dropping: bool) -
             let n = index_length(spec);
             answer_of(parts::length_answer(spec, &file[..n], &file[n..], dropping))
         }
-        CheckAnswer::Refused(number) => SettleAnswer::Refused(number),
+        CheckAnswer::Refused(number) => CountAnswer::Refused(number),
         CheckAnswer::Faulty {
             number,
             minishard: _,
             position,
-        } => SettleAnswer::Faulty { number, position },
+        } => CountAnswer::Faulty { number, position },
     }
 }
 
@@ -45,7 +45,7 @@ pub fn settle(
     file: &[u8],
     dropping: bool,
     out: &mut [u8],
-) -> SettleAnswer
+) -> CountAnswer
     ensures answer { λ r. ⌜ r ≡ settleAnswer spec shard (now (file .entry)) dropping (now (out .entry)) ⌝ }
     ensures out { λ _. ⌜ now (out .exit) ≡ settleLeft spec shard (now (file .entry)) dropping (now (out .entry)) ⌝ }
 {
@@ -54,11 +54,11 @@ pub fn settle(
             let n = index_length(spec);
             answer_of(parts::settle_answer(spec, &file[..n], &file[n..], dropping, out))
         }
-        CheckAnswer::Refused(number) => SettleAnswer::Refused(number),
+        CheckAnswer::Refused(number) => CountAnswer::Refused(number),
         CheckAnswer::Faulty {
             number,
             minishard: _,
             position,
-        } => SettleAnswer::Faulty { number, position },
+        } => CountAnswer::Faulty { number, position },
     }
 }

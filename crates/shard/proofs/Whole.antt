@@ -8,18 +8,20 @@ use native.Mathlib.Nat.{eq-or-lt-of-le}
 use native.Mathlib.Omega.{arith}
 use borrow.Author.Tests.{leb-false, lt-leb, eq-eqb, ne-eqb}
 use Rattle.refusal.specs.Checks.{firstNumber, unless, Refuses}
-use Rattle.refusal.proofs.Refusing.{orElse, first-both, refuses}
+use Rattle.refusal.specs.Result.{DecidedBy}
+use Rattle.refusal.proofs.Results.{decided-at}
+use Rattle.refusal.proofs.Refusing.{refuses}
 use Rattle.sharding.specs.declared.Sharding.{Sharding}
 use Rattle.sharding.specs.Specification.{minishardCount, shardCount, noSuchShard}
 use Rattle.shard.specs.declared.index.Fault.{Fault}
 use Rattle.shard.specs.declared.ShardFault.{ShardFault}
+use Rattle.shard.specs.declared.CheckAnswer.{CheckAnswer}
 use Rattle.shard.specs.declared.CheckAnswer.the-variants.{Sound, Refused, Faulty}
 use Rattle.shard.specs.Faults.{faultOf, noFault, orLater, firstFault, shardFault}
-use Rattle.shard.specs.Checks.{minishardsChecks}
-use Rattle.shard.specs.File.{indexPart, dataPart, fileChecks, shardChecks, checkVerdict, checkAnswer, checkNumber}
+use Rattle.shard.specs.File.{indexPart, dataPart, fileChecks, shardChecks, checkVerdict, checkAnswer, checkResult}
 use Rattle.shard.specs.Sound.{SoundShard, FirstFaultIs}
 use Rattle.shard.proofs.Judged.{passes-minishard, minishard-passes}
-use Rattle.shard.proofs.Numbers.{unless-some, Called, file-called, called-file, file-in, minishard-number, minishard-position, minishards-number}
+use Rattle.shard.proofs.Numbers.{unless-some, shard-in, shard-answer, Called, file-called, called-file, file-in, minishard-number, minishard-position}
 
 -- ---- the first fault of k minishards from m on
 
@@ -117,25 +119,11 @@ own-fault spec shard x d m e =
 
 -- ---- its answer: a refusal of the call, with the number a, or else the first fault
 
-check-of : (a : ℕ) (f : ShardFault) → checkNumber (unless Refused a (checkVerdict f)) ≡ orElse a (f .number)
-check-of a f = go a (f .number)
-  where
-    go : (a n : ℕ) → checkNumber (unless Refused a (unless (λ k. Faulty k (f .minishard) (f .position)) n Sound)) ≡ orElse a n
-    go zero zero = unfold unless orElse in refl
-    go zero (suc n) = unfold unless orElse in refl
-    go (suc a) n = unfold unless orElse in refl
-
 given-sound : (a n m p : ℕ) → unless Refused a (unless (λ k. Faulty k m p) n Sound) ≡ Sound → (a ≡ 0) × (n ≡ 0)
 unfolding unless
 given-sound zero zero m p e = (refl, refl)
 given-sound zero (suc n) m p e = let z : _≡_ {A = ℕ} 0 1 = cc in absurd (omega arith)
 given-sound (suc a) n m p e = let z : _≡_ {A = ℕ} 0 1 = cc in absurd (omega arith)
-
-given-none : (a n m p : ℕ) → checkNumber (unless Refused a (unless (λ k. Faulty k m p) n Sound)) ≡ 0 → unless Refused a (unless (λ k. Faulty k m p) n Sound) ≡ Sound
-unfolding unless
-given-none zero zero m p e = refl
-given-none zero (suc n) m p e = absurd (omega arith)
-given-none (suc a) n m p e = absurd (omega arith)
 
 given-faulty : (a n i q k m p : ℕ) → unless Refused a (unless (λ j. Faulty j i q) n Sound) ≡ Faulty k m p → (a ≡ 0) × (n ≡ 0 → ⊥) × (n ≡ k) × (i ≡ m) × (q ≡ p)
 unfolding unless
@@ -158,19 +146,18 @@ module _ (spec : Sharding) (shard : ℕ) (file : List ℕ) where
   abbrev f : ℕ → Fault
   f = faultOf spec shard index d
 
-  -- the number that it gives is that of the first check of the shard that holds
-  pub check-number : checkNumber (checkAnswer spec shard file) ≡ firstNumber (shardChecks spec shard file)
-  unfolding checkAnswer shardChecks shardFault
-  check-number =
-      check-of (firstNumber (fileChecks spec (noSuchShard spec shard) file)) (firstFault f 0 (minishardCount spec))
-      ∙ sym
-      (first-both (fileChecks spec (noSuchShard spec shard) file) (minishardsChecks spec shard index d 0 (minishardCount spec)) (file-in spec (noSuchShard spec shard) file)
-      ∙ ap (orElse (firstNumber (fileChecks spec (noSuchShard spec shard) file))) (minishards-number spec shard index d 0 (minishardCount spec)))
-
   -- 1, 5 and 6 come alone
   pub check-refuses : Refuses (checkAnswer spec shard file) Refused (fileChecks spec (noSuchShard spec shard) file)
   unfolding checkAnswer fileChecks
   check-refuses = refuses Refused (λ j k e. cc) (fileChecks spec (noSuchShard spec shard) file) _ refl (never-refused _ _ _)
+
+  -- all of its checks decide it
+  pub check-decided : DecidedBy (shardChecks spec shard file) (checkResult (checkAnswer spec shard file))
+  unfolding checkAnswer
+  check-decided =
+      let at : ℕ → ℕ → CheckAnswer = λ k p. Faulty k (shardFault spec shard index d .minishard) p in
+      rw (sym (shard-answer spec shard file Refused at Sound))
+      (decided-at checkResult Refused (λ k. refl) at (λ k p. (refl, refl, refl)) (shardChecks spec shard file) Sound refl (shard-in spec shard file))
 
   pub check-passes-sound : checkAnswer spec shard file ≡ Sound → SoundShard spec shard file
   unfolding checkAnswer shardFault
@@ -193,11 +180,6 @@ module _ (spec : Sharding) (shard : ℕ) (file : List ℕ) where
         called-file c,
         each-faultless f 0 (minishardCount spec) (λ m o l. ap (λ (x : Fault). x .number) (minishard-passes spec shard index d m (g .each m (omega arith)))),
       )
-
-  -- it passes exactly where no check of the shard holds
-  pub check-passes : (checkAnswer spec shard file ≡ Sound) ↔ (firstNumber (shardChecks spec shard file) ≡ 0)
-  unfolding checkAnswer
-  check-passes = ((λ e. sym check-number ∙ ap checkNumber e), (λ z. given-none _ _ _ _ (check-number ∙ z)))
 
   -- it names minishard m with k and p exactly where m is the first with a fault, k is the first number that holds of it and p its position
   pub check-names : (k m p : ℕ) → (checkAnswer spec shard file ≡ Faulty k m p) ↔ FirstFaultIs spec shard file k m p

@@ -6,6 +6,7 @@ use mathlib.Core.List.{List, [], _∷_, _++_}
 use lib.Dec.{ltb}
 use lib.ListN.{length, take, drop}
 use Rattle.refusal.specs.Checks.{Check, check, unless, answered}
+use Rattle.refusal.specs.Result.{Result, success, refused, faultyIn}
 use Rattle.sharding.specs.declared.Sharding.{Sharding}
 use Rattle.sharding.specs.Specification.{allowed, minishardCount, noSuchShard}
 use Rattle.shard.specs.index.Index.{mostShardBytes}
@@ -54,8 +55,7 @@ checkAnswer spec shard file =
     answered Refused (fileChecks spec (noSuchShard spec shard) file)
     (checkVerdict (shardFault spec shard (indexPart spec file) (dataPart spec file)))
 
--- the number in its answer; 0 where it passes
-abbrev pub checkNumber : CheckAnswer → ℕ
-checkNumber Sound = 0
-checkNumber (Refused k) = k
-checkNumber (Faulty k m p) = k
+abbrev pub checkResult : CheckAnswer → Result (Unit {0})
+checkResult Sound = success tt
+checkResult (Refused k) = refused k
+checkResult (Faulty k m p) = faultyIn k m p

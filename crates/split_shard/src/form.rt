@@ -4,10 +4,9 @@ ghost use mathlib.Core.Path.{_≡_};
 ghost use Rattle.split_shard.specs.form.Answers.{pairCount, pairListing, pairListingLeft, pairUnlisted, pairLength, pairSettle, pairSettleLeft};
 use crate::check;
 use crate::seam::inner::length_number;
-use lookup::CountAnswer;
 use lookup::entries::put_listing;
 use lookup::listings::inner::count_parts;
-use settle::answers::SettleAnswer;
+use refusal::CountAnswer;
 use settle::answers::answer_of;
 use settle::parts::length_answer;
 use settle::parts::settle_answer;
@@ -16,7 +15,6 @@ use sharding::Sharding;
 use sharding::limits::is_allowed;
 use sharding::limits::minishard_count;
 use sharding::limits::shard_count;
-use unlisted::UnlistedAnswer;
 use unlisted::counting::unlisted;
 
 // How many chunks a minishard lists.
@@ -71,17 +69,17 @@ pub fn listing(
 }
 
 // The number of unlisted bytes of a sound pair, or the refusal.
-pub fn unlisted_count(spec: Sharding, shard: u64, index: &[u8], data: &[u8]) -> UnlistedAnswer
+pub fn unlisted_count(spec: Sharding, shard: u64, index: &[u8], data: &[u8]) -> CountAnswer
     ensures answer { λ r. ⌜ r ≡ pairUnlisted spec shard (now (index .entry)) (now («data» .entry)) ⌝ }
 {
     match check(spec, shard, index, data) {
-        CheckAnswer::Sound => UnlistedAnswer::Count(unlisted(spec, index, data)),
-        CheckAnswer::Refused(number) => UnlistedAnswer::Refused(number),
+        CheckAnswer::Sound => CountAnswer::Count(unlisted(spec, index, data) as usize),
+        CheckAnswer::Refused(number) => CountAnswer::Refused(number),
         CheckAnswer::Faulty {
             number,
             minishard: _,
             position,
-        } => UnlistedAnswer::Faulty { number, position },
+        } => CountAnswer::Faulty { number, position },
     }
 }
 
@@ -92,17 +90,17 @@ pub fn settled_length(
     index: &[u8],
     data: &[u8],
     dropping: bool,
-) -> SettleAnswer
+) -> CountAnswer
     ensures answer { λ r. ⌜ r ≡ pairLength spec shard (now (index .entry)) (now («data» .entry)) dropping ⌝ }
 {
     match check(spec, shard, index, data) {
         CheckAnswer::Sound => answer_of(length_answer(spec, index, data, dropping)),
-        CheckAnswer::Refused(number) => SettleAnswer::Refused(number),
+        CheckAnswer::Refused(number) => CountAnswer::Refused(number),
         CheckAnswer::Faulty {
             number,
             minishard: _,
             position,
-        } => SettleAnswer::Faulty { number, position },
+        } => CountAnswer::Faulty { number, position },
     }
 }
 
@@ -114,17 +112,17 @@ pub fn settle(
     data: &[u8],
     dropping: bool,
     out: &mut [u8],
-) -> SettleAnswer
+) -> CountAnswer
     ensures answer { λ r. ⌜ r ≡ pairSettle spec shard (now (index .entry)) (now («data» .entry)) dropping (now (out .entry)) ⌝ }
     ensures out { λ _. ⌜ now (out .exit) ≡ pairSettleLeft spec shard (now (index .entry)) (now («data» .entry)) dropping (now (out .entry)) ⌝ }
 {
     match check(spec, shard, index, data) {
         CheckAnswer::Sound => answer_of(settle_answer(spec, index, data, dropping, out)),
-        CheckAnswer::Refused(number) => SettleAnswer::Refused(number),
+        CheckAnswer::Refused(number) => CountAnswer::Refused(number),
         CheckAnswer::Faulty {
             number,
             minishard: _,
             position,
-        } => SettleAnswer::Faulty { number, position },
+        } => CountAnswer::Faulty { number, position },
     }
 }

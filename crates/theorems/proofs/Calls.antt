@@ -3,10 +3,12 @@ use Prim.Native.Nat.{ℕ}
 use mathlib.Core.Path.{_≡_, refl}
 use mathlib.Core.Bool.{Bool, true, false}
 use mathlib.Core.List.{List}
+use lib.Ieee.{binary32, toBits}
 use Rattle.refusal.specs.Choice.{pick}
-use Rattle.refusal.specs.Checks.{Refuses}
+use Rattle.refusal.specs.Result.{success, writtenResult, DecidedBy}
 use Rattle.refusal.specs.declared.Written.the-variants.{Refused}
-use Rattle.refusal.proofs.Refusing.{refuses, keeping}
+use Rattle.refusal.proofs.Refusing.{keeping}
+use Rattle.refusal.proofs.Results.{decided}
 use Rattle.morton.specs.declared.grid.Volume.{Volume}
 use Rattle.morton.specs.declared.grid.Cell.{Cell}
 use Rattle.morton.specs.declared.bounds.Point.{Point}
@@ -14,89 +16,90 @@ use Rattle.morton.specs.declared.grid.GridAnswer.the-variants as G
 use Rattle.morton.specs.declared.KeyAnswer.the-variants as K
 use Rattle.morton.specs.declared.CellAnswer.the-variants as C
 use Rattle.morton.specs.declared.bounds.BoundsAnswer.the-variants as B
-use Rattle.morton.specs.grid.Answers.{gridChecks, gridAnswer}
-use Rattle.morton.specs.Answers.{keyChecks, keyAnswer, cellChecks, cellAnswer}
-use Rattle.morton.specs.bounds.Answers.{boundsChecks, boundsAnswer}
+use Rattle.morton.specs.grid.Answers.{gridChecks, gridAnswer, gridResult}
+use Rattle.morton.specs.Answers.{keyChecks, keyAnswer, cellChecks, cellAnswer, keyResult, cellResult}
+use Rattle.morton.specs.bounds.Answers.{boundsChecks, boundsAnswer, boundsResult}
 use Rattle.morton.specs.batch.Batch.{keysChecks, keysAnswer, keysLeft}
 use Rattle.cover.specs.overlap.Cover.{coverChecks, coverAnswer, coverLeft}
 use Rattle.sharding.specs.declared.Sharding.{Sharding}
 use Rattle.sharding.specs.declared.placement.PlaceAnswer.the-variants as P
-use Rattle.sharding.specs.placement.Place.{placeChecks, placeAnswer}
+use Rattle.sharding.specs.placement.Place.{placeChecks, placeAnswer, placeResult}
 use Rattle.sharding.specs.batch.Batch.{placesChecks, placesAnswer, shardsLeft, minishardsLeft}
 use Rattle.names.specs.chunks.Chunks.{chunkNameChecks, chunkNameAnswer, chunkNameLeft}
 use Rattle.names.specs.Shards.{fileNameChecks, fileNameAnswer, fileNameLeft}
 use Rattle.names.specs.declared.FileKind.{FileKind}
 use Rattle.card.specs.declared.Card.{Card}
 use Rattle.card.specs.declared.CardAnswer.the-variants as D
-use Rattle.card.specs.Answers.{recordChecks, readChecks, readAnswer, writeChecks, writeAnswer, writeLeft}
+use Rattle.card.specs.Answers.{recordChecks, readChecks, readAnswer, writeChecks, writeAnswer, writeLeft, cardResult}
+use Rattle.info.specs.Answers.{infoChecks, infoAnswer}
 use Rattle.mesh_manifest.specs.declared.sound.ManifestAnswer.the-variants as M
 use Rattle.mesh_manifest.specs.declared.HeaderAnswer.the-variants as H
 use Rattle.mesh_manifest.specs.declared.Field.the-variants as F
 use Rattle.mesh_manifest.specs.layout.Layout.{levelsOf, isReal, manifestItem}
 use Rattle.mesh_manifest.specs.layout.Bits.{realAt}
-use Rattle.mesh_manifest.specs.sound.Verdict.{manifestChecks, manifestAnswer}
-use Rattle.mesh_manifest.specs.Fields.{headerAnswer, fieldAt, fieldChecks, fieldAnswer}
+use Rattle.mesh_manifest.specs.sound.Verdict.{manifestChecks, manifestAnswer, manifestResult}
+use Rattle.mesh_manifest.specs.Fields.{headerAnswer, fieldAt, fieldChecks, fieldAnswer, headerResult, fieldResult}
 use Rattle.mesh_manifest.specs.declared.nodes.NodeAnswer.the-variants as O
-use Rattle.mesh_manifest.specs.nodes.Nodes.{nodeChecks, nodeAnswer}
+use Rattle.mesh_manifest.specs.nodes.Nodes.{nodeChecks, nodeAnswer, nodeResult}
 use Rattle.mesh_manifest.specs.level.Level.{nodesChecks, nodesAnswer, nodesLeft}
 use Rattle.mesh_manifest.specs.declared.corners.CornersAnswer.the-variants as Cs
-use Rattle.mesh_manifest.specs.corners.Boxes.{boxChecks, cornersChecks, cornersAnswer}
+use Rattle.mesh_manifest.specs.corners.Boxes.{boxChecks, cornersChecks, cornersAnswer, cornersResult}
 use Rattle.compressed_segmentation.specs.declared.Shape.{Shape}
 use Rattle.compressed_segmentation.specs.declared.LabelAnswer.the-variants as E
-use Rattle.compressed_segmentation.specs.Labels.{labelChecks, labelAnswer}
+use Rattle.compressed_segmentation.specs.Labels.{labelChecks, labelAnswer, labelResult}
 use Rattle.compressed_segmentation.specs.raw_form.Raw.{unpackChecks, unpackAnswer, unpackLeft, unpackedLengthChecks, lengthAnswer}
 
 -- ---- grids, places and names
 
 module _ (v : Volume) where
-  pub grid-refuses : Refuses (gridAnswer v) G.Refused (gridChecks v)
+  pub grid-decided : DecidedBy (gridChecks v) (gridResult (gridAnswer v))
   unfolding gridAnswer gridChecks
-  grid-refuses = refuses G.Refused (λ j k e. cc) (gridChecks v) _ refl (λ k e. cc)
+  grid-decided = decided gridResult G.Refused (λ k. refl) (gridChecks v) _ refl refl refl
 
-  pub key-refuses : (c : Cell) → Refuses (keyAnswer v c) K.Refused (keyChecks v c)
+  pub key-decided : (c : Cell) → DecidedBy (keyChecks v c) (keyResult (keyAnswer v c))
   unfolding keyAnswer keyChecks
-  key-refuses c = refuses K.Refused (λ j k e. cc) (keyChecks v c) _ refl (λ k e. cc)
+  key-decided c = decided keyResult K.Refused (λ k. refl) (keyChecks v c) _ refl refl refl
 
-  pub keys-refuses : (cells : List Cell) (out : List ℕ) → Refuses (keysAnswer v cells out) Refused (keysChecks v cells out)
+  pub keys-decided : (cells : List Cell) (out : List ℕ) → DecidedBy (keysChecks v cells out) (writtenResult (keysAnswer v cells out))
   unfolding keysAnswer keysChecks
-  keys-refuses cells out = refuses Refused (λ j k e. cc) (keysChecks v cells out) _ refl (λ k e. cc)
+  keys-decided cells out = decided writtenResult Refused (λ k. refl) (keysChecks v cells out) _ refl refl refl
 
   pub keys-kept : (cells : List Cell) (out : List ℕ) (k : ℕ) → keysAnswer v cells out ≡ Refused k → keysLeft v cells out ≡ out
   unfolding keysAnswer keysLeft
   keys-kept cells out k e = keeping Refused (keysChecks v cells out) _ _ out k (λ h. cc) e
 
-  pub cover-refuses : (lower upper : Point) (out : List ℕ) → Refuses (coverAnswer v lower upper out) Refused (coverChecks v lower upper out)
+  pub cover-decided : (lower upper : Point) (out : List ℕ) → DecidedBy (coverChecks v lower upper out) (writtenResult (coverAnswer v lower upper out))
   unfolding coverAnswer coverChecks
-  cover-refuses lower upper out = refuses Refused (λ j k e. cc) (coverChecks v lower upper out) _ refl (λ k e. cc)
+  cover-decided lower upper out = decided writtenResult Refused (λ k. refl) (coverChecks v lower upper out) _ refl refl refl
 
   pub cover-kept : (lower upper : Point) (out : List ℕ) (k : ℕ) → coverAnswer v lower upper out ≡ Refused k → coverLeft v lower upper out ≡ out
   unfolding coverAnswer coverLeft
   cover-kept lower upper out k e = keeping Refused (coverChecks v lower upper out) _ _ out k (λ h. cc) e
 
-  pub cell-refuses : (key : ℕ) → Refuses (cellAnswer v key) C.Refused (cellChecks v key)
+  pub cell-decided : (key : ℕ) → DecidedBy (cellChecks v key) (cellResult (cellAnswer v key))
   unfolding cellAnswer cellChecks
-  cell-refuses key = refuses C.Refused (λ j k e. cc) (cellChecks v key) _ refl (λ k e. cc)
+  cell-decided key = decided cellResult C.Refused (λ k. refl) (cellChecks v key) _ refl refl refl
 
-  pub bounds-refuses : (c : Cell) → Refuses (boundsAnswer v c) B.Refused (boundsChecks v c)
+  pub bounds-decided : (c : Cell) → DecidedBy (boundsChecks v c) (boundsResult (boundsAnswer v c))
   unfolding boundsAnswer boundsChecks
-  bounds-refuses c = refuses B.Refused (λ j k e. cc) (boundsChecks v c) _ refl (λ k e. cc)
+  bounds-decided c = decided boundsResult B.Refused (λ k. refl) (boundsChecks v c) _ refl refl refl
 
-  pub chunk-name-refuses : (c : Cell) (out : List ℕ) → Refuses (chunkNameAnswer v c out) Refused (chunkNameChecks v c out)
+  pub chunk-name-decided : (c : Cell) (out : List ℕ) → DecidedBy (chunkNameChecks v c out) (writtenResult (chunkNameAnswer v c out))
   unfolding chunkNameAnswer chunkNameChecks
-  chunk-name-refuses c out = refuses Refused (λ j k e. cc) (chunkNameChecks v c out) _ refl (λ k e. cc)
+  chunk-name-decided c out = decided writtenResult Refused (λ k. refl) (chunkNameChecks v c out) _ refl refl refl
 
   pub chunk-name-kept : (c : Cell) (out : List ℕ) (k : ℕ) → chunkNameAnswer v c out ≡ Refused k → chunkNameLeft v c out ≡ out
   unfolding chunkNameAnswer chunkNameLeft
   chunk-name-kept c out k e = keeping Refused (chunkNameChecks v c out) _ _ out k (λ h. cc) e
 
 module _ (spec : Sharding) where
-  pub place-refuses : (id : ℕ) → Refuses (placeAnswer spec id) P.Refused (placeChecks spec)
+  pub place-decided : (id : ℕ) → DecidedBy (placeChecks spec) (placeResult (placeAnswer spec id))
   unfolding placeAnswer placeChecks
-  place-refuses id = refuses P.Refused (λ j k e. cc) (placeChecks spec) _ refl (λ k e. cc)
+  place-decided id = decided placeResult P.Refused (λ k. refl) (placeChecks spec) _ refl refl refl
 
-  pub places-refuses : (ids shards minishards : List ℕ) → Refuses (placesAnswer spec ids shards minishards) Refused (placesChecks spec ids shards minishards)
+  pub places-decided : (ids shards minishards : List ℕ) → DecidedBy (placesChecks spec ids shards minishards) (writtenResult (placesAnswer spec ids shards minishards))
   unfolding placesAnswer placesChecks
-  places-refuses ids shards minishards = refuses Refused (λ j k e. cc) (placesChecks spec ids shards minishards) _ refl (λ k e. cc)
+  places-decided ids shards minishards = decided writtenResult Refused (λ k. refl) (placesChecks spec ids shards minishards) _ refl refl refl
 
   pub places-kept : (ids shards minishards : List ℕ) (k : ℕ) → placesAnswer spec ids shards minishards ≡ Refused k
       → (shardsLeft spec ids shards minishards ≡ shards) × (minishardsLeft spec ids shards minishards ≡ minishards)
@@ -105,9 +108,9 @@ module _ (spec : Sharding) where
       let checks = placesChecks spec ids shards minishards in
       (keeping Refused checks _ _ shards k (λ h. cc) e, keeping Refused checks _ _ minishards k (λ h. cc) e)
 
-  pub file-name-refuses : (kind : FileKind) (shard : ℕ) (out : List ℕ) → Refuses (fileNameAnswer kind spec shard out) Refused (fileNameChecks kind spec shard out)
+  pub file-name-decided : (kind : FileKind) (shard : ℕ) (out : List ℕ) → DecidedBy (fileNameChecks kind spec shard out) (writtenResult (fileNameAnswer kind spec shard out))
   unfolding fileNameAnswer fileNameChecks
-  file-name-refuses kind shard out = refuses Refused (λ j k e. cc) (fileNameChecks kind spec shard out) _ refl (λ k e. cc)
+  file-name-decided kind shard out = decided writtenResult Refused (λ k. refl) (fileNameChecks kind spec shard out) _ refl refl refl
 
   pub file-name-kept : (kind : FileKind) (shard : ℕ) (out : List ℕ) (k : ℕ) → fileNameAnswer kind spec shard out ≡ Refused k → fileNameLeft kind spec shard out ≡ out
   unfolding fileNameAnswer fileNameLeft
@@ -115,14 +118,18 @@ module _ (spec : Sharding) where
 
 -- ---- cards
 
-pub card-read-refuses : (s : List ℕ) → Refuses (readAnswer s) D.Refused (readChecks s)
+pub card-read-decided : (s : List ℕ) → DecidedBy (readChecks s) (cardResult (readAnswer s))
 unfolding readAnswer readChecks recordChecks
-card-read-refuses s = refuses D.Refused (λ j k e. cc) (readChecks s) _ refl (λ k e. cc)
+card-read-decided s = decided cardResult D.Refused (λ k. refl) (readChecks s) _ refl refl refl
+
+pub info-decided : (s : List ℕ) (scale : ℕ) → DecidedBy (infoChecks s scale) (cardResult (infoAnswer s scale))
+unfolding infoAnswer infoChecks recordChecks
+info-decided s scale = decided cardResult D.Refused (λ k. refl) (infoChecks s scale) _ refl refl refl
 
 module _ (c : Card) (out : List ℕ) where
-  pub card-write-refuses : Refuses (writeAnswer c out) Refused (writeChecks c out)
+  pub card-write-decided : DecidedBy (writeChecks c out) (writtenResult (writeAnswer c out))
   unfolding writeAnswer writeChecks recordChecks
-  card-write-refuses = refuses Refused (λ j k e. cc) (writeChecks c out) _ refl (λ k e. cc)
+  card-write-decided = decided writtenResult Refused (λ k. refl) (writeChecks c out) _ refl refl refl
 
   pub card-kept : (k : ℕ) → writeAnswer c out ≡ Refused k → writeLeft c out ≡ out
   unfolding writeAnswer writeLeft
@@ -130,56 +137,56 @@ module _ (c : Card) (out : List ℕ) where
 
 -- ---- manifests
 
-field-given : (s : List ℕ) (i k : ℕ) → fieldAt s i ≡ F.Refused k → _≡_ {A = ℕ} 0 1
+field-given : (s : List ℕ) (i : ℕ) → fieldResult (fieldAt s i) ≡ success (pick (isReal (levelsOf s) i) (1, toBits binary32 (realAt s i)) (0, manifestItem s i))
 unfolding fieldAt
-field-given s i k = go (isReal (levelsOf s) i)
+field-given s i = go (isReal (levelsOf s) i)
   where
-    go : (b : Bool) → pick b (F.Real (realAt s i)) (F.Whole (manifestItem s i)) ≡ F.Refused k → _≡_ {A = ℕ} 0 1
-    go true e = cc
-    go false e = cc
+    go : (b : Bool) → fieldResult (pick b (F.Real (realAt s i)) (F.Whole (manifestItem s i))) ≡ success (pick b (1, toBits binary32 (realAt s i)) (0, manifestItem s i))
+    go true = refl
+    go false = refl
 
 module _ (s : List ℕ) where
-  pub manifest-refuses : Refuses (manifestAnswer s) M.Refused (manifestChecks s)
+  pub manifest-decided : DecidedBy (manifestChecks s) (manifestResult (manifestAnswer s))
   unfolding manifestAnswer manifestChecks
-  manifest-refuses = refuses M.Refused (λ j k e. cc) (manifestChecks s) _ refl (λ k e. cc)
+  manifest-decided = decided manifestResult M.Refused (λ k. refl) (manifestChecks s) _ refl refl refl
 
-  pub header-refuses : Refuses (headerAnswer s) H.Refused (manifestChecks s)
+  pub header-decided : DecidedBy (manifestChecks s) (headerResult (headerAnswer s))
   unfolding headerAnswer manifestChecks
-  header-refuses = refuses H.Refused (λ j k e. cc) (manifestChecks s) _ refl (λ k e. cc)
+  header-decided = decided headerResult H.Refused (λ k. refl) (manifestChecks s) _ refl refl refl
 
-  pub field-refuses : (i : ℕ) → Refuses (fieldAnswer s i) F.Refused (fieldChecks s i)
+  pub field-decided : (i : ℕ) → DecidedBy (fieldChecks s i) (fieldResult (fieldAnswer s i))
   unfolding fieldAnswer fieldChecks manifestChecks
-  field-refuses i = refuses F.Refused (λ j k e. cc) (fieldChecks s i) _ refl (field-given s i)
+  field-decided i = decided fieldResult F.Refused (λ k. refl) (fieldChecks s i) (fieldAt s i) (field-given s i) refl refl
 
-  pub node-refuses : (l i : ℕ) → Refuses (nodeAnswer s l i) O.Refused (nodeChecks s l i)
+  pub node-decided : (l i : ℕ) → DecidedBy (nodeChecks s l i) (nodeResult (nodeAnswer s l i))
   unfolding nodeAnswer nodeChecks manifestChecks
-  node-refuses l i = refuses O.Refused (λ j k e. cc) (nodeChecks s l i) _ refl (λ k e. cc)
+  node-decided l i = decided nodeResult O.Refused (λ k. refl) (nodeChecks s l i) _ refl refl refl
 
-  pub nodes-refuses : (l : ℕ) (out : List ℕ) → Refuses (nodesAnswer s l out) Refused (nodesChecks s l out)
+  pub nodes-decided : (l : ℕ) (out : List ℕ) → DecidedBy (nodesChecks s l out) (writtenResult (nodesAnswer s l out))
   unfolding nodesAnswer nodesChecks manifestChecks
-  nodes-refuses l out = refuses Refused (λ j k e. cc) (nodesChecks s l out) _ refl (λ k e. cc)
+  nodes-decided l out = decided writtenResult Refused (λ k. refl) (nodesChecks s l out) _ refl refl refl
 
   pub nodes-kept : (l : ℕ) (out : List ℕ) (k : ℕ) → nodesAnswer s l out ≡ Refused k → nodesLeft s l out ≡ out
   unfolding nodesAnswer nodesLeft
   nodes-kept l out k e = keeping Refused (nodesChecks s l out) _ _ out k (λ h. cc) e
 
-  pub corners-refuses : (l i : ℕ) → Refuses (cornersAnswer s l i) Cs.Refused (cornersChecks s l i)
+  pub corners-decided : (l i : ℕ) → DecidedBy (cornersChecks s l i) (cornersResult (cornersAnswer s l i))
   unfolding cornersAnswer cornersChecks nodeChecks manifestChecks boxChecks
-  corners-refuses l i = refuses Cs.Refused (λ j k e. cc) (cornersChecks s l i) _ refl (λ k e. cc)
+  corners-decided l i = decided cornersResult Cs.Refused (λ k. refl) (cornersChecks s l i) _ refl refl refl
 
 -- ---- labels
 
-pub label-refuses : (s : List ℕ) (sh : Shape) (x y z c : ℕ) → Refuses (labelAnswer s sh x y z c) E.Refused (labelChecks s sh x y z c)
+pub label-decided : (s : List ℕ) (sh : Shape) (x y z c : ℕ) → DecidedBy (labelChecks s sh x y z c) (labelResult (labelAnswer s sh x y z c))
 unfolding labelAnswer labelChecks
-label-refuses s sh x y z c = refuses E.Refused (λ j k e. cc) (labelChecks s sh x y z c) _ refl (λ k e. cc)
+label-decided s sh x y z c = decided labelResult E.Refused (λ k. refl) (labelChecks s sh x y z c) _ refl refl refl
 
-pub unpack-refuses : (s : List ℕ) (sh : Shape) (out : List ℕ) → Refuses (unpackAnswer s sh out) Refused (unpackChecks s sh out)
+pub unpack-decided : (s : List ℕ) (sh : Shape) (out : List ℕ) → DecidedBy (unpackChecks s sh out) (writtenResult (unpackAnswer s sh out))
 unfolding unpackAnswer unpackChecks
-unpack-refuses s sh out = refuses Refused (λ j k e. cc) (unpackChecks s sh out) _ refl (λ k e. cc)
+unpack-decided s sh out = decided writtenResult Refused (λ k. refl) (unpackChecks s sh out) _ refl refl refl
 
-pub unpacked-length-refuses : (sh : Shape) → Refuses (lengthAnswer sh) Refused (unpackedLengthChecks sh)
+pub unpacked-length-decided : (sh : Shape) → DecidedBy (unpackedLengthChecks sh) (writtenResult (lengthAnswer sh))
 unfolding lengthAnswer unpackedLengthChecks
-unpacked-length-refuses sh = refuses Refused (λ j k e. cc) (unpackedLengthChecks sh) _ refl (λ k e. cc)
+unpacked-length-decided sh = decided writtenResult Refused (λ k. refl) (unpackedLengthChecks sh) _ refl refl refl
 
 pub unpack-kept : (s : List ℕ) (sh : Shape) (out : List ℕ) (k : ℕ) → unpackAnswer s sh out ≡ Refused k → unpackLeft s sh out ≡ out
 unfolding unpackAnswer unpackLeft

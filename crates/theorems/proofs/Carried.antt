@@ -1,50 +1,44 @@
 -- Which refusals carry a position: one law over lists of checks gives it of every call.
 use Prim.Native.Nat.{ℕ, zero, suc, _+_}
-use mathlib.Core.Path.{_≡_, refl, sym, ap, _∙_}
+use mathlib.Core.Path.{_≡_, refl}
+use mathlib.Core.Logic.{_↔_}
 use mathlib.Core.Bool.{Bool, true, false}
 use mathlib.Core.List.{List, [], _∷_, _++_}
 use mathlib.Core.Option.{Option, none, some}
 use lib.ListN.{length}
 use Rattle.refusal.specs.Choice.{pick}
-use Rattle.refusal.specs.Checks.{Check, firstNumber, firstPosition, RefusesAt}
+use Rattle.refusal.specs.Checks.{Check, firstNumber, firstPosition}
+use Rattle.refusal.specs.Result.{Result, countResult, DecidedBy}
 use Rattle.sharding.specs.declared.Sharding.{Sharding}
 use Rattle.sharding.specs.Specification.{isMesh, minishardCount, noSuchShard}
 use Rattle.sharding.specs.placement.Place.{minishardOf}
-use Rattle.shard.specs.declared.CheckAnswer.the-variants as C
 use Rattle.shard.specs.index.Index.{entryStart, entryEnd, entryCount}
 use Rattle.shard.specs.index.Tests.{EntryTest}
 use Rattle.shard.specs.manifests.Mesh.{manifestTests}
 use Rattle.shard.specs.Faults.{entryTests}
 use Rattle.shard.specs.Checks.{entryChecks, minishardChecks, minishardsChecks}
-use Rattle.shard.specs.File.{indexPart, dataPart, fileChecks, shardChecks, checkAnswer}
-use Rattle.shard.specs.Sound.{FirstFaultIs}
-use Rattle.shard.proofs.Whole.{check-refuses, check-names}
-use Rattle.unlisted.specs.declared.UnlistedAnswer.the-variants as U
+use Rattle.shard.specs.File.{indexPart, dataPart, fileChecks, shardChecks, checkAnswer, checkResult}
+use Rattle.shard.proofs.Whole.{check-decided}
 use Rattle.unlisted.specs.Answers.{unlistedAnswer}
-use Rattle.unlisted.proofs.Counted.{unlisted-refuses}
-use Rattle.lookup.specs.declared.id_search.LookupAnswer.the-variants as L
+use Rattle.unlisted.proofs.Counted.{unlisted-decided}
 use Rattle.lookup.specs.id_search.Search.{notListed}
 use Rattle.lookup.specs.chosen_minishard.Chosen.{chosenChecks}
-use Rattle.lookup.specs.Find.{lookupChecks, lookupAnswer}
-use Rattle.lookup.proofs.Refused.{lookup-refuses}
+use Rattle.lookup.specs.Find.{lookupChecks, lookupAnswer, lookupResult}
+use Rattle.lookup.proofs.Refused.{lookup-decided}
 use Rattle.lookup.specs.fragments.Fragment.{fragmentChecks, fragmentAnswer}
-use Rattle.lookup.proofs.fragments.Refused.{fragment-refuses}
-use Rattle.lookup.specs.declared.listings.CountAnswer.the-variants as N
+use Rattle.lookup.proofs.fragments.Refused.{fragment-decided}
 use Rattle.lookup.specs.listings.Listing.{countChecks, countAnswer, listingChecks, listingAnswer}
-use Rattle.lookup.proofs.listings.Refused.{count-refuses, listing-refuses}
-use Rattle.settle.specs.declared.answers.SettleAnswer.the-variants as S
+use Rattle.lookup.proofs.listings.Refused.{count-decided, listing-decided}
 use Rattle.settle.specs.answers.Answers.{unlistedCheck, lengthCheck, settledLengthChecks, lengthAnswer, settleCheck, settleChecks, settleAnswer}
-use Rattle.settle.proofs.Refused.{length-refuses, settle-refuses}
+use Rattle.settle.proofs.Refused.{length-decided, settle-decided}
 use Rattle.split_shard.specs.seam.Pair.{pairChecks}
 use Rattle.split_shard.specs.Answers.{otherShard, pairCheck, pairLookup, pairFragment}
-use Rattle.split_shard.proofs.Laws.{check-refuses-pair, lookup-refuses-pair, fragment-refuses-pair}
 use Rattle.split_shard.specs.form.Answers.{noMinishard, pairCount, pairListing, pairUnlisted, pairLength, pairSettle}
-use Rattle.split_shard.proofs.form.Laws.{count-refuses-pair, listing-refuses-pair, unlisted-refuses-pair, length-refuses-pair, settle-refuses-pair}
-use Rattle.holdings.specs.declared.measures.MeasureAnswer.the-variants as Ms
-use Rattle.holdings.specs.measures.Answers.{measureAnswer, pairMeasure}
+use Rattle.holdings.specs.measures.Answers.{measureAnswer, pairMeasure, measureResult}
 use Rattle.theorems.specs.Demands.{measureChecks}
 use Rattle.theorems.specs.Orders.{isPlaced, Carries}
-use Rattle.theorems.proofs.Measures.{measure-refuses, measure-names, check-names-pair, measure-names-pair, measure-refuses-pair}
+use Rattle.theorems.proofs.Measures.{measure-decided, check-decided-pair, measure-decided-pair}
+use Rattle.theorems.proofs.PairCalls.{lookup-decided-pair, fragment-decided-pair, count-decided-pair, listing-decided-pair, unlisted-decided-pair, length-decided-pair, settle-decided-pair}
 
 -- ---- the law
 
@@ -72,11 +66,12 @@ first-marked (c ∷ cs) h = either (c .holds) (h .0) (first-marked cs (h .1))
     either true f g = f
     either false f g = g
 
-carried : {A : Type 0} {a : A} {r : ℕ → A} {at : ℕ → ℕ → A} (cs : List Check) → Marked cs → RefusesAt a r at cs → Carries a r at
-carried cs m h = record {
-  always = λ k e. let g = h .decided k none .0 e in ap isPlaced (sym (g .0)) ∙ first-marked cs m ∙ ap has (g .1);
-  only = λ k p e. let g = h .decided k (some p) .0 e in ap isPlaced (sym (g .0)) ∙ first-marked cs m ∙ ap has (g .1);
-}
+has-none : (p : Option ℕ) (b : Bool) → b ≡ has p → (p ≡ none) ↔ (b ≡ false)
+has-none none b e = (λ z. e, λ z. refl)
+has-none (some p) b e = (λ z. cc, λ z. cc)
+
+carried : {A : Type 0} {r : Result A} (cs : List Check) → Marked cs → DecidedBy cs r → Carries r
+carried {A} {r} cs m h = rw (h .position, h .number) (has-none (firstPosition cs) (isPlaced (firstNumber cs)) (first-marked cs m))
 
 -- ---- the lists
 
@@ -158,99 +153,63 @@ module _ (spec : Sharding) (shard : ℕ) (file : List ℕ) where
 
 -- ---- the calls on a file
 
-fault-placed : {spec : Sharding} {shard : ℕ} {file : List ℕ} {k m p : ℕ} → FirstFaultIs spec shard file k m p → isPlaced k ≡ true
-fault-placed {spec} {shard} {file} {k} {m} {p} g =
-    let cs = minishardChecks spec shard (indexPart spec file) (dataPart spec file) m in
-    ap isPlaced (sym (g .number)) ∙ first-marked cs (marked-minishard spec shard (indexPart spec file) (dataPart spec file) m) ∙ ap has (g .position)
-
-Unplaced : List Check → Type 0
-Unplaced [] = Unit {0}
-Unplaced (c ∷ cs) = (isPlaced (c .number) ≡ false) × Unplaced cs
-
-first-unplaced : (cs : List Check) → Unplaced cs → isPlaced (firstNumber cs) ≡ false
-unfolding Unplaced firstNumber
-first-unplaced [] h = refl
-first-unplaced (c ∷ cs) h = either (c .holds) (h .0) (first-unplaced cs (h .1))
-  where
-    either : (b : Bool) → isPlaced (c .number) ≡ false → isPlaced (firstNumber cs) ≡ false → isPlaced (pick b (c .number) (firstNumber cs)) ≡ false
-    either true f g = f
-    either false f g = g
-
-file-plain : (spec : Sharding) (five : Bool) (file : List ℕ) → isPlaced (firstNumber (fileChecks spec five file)) ≡ false
-file-plain spec five file = first-unplaced (fileChecks spec five file) (unfold fileChecks Unplaced in (refl, (refl, (refl, tt))))
-
-seam-plain : (spec : Sharding) (five : Bool) (index file : List ℕ) → isPlaced (firstNumber (pairChecks spec five index ++ fileChecks spec five file)) ≡ false
-seam-plain spec five index file = first-unplaced (pairChecks spec five index ++ fileChecks spec five file) (unfold pairChecks fileChecks Unplaced in (refl, (refl, (refl, (refl, (refl, (refl, tt)))))))
-
 module _ (spec : Sharding) (shard : ℕ) (file : List ℕ) where
-  pub check-carries : (m : ℕ) → Carries (checkAnswer spec shard file) C.Refused (λ k p. C.Faulty k m p)
-  check-carries m = record {
-    always = λ k e. ap isPlaced (sym (check-refuses spec shard file .decided k .0 e .0)) ∙ file-plain spec (noSuchShard spec shard) file;
-    only = λ k p e. fault-placed (check-names spec shard file k m p .0 e);
-  }
+  pub check-carries : Carries (checkResult (checkAnswer spec shard file))
+  check-carries = carried (shardChecks spec shard file) (marked-shard spec shard file) (check-decided spec shard file)
 
-  pub lookup-carries : (id : ℕ) → Carries (lookupAnswer spec shard file id) L.Refused L.Faulty
-  lookup-carries id = carried (lookupChecks spec shard file id) (marked-lookup spec shard file id) (lookup-refuses spec shard file id)
+  pub lookup-carries : (id : ℕ) → Carries (lookupResult (lookupAnswer spec shard file id))
+  lookup-carries id = carried (lookupChecks spec shard file id) (marked-lookup spec shard file id) (lookup-decided spec shard file id)
 
-  pub fragment-carries : (id level node : ℕ) → Carries (fragmentAnswer spec shard file id level node) L.Refused L.Faulty
-  fragment-carries id level node = carried (fragmentChecks spec shard file id level node) (marked-fragment spec shard file id level node) (fragment-refuses spec shard file id level node)
+  pub fragment-carries : (id level node : ℕ) → Carries (lookupResult (fragmentAnswer spec shard file id level node))
+  fragment-carries id level node = carried (fragmentChecks spec shard file id level node) (marked-fragment spec shard file id level node) (fragment-decided spec shard file id level node)
 
-  pub count-carries : (m : ℕ) → Carries (countAnswer spec shard file m) N.Refused N.Faulty
-  count-carries m = carried (countChecks spec shard file m) (marked-count spec shard file m) (count-refuses spec shard file m)
+  pub count-carries : (m : ℕ) → Carries (countResult (countAnswer spec shard file m))
+  count-carries m = carried (countChecks spec shard file m) (marked-count spec shard file m) (count-decided spec shard file m)
 
-  pub listing-carries : (m : ℕ) (out : List ℕ) → Carries (listingAnswer spec shard file m out) N.Refused N.Faulty
-  listing-carries m out = carried (listingChecks spec shard file m out) (marked-listing spec shard file m out) (listing-refuses spec shard file m out)
+  pub listing-carries : (m : ℕ) (out : List ℕ) → Carries (countResult (listingAnswer spec shard file m out))
+  listing-carries m out = carried (listingChecks spec shard file m out) (marked-listing spec shard file m out) (listing-decided spec shard file m out)
 
-  pub unlisted-carries : Carries (unlistedAnswer spec shard file) U.Refused U.Faulty
-  unlisted-carries = carried (shardChecks spec shard file) (marked-shard spec shard file) (unlisted-refuses spec shard file)
+  pub unlisted-carries : Carries (countResult (unlistedAnswer spec shard file))
+  unlisted-carries = carried (shardChecks spec shard file) (marked-shard spec shard file) (unlisted-decided spec shard file)
 
-  pub length-carries : (dropping : Bool) → Carries (lengthAnswer spec shard file dropping) S.Refused S.Faulty
-  length-carries dropping = carried (settledLengthChecks spec shard file dropping) (marked-length spec shard file dropping) (length-refuses spec shard file dropping)
+  pub length-carries : (dropping : Bool) → Carries (countResult (lengthAnswer spec shard file dropping))
+  length-carries dropping = carried (settledLengthChecks spec shard file dropping) (marked-length spec shard file dropping) (length-decided spec shard file dropping)
 
-  pub settle-carries : (dropping : Bool) (out : List ℕ) → Carries (settleAnswer spec shard file dropping out) S.Refused S.Faulty
-  settle-carries dropping out = carried (settleChecks spec shard file dropping out) (marked-settle spec shard file dropping out) (settle-refuses spec shard file dropping out)
+  pub settle-carries : (dropping : Bool) (out : List ℕ) → Carries (countResult (settleAnswer spec shard file dropping out))
+  settle-carries dropping out = carried (settleChecks spec shard file dropping out) (marked-settle spec shard file dropping out) (settle-decided spec shard file dropping out)
 
-  pub measure-carries : (m : ℕ) → Carries (measureAnswer spec shard file) Ms.Refused (λ k p. Ms.Faulty k m p)
-  measure-carries m = record {
-    always = carried (measureChecks spec shard file) (marked-measure spec shard file) (measure-refuses spec shard file) .always;
-    only = λ k p e. fault-placed (measure-names spec shard file k m p .0 e);
-  }
+  pub measure-carries : Carries (measureResult (measureAnswer spec shard file))
+  measure-carries = carried (measureChecks spec shard file) (marked-measure spec shard file) (measure-decided spec shard file)
 
 -- ---- the calls on a pair
 
 module _ (spec : Sharding) (shard : ℕ) (index d : List ℕ) where
-  seamed : {A : Type 0} {a : A} {r : ℕ → A} {at : ℕ → ℕ → A} (five : Bool) (cs : List Check) → Marked cs → RefusesAt a r at (pairChecks spec five index ++ cs) → Carries a r at
+  seamed : {A : Type 0} {r : Result A} (five : Bool) (cs : List Check) → Marked cs → DecidedBy (pairChecks spec five index ++ cs) r → Carries r
   seamed five cs m h = carried (pairChecks spec five index ++ cs) (marked-seam spec five index cs m) h
 
-  pub check-pair-carries : (m : ℕ) → Carries (pairCheck spec shard index d) C.Refused (λ k p. C.Faulty k m p)
-  check-pair-carries m = record {
-    always = λ k e. ap isPlaced (sym (check-refuses-pair spec shard index d .decided k .0 e .0)) ∙ seam-plain spec (noSuchShard spec shard) index (index ++ d);
-    only = λ k p e. fault-placed (check-names-pair spec shard index d k m p .0 e .1);
-  }
+  pub check-pair-carries : Carries (checkResult (pairCheck spec shard index d))
+  check-pair-carries = seamed (noSuchShard spec shard) (shardChecks spec shard (index ++ d)) (marked-shard spec shard (index ++ d)) (check-decided-pair spec shard index d)
 
-  pub lookup-pair-carries : (id : ℕ) → Carries (pairLookup spec shard index d id) L.Refused L.Faulty
-  lookup-pair-carries id = seamed (otherShard spec shard id) (lookupChecks spec shard (index ++ d) id) (marked-lookup spec shard (index ++ d) id) (lookup-refuses-pair spec shard index d id)
+  pub lookup-pair-carries : (id : ℕ) → Carries (lookupResult (pairLookup spec shard index d id))
+  lookup-pair-carries id = seamed (otherShard spec shard id) (lookupChecks spec shard (index ++ d) id) (marked-lookup spec shard (index ++ d) id) (lookup-decided-pair spec shard index d id)
 
-  pub fragment-pair-carries : (id level node : ℕ) → Carries (pairFragment spec shard index d id level node) L.Refused L.Faulty
-  fragment-pair-carries id level node = seamed (otherShard spec shard id) (fragmentChecks spec shard (index ++ d) id level node) (marked-fragment spec shard (index ++ d) id level node) (fragment-refuses-pair spec shard index d id level node)
+  pub fragment-pair-carries : (id level node : ℕ) → Carries (lookupResult (pairFragment spec shard index d id level node))
+  fragment-pair-carries id level node = seamed (otherShard spec shard id) (fragmentChecks spec shard (index ++ d) id level node) (marked-fragment spec shard (index ++ d) id level node) (fragment-decided-pair spec shard index d id level node)
 
-  pub count-pair-carries : (m : ℕ) → Carries (pairCount spec shard index d m) N.Refused N.Faulty
-  count-pair-carries m = seamed (noMinishard spec shard m) (countChecks spec shard (index ++ d) m) (marked-count spec shard (index ++ d) m) (count-refuses-pair spec shard index d m)
+  pub count-pair-carries : (m : ℕ) → Carries (countResult (pairCount spec shard index d m))
+  count-pair-carries m = seamed (noMinishard spec shard m) (countChecks spec shard (index ++ d) m) (marked-count spec shard (index ++ d) m) (count-decided-pair spec shard index d m)
 
-  pub listing-pair-carries : (m : ℕ) (out : List ℕ) → Carries (pairListing spec shard index d m out) N.Refused N.Faulty
-  listing-pair-carries m out = seamed (noMinishard spec shard m) (listingChecks spec shard (index ++ d) m out) (marked-listing spec shard (index ++ d) m out) (listing-refuses-pair spec shard index d m out)
+  pub listing-pair-carries : (m : ℕ) (out : List ℕ) → Carries (countResult (pairListing spec shard index d m out))
+  listing-pair-carries m out = seamed (noMinishard spec shard m) (listingChecks spec shard (index ++ d) m out) (marked-listing spec shard (index ++ d) m out) (listing-decided-pair spec shard index d m out)
 
-  pub unlisted-pair-carries : Carries (pairUnlisted spec shard index d) U.Refused U.Faulty
-  unlisted-pair-carries = seamed (noSuchShard spec shard) (shardChecks spec shard (index ++ d)) (marked-shard spec shard (index ++ d)) (unlisted-refuses-pair spec shard index d)
+  pub unlisted-pair-carries : Carries (countResult (pairUnlisted spec shard index d))
+  unlisted-pair-carries = seamed (noSuchShard spec shard) (shardChecks spec shard (index ++ d)) (marked-shard spec shard (index ++ d)) (unlisted-decided-pair spec shard index d)
 
-  pub length-pair-carries : (dropping : Bool) → Carries (pairLength spec shard index d dropping) S.Refused S.Faulty
-  length-pair-carries dropping = seamed (noSuchShard spec shard) (settledLengthChecks spec shard (index ++ d) dropping) (marked-length spec shard (index ++ d) dropping) (length-refuses-pair spec shard index d dropping)
+  pub length-pair-carries : (dropping : Bool) → Carries (countResult (pairLength spec shard index d dropping))
+  length-pair-carries dropping = seamed (noSuchShard spec shard) (settledLengthChecks spec shard (index ++ d) dropping) (marked-length spec shard (index ++ d) dropping) (length-decided-pair spec shard index d dropping)
 
-  pub settle-pair-carries : (dropping : Bool) (out : List ℕ) → Carries (pairSettle spec shard index d dropping out) S.Refused S.Faulty
-  settle-pair-carries dropping out = seamed (noSuchShard spec shard) (settleChecks spec shard (index ++ d) dropping out) (marked-settle spec shard (index ++ d) dropping out) (settle-refuses-pair spec shard index d dropping out)
+  pub settle-pair-carries : (dropping : Bool) (out : List ℕ) → Carries (countResult (pairSettle spec shard index d dropping out))
+  settle-pair-carries dropping out = seamed (noSuchShard spec shard) (settleChecks spec shard (index ++ d) dropping out) (marked-settle spec shard (index ++ d) dropping out) (settle-decided-pair spec shard index d dropping out)
 
-  pub measure-pair-carries : (m : ℕ) → Carries (pairMeasure spec shard index d) Ms.Refused (λ k p. Ms.Faulty k m p)
-  measure-pair-carries m = record {
-    always = seamed (noSuchShard spec shard) (measureChecks spec shard (index ++ d)) (marked-measure spec shard (index ++ d)) (measure-refuses-pair spec shard index d) .always;
-    only = λ k p e. fault-placed (measure-names-pair spec shard index d k m p .0 e .1);
-  }
+  pub measure-pair-carries : Carries (measureResult (pairMeasure spec shard index d))
+  measure-pair-carries = seamed (noSuchShard spec shard) (measureChecks spec shard (index ++ d)) (marked-measure spec shard (index ++ d)) (measure-decided-pair spec shard index d)

@@ -10,94 +10,89 @@ use Rattle.sharding.specs.declared.Sharding.{Sharding}
 use Rattle.shard.specs.File.{indexPart, dataPart}
 use Rattle.shard.proofs.Leads.{volume-leads}
 use Rattle.shard.proofs.Chunks.{same-listing-is-same-chunks}
-use Rattle.shard.proofs.Whole.{check-number, check-refuses, check-passes-sound, sound-passes-check, check-passes, check-names}
+use Rattle.shard.proofs.Whole.{check-decided, check-passes-sound, sound-passes-check, check-names}
 use Rattle.unlisted.specs.ranges.Covered.{fileUnlisted}
 use Rattle.unlisted.proofs.ranges.Meaning.{none-unlisted}
-use Rattle.unlisted.proofs.Counted.{unlisted-refuses}
-use Rattle.lookup.proofs.Refused.{lookup-refuses}
+use Rattle.unlisted.proofs.Counted.{unlisted-decided}
+use Rattle.lookup.proofs.Refused.{lookup-decided}
 use Rattle.lookup.proofs.Retrieval.{listed-chunk-is-handed-out, twelve-means-not-listed}
 use Rattle.lookup.proofs.Depends.{lookup-depends-only-on-these}
-use Rattle.lookup.proofs.fragments.Refused.{fragment-refuses}
+use Rattle.lookup.proofs.fragments.Refused.{fragment-decided}
 use Rattle.lookup.proofs.fragments.Retrieval.{listed-fragment-is-handed-out, lead-length, fragments-are-the-lead}
 use Rattle.lookup.proofs.fragments.Lacking.{eighteen-means-no-fragment, others-are-the-lookups}
 use Rattle.lookup.proofs.fragments.Depends.{fragment-depends-only-on-these}
-use Rattle.lookup.proofs.listings.Refused.{count-refuses, listing-refuses, listing-kept}
+use Rattle.lookup.proofs.listings.Refused.{count-decided, listing-decided, listing-kept}
 use Rattle.lookup.proofs.listings.Listed.{listing-says-what-is-listed}
 use Rattle.settled_form.proofs.Demand3.{file-form-length, demand-3-one-form, demand-3-same, demand-3-form-passes, demand-3-form-lists}
-use Rattle.settle.specs.declared.answers.SettleAnswer.the-variants.{Length}
-use Rattle.settle.proofs.Refused.{length-refuses, settle-refuses, settle-kept}
+use Rattle.refusal.specs.declared.CountAnswer.the-variants.{Count}
+use Rattle.settle.proofs.Refused.{length-decided, settle-decided, settle-kept}
 use Rattle.settle.proofs.Demand3.{demand-3-form-settles, demand-3-length, demand-3-length-refused, demand-3-refused, demand-3-written}
-use Rattle.split_shard.proofs.seam.Ranges.{range-refuses}
-use Rattle.split_shard.proofs.Laws.{check-refuses-pair, lookup-refuses-pair, fragment-refuses-pair}
-use Rattle.split_shard.proofs.form.Laws.{count-refuses-pair, listing-refuses-pair, listing-kept-pair, unlisted-refuses-pair, length-refuses-pair, settle-refuses-pair, settle-kept-pair}
-use Rattle.intake.proofs.Refused.{open-refuses, open-keeps, announce-refuses, announce-keeps, part-refuses, part-keeps, close-refuses, close-keeps}
+use Rattle.split_shard.proofs.form.Laws.{listing-kept-pair, settle-kept-pair}
+use Rattle.intake.proofs.Refused.{open-decided, open-keeps, announce-decided, announce-keeps, part-decided, part-keeps, close-decided, close-keeps}
 use Rattle.card.proofs.Meaning.{one-meaning-one-card}
 use Rattle.info.proofs.document.Meaning.{meaning}
 use Rattle.mesh_manifest.proofs.level.Each.{node-numbers}
 use Rattle.theorems.specs.Demands.{Demand1, Demand2, Ready, Demand3}
 use Rattle.theorems.proofs.Entry.{entry-decides}
-use Rattle.theorems.proofs.Measures.{measure-refuses, measure-names, check-number-pair, check-passes-pair, check-names-pair, measure-names-pair, measure-refuses-pair, add-refuses, add-pair-refuses, join-refuses}
-use Rattle.theorems.proofs.Calls.{grid-refuses, key-refuses, keys-refuses, keys-kept, cover-refuses, cover-kept, cell-refuses, bounds-refuses, chunk-name-refuses, chunk-name-kept, place-refuses, places-refuses, places-kept, file-name-refuses, file-name-kept, card-read-refuses, card-write-refuses, card-kept, manifest-refuses, header-refuses, field-refuses, node-refuses, nodes-refuses, nodes-kept, corners-refuses, label-refuses, unpack-refuses, unpacked-length-refuses, unpack-kept}
+use Rattle.theorems.proofs.Measures.{measure-decided, measure-names, check-decided-pair, check-names-pair, measure-names-pair, measure-decided-pair, add-decided, add-pair-decided, join-decided}
+use Rattle.theorems.proofs.PairCalls.{lookup-decided-pair, fragment-decided-pair, count-decided-pair, listing-decided-pair, unlisted-decided-pair, length-decided-pair, settle-decided-pair, range-decided}
+use Rattle.theorems.proofs.Calls.{grid-decided, key-decided, keys-decided, keys-kept, cover-decided, cover-kept, cell-decided, bounds-decided, chunk-name-decided, chunk-name-kept, place-decided, places-decided, places-kept, file-name-decided, file-name-kept, card-read-decided, info-decided, card-write-decided, card-kept, manifest-decided, header-decided, field-decided, node-decided, nodes-decided, nodes-kept, corners-decided, label-decided, unpack-decided, unpacked-length-decided, unpack-kept}
 
 pub demand-1 : Demand1
 demand-1 =
     record {
-      grid = grid-refuses;
-      key = key-refuses;
-      keys = keys-refuses;
-      cover = cover-refuses;
-      cell = cell-refuses;
-      bounds = bounds-refuses;
-      place = place-refuses;
-      places = places-refuses;
-      chunkName = chunk-name-refuses;
-      fileName = λ kind spec. file-name-refuses spec kind;
-      lookup = lookup-refuses;
-      fragment = fragment-refuses;
-      count = count-refuses;
-      listing = listing-refuses;
-      check = check-refuses;
-      checked = check-number;
-      passed = check-passes;
+      grid = grid-decided;
+      key = key-decided;
+      keys = keys-decided;
+      cover = cover-decided;
+      cell = cell-decided;
+      bounds = bounds-decided;
+      place = place-decided;
+      places = places-decided;
+      chunkName = chunk-name-decided;
+      fileName = λ kind spec. file-name-decided spec kind;
+      lookup = lookup-decided;
+      fragment = fragment-decided;
+      count = count-decided;
+      listing = listing-decided;
+      check = check-decided;
       named = check-names;
-      formLength = length-refuses;
-      settle = settle-refuses;
-      unlisted = unlisted-refuses;
-      checkOfPair = check-refuses-pair;
-      checkedOfPair = check-number-pair;
-      passedOfPair = check-passes-pair;
+      formLength = length-decided;
+      settle = settle-decided;
+      unlisted = unlisted-decided;
+      checkOfPair = check-decided-pair;
       namedOfPair = check-names-pair;
-      lookupOfPair = lookup-refuses-pair;
-      fragmentOfPair = fragment-refuses-pair;
-      countOfPair = count-refuses-pair;
-      listingOfPair = listing-refuses-pair;
-      unlistedOfPair = unlisted-refuses-pair;
-      formLengthOfPair = length-refuses-pair;
-      settleOfPair = settle-refuses-pair;
-      measure = measure-refuses;
+      lookupOfPair = lookup-decided-pair;
+      fragmentOfPair = fragment-decided-pair;
+      countOfPair = count-decided-pair;
+      listingOfPair = listing-decided-pair;
+      unlistedOfPair = unlisted-decided-pair;
+      formLengthOfPair = length-decided-pair;
+      settleOfPair = settle-decided-pair;
+      measure = measure-decided;
       measureNamed = measure-names;
-      measureOfPair = measure-refuses-pair;
+      measureOfPair = measure-decided-pair;
       measureNamedOfPair = measure-names-pair;
-      sheetAdd = add-refuses;
-      sheetAddPair = add-pair-refuses;
-      sheetJoin = join-refuses;
-      range = range-refuses;
-      cardRead = card-read-refuses;
-      cardWritten = card-write-refuses;
-      infoRead = meaning .refused;
-      intakeOpen = open-refuses;
-      intakeAnnounce = announce-refuses;
-      intakePart = part-refuses;
-      intakeClose = close-refuses;
-      manifest = manifest-refuses;
-      header = header-refuses;
-      field = field-refuses;
-      node = node-refuses;
-      nodes = nodes-refuses;
-      corners = corners-refuses;
-      label = label-refuses;
-      unpack = unpack-refuses;
-      unpackedLength = unpacked-length-refuses;
+      sheetAdd = add-decided;
+      sheetAddPair = add-pair-decided;
+      sheetJoin = join-decided;
+      range = range-decided;
+      cardRead = card-read-decided;
+      cardWritten = card-write-decided;
+      infoRead = info-decided;
+      intakeOpen = open-decided;
+      intakeAnnounce = announce-decided;
+      intakePart = part-decided;
+      intakeClose = close-decided;
+      manifest = manifest-decided;
+      header = header-decided;
+      field = field-decided;
+      node = node-decided;
+      nodes = nodes-decided;
+      corners = corners-decided;
+      label = label-decided;
+      unpack = unpack-decided;
+      unpackedLength = unpacked-length-decided;
       keysKept = keys-kept;
       coverKept = cover-kept;
       placesKept = places-kept;
@@ -154,6 +149,6 @@ demand-3 =
       refused = λ spec shard a dropping out f r. demand-3-refused f (ready spec a r) out;
       written = λ spec shard a dropping out f r n. demand-3-written f (ready spec a r) out (by-contra _ _ (λ l. n (inl l))) (by-contra _ _ (λ l. n (inr l)));
       long = file-form-length;
-      measured = λ spec shard a dropping f r l. demand-3-length f (ready spec a r) l ∙ ap Length (file-form-length spec a);
+      measured = λ spec shard a dropping f r l. demand-3-length f (ready spec a r) l ∙ ap Count (file-form-length spec a);
       unmeasured = λ spec shard a dropping f r l. demand-3-length-refused f (ready spec a r) (omega (arith, file-form-length spec a));
     }

@@ -253,8 +253,12 @@ only-27 : (b : Bool) (t : Sheet) (k : ℕ) → pick b (SheetRefused 27) (Total t
 only-27 true t k e = cc
 only-27 false t k e = let z : _≡_ {A = ℕ} 0 1 = cc in absurd (omega arith)
 
+rows-stay : (lent : List ℕ) (k : ℕ) → rowsAfter (SheetRefused k) lent ≡ lent
+unfolding rowsAfter
+rows-stay lent k = refl
+
 rows-left : (s : Sheet) (a : SheetAnswer) → rowsAfter a (rows s) ≡ rows (keptBy s a)
-unfolding keptBy
+unfolding keptBy rowsAfter
 rows-left s (Total t) = refl
 rows-left s (SheetRefused k) = refl
 
@@ -272,7 +276,7 @@ order-13 = record {
   parts = parts-join;
   past = λ sheet h. rw (add-pick sheet h) (by-27 _ _);
   only = λ sheet h k e. only-27 (anyPasses (rows (both sheet (sheetOver (h ∷ []))))) (both sheet (one h)) k (sym (add-pick sheet h) ∙ e);
-  stays = λ lent h k e. rw e;
-  joinStays = λ lent other k e. rw e;
+  stays = λ lent h k e. rw e (rows-stay lent k);
+  joinStays = λ lent other k e. rw e (rows-stay lent k);
   lent = λ sheet h. rw (from-rows sheet) (rows-left sheet (addOne sheet h));
 }

@@ -1,5 +1,6 @@
 pub mod Calls
 pub mod Measures
+pub mod PairCalls
 pub mod Carried
 pub mod Entry
 pub mod Demands

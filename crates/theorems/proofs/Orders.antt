@@ -40,7 +40,7 @@ use Rattle.unlisted.specs.ranges.Covered.{unlistedBytes, fileUnlisted}
 use Rattle.unlisted.proofs.ranges.Meaning.{missed-unlisted, none-unlisted}
 use Rattle.unlisted.proofs.Counted.{unlisted-sound}
 use Rattle.settled_form.proofs.shortest.Listed.{form-listed}
-use Rattle.settle.specs.declared.answers.SettleAnswer.the-variants as S
+use Rattle.refusal.specs.declared.CountAnswer.the-variants as S
 use Rattle.settle.specs.answers.Answers.{tooLong, losesBytes, unlistedCheck, lengthCheck, settledLengthChecks, lengthAnswer, settleCheck, settleChecks, settleAnswer, settleLeft}
 use Rattle.settle.proofs.answers.Answered.{length-lost, answer-lost, left-lost}
 use Rattle.settle.proofs.Demand3.{demand-3-written}
@@ -72,7 +72,7 @@ past-22 (x ∷ cs) c = let e = past-22 cs c in rw (e .0, e .1) (refl, refl)
 
 -- asked to drop unlisted bytes, settling has no 22
 asked-to-drop : (spec : Sharding) (shard : ℕ) (a out : List ℕ)
-    → (settleAnswer spec shard a true out ≡ answeredAt S.Refused S.Faulty (settleChecksBefore spec shard a out) (S.Length (fileFormLength spec a)))
+    → (settleAnswer spec shard a true out ≡ answeredAt S.Refused S.Faulty (settleChecksBefore spec shard a out) (S.Count (fileFormLength spec a)))
     × (settleLeft spec shard a true out ≡ left (settleChecksBefore spec shard a out) (over (fileForm spec a) out) out)
 unfolding settleAnswer settleLeft settleChecks settleChecksBefore unlistedCheck losesBytes
 asked-to-drop spec shard a out =

@@ -17,11 +17,12 @@ use Rattle.intake.specs.numbers.Numbers.{numbersOf, stateOf}
 use Rattle.intake.specs.state.State.{announcedLength}
 use Rattle.intake.specs.steps.Steps.{opened, announced, taken, closed}
 use Rattle.intake.specs.admission.Refusals.{openChecks, announceChecks, partChecks, closeChecks}
-use Rattle.intake.specs.Calls.{openAnswer, announceAnswer, announceLeft, announceWaiting, partAnswer, partLeft, closeAnswer, closeLeft}
+use Rattle.intake.specs.Calls.{openAnswer, announceAnswer, announceLeft, announceWaiting, partAnswer, partLeft, closeAnswer, closeLeft, intakeResult, closeResult}
 use Rattle.intake.proofs.state.Passing.{volume-allowed, sane-parts}
 use Rattle.intake.proofs.Refused.{announce-told}
 use Rattle.intake.proofs.numbers.Numbered.{state-back, part-numbers}
-use Rattle.coronagamba.specs.Intakes.{intakeWord, stateAfter, partAfter, closeWord, shardLengthAfter}
+use Rattle.coronagamba.specs.word.Word.{wordOf}
+use Rattle.coronagamba.specs.Intakes.{stateAfter, partAfter, shardLengthAfter}
 use Rattle.delivered.specs.Delivered.{Delivery, deliveredForm}
 use Rattle.delivered.specs.Runs.{Desk, afterOpen, afterAnnounce, afterPart, HandsOver, no-part, part, Delivers, no-chunk, chunk, Takes}
 use Rattle.delivered.proofs.Fitting.{Fit, hands-fit, announce-fit, takes-fit}
@@ -30,29 +31,29 @@ use Rattle.theorems.specs.Intake.{Row, announceOn, partOn, closeOn, RowH
 
 -- ---- the word 0 is no refusal
 
-word-next : (n : ℕ) (s : Intake) → intakeWord (unless Refused n (Next s)) ≡ 0 → unless Refused n (Next s) ≡ Next s
-unfolding unless
+word-next : (n : ℕ) (s : Intake) → wordOf (intakeResult (unless Refused n (Next s))) ≡ 0 → unless Refused n (Next s) ≡ Next s
+unfolding unless wordOf
 word-next zero s e = refl
 word-next (suc n) s e = absurd (omega arith)
 
-word-closed : (n : ℕ) (s : Intake) (l : ℕ) → closeWord (unless NotClosed n (Closed s l)) ≡ 0 → unless NotClosed n (Closed s l) ≡ Closed s l
-unfolding unless
+word-closed : (n : ℕ) (s : Intake) (l : ℕ) → wordOf (closeResult (unless NotClosed n (Closed s l))) ≡ 0 → unless NotClosed n (Closed s l) ≡ Closed s l
+unfolding unless wordOf
 word-closed zero s l e = refl
 word-closed (suc n) s l e = absurd (omega arith)
 
-open-next : (spec : Sharding) (shard : ℕ) (o w : List ℕ) → intakeWord (openAnswer spec shard o w) ≡ 0 → openAnswer spec shard o w ≡ Next (opened spec shard (length o) (length w))
+open-next : (spec : Sharding) (shard : ℕ) (o w : List ℕ) → wordOf (intakeResult (openAnswer spec shard o w)) ≡ 0 → openAnswer spec shard o w ≡ Next (opened spec shard (length o) (length w))
 unfolding openAnswer
 open-next spec shard o w e = word-next (firstNumber (openChecks spec shard (length o))) (opened spec shard (length o) (length w)) e
 
-announce-next : (s : Intake) (id size : ℕ) (o w : List ℕ) → intakeWord (announceAnswer s id size o w) ≡ 0 → announceAnswer s id size o w ≡ Next (announced s id size)
+announce-next : (s : Intake) (id size : ℕ) (o w : List ℕ) → wordOf (intakeResult (announceAnswer s id size o w)) ≡ 0 → announceAnswer s id size o w ≡ Next (announced s id size)
 unfolding announceAnswer
 announce-next s id size o w e = word-next (firstNumber (announceChecks s id size (length o) w)) (announced s id size) e
 
-part-next : (s : Intake) (b o w : List ℕ) → intakeWord (partAnswer s b o w) ≡ 0 → partAnswer s b o w ≡ Next (taken s (length b))
+part-next : (s : Intake) (b o w : List ℕ) → wordOf (intakeResult (partAnswer s b o w)) ≡ 0 → partAnswer s b o w ≡ Next (taken s (length b))
 unfolding partAnswer
 part-next s b o w e = word-next (firstNumber (partChecks s (length b) (length o) w)) (taken s (length b)) e
 
-close-closed : (s : Intake) (o w : List ℕ) → closeWord (closeAnswer s o w) ≡ 0 → closeAnswer s o w ≡ Closed (closed s) (announcedLength s)
+close-closed : (s : Intake) (o w : List ℕ) → wordOf (closeResult (closeAnswer s o w)) ≡ 0 → closeAnswer s o w ≡ Closed (closed s) (announcedLength s)
 unfolding closeAnswer
 close-closed s o w e = word-closed (firstNumber (closeChecks s (length o) w)) (closed s) (announcedLength s) e
 
@@ -96,6 +97,7 @@ module _ {spec : Sharding} {shard output waiting : ℕ} where
       }
 
   row-hands : {d : Desk} {r e : Row} {parts : List (List ℕ)} → RowHands r parts e → Fit spec shard output waiting d → Mirrors r d → Hands spec shard output waiting d parts e
+  unfolding partAfter
   row-hands {d} row-no-part f m = record { desk = d; hands = no-part; fit = f; mirrors = m }
   row-hands {d} {r} (row-part {bytes = bytes} q rest) f m =
       let s = taken (d .state) (length bytes) in
@@ -110,6 +112,7 @@ module _ {spec : Sharding} {shard output waiting : ℕ} where
       record { desk = k .desk; hands = part n (k .hands); fit = k .fit; mirrors = k .mirrors }
 
   row-delivers : {d : Desk} {r e : Row} {xs : List Delivery} → RowDelivers r xs e → Fit spec shard output waiting d → Mirrors r d → Ends d xs e
+  unfolding stateAfter
   row-delivers {d} row-no-chunk f m = record { desk = d; delivers = no-chunk; mirrors = m }
   row-delivers {d} {r} (row-chunk {x = x} l q hands rest) f m =
       let t = d .state in
@@ -132,6 +135,7 @@ record Stood (spec : Sharding) (shard : ℕ) (out waiting : List ℕ) (xs : List
   mirrors : Mirrors r desk
 
 row-takes : {spec : Sharding} {shard : ℕ} {out waiting : List ℕ} {xs : List Delivery} {r : Row} → RowTakes spec shard out waiting xs r → Stood spec shard out waiting xs r
+unfolding stateAfter
 row-takes {spec} {shard} {out} {waiting} t =
     let s = opened spec shard (length out) (length waiting) in
     let n : openAnswer spec shard out waiting ≡ Next s = open-next spec shard out waiting (t .opens) in
@@ -152,12 +156,13 @@ same-close : {r : Row} {d : Desk} → Mirrors r d
     × (closeLeft (stateOf (r .numbers)) (r .output) (r .waiting) ≡ closeLeft (d .state) (d .output) (d .waiting))
 same-close m = (rw (m .back, m .output, m .waiting), rw (m .back, m .output, m .waiting))
 
-pub row-settled : {spec : Sharding} {shard : ℕ} {out waiting : List ℕ} {xs : List Delivery} {r : Row} (before : ℕ) → RowTakes spec shard out waiting xs r → closeWord (closeOn r) ≡ 0
+pub row-settled : {spec : Sharding} {shard : ℕ} {out waiting : List ℕ} {xs : List Delivery} {r : Row} (before : ℕ) → RowTakes spec shard out waiting xs r → wordOf (closeResult (closeOn r)) ≡ 0
     → (shardLengthAfter (closeOn r) before ≡ length (deliveredForm spec xs)) × (closeLeft (stateOf (r .numbers)) (r .output) (r .waiting) ≡ over (deliveredForm spec xs) out)
+unfolding shardLengthAfter
 row-settled before t q =
     let k = row-takes t in
     let d = k .desk in
     let a = same-close (k .mirrors) in
-    let n = close-closed (d .state) (d .output) (d .waiting) (sym (ap (λ (y : CloseAnswer). closeWord y) (a .0)) ∙ q) in
+    let n = close-closed (d .state) (d .output) (d .waiting) (sym (ap (λ (y : CloseAnswer). wordOf (closeResult y)) (a .0)) ∙ q) in
     let c = closes-settled (k .takes) n in
     (ap (λ (y : CloseAnswer). shardLengthAfter y before) (a .0 ∙ n) ∙ c .0, a .1 ∙ c .1)

@@ -6,95 +6,80 @@ use mathlib.Core.Logic.{_↔_, _⊎_}
 use mathlib.Core.List.{List, [], _∷_, _++_}
 use mathlib.Core.Option.{Option, none}
 use lib.ListN.{length}
-use Rattle.refusal.specs.Checks.{Check, check, firstNumber, refusal, Refuses, RefusesAt}
+use Rattle.refusal.specs.Checks.{Check, check, refusal}
+use Rattle.refusal.specs.Result.{writtenResult, countResult, DecidedBy}
 use Rattle.refusal.specs.Buffer.{over}
 use Rattle.refusal.specs.declared.Written.the-variants.{Refused}
 use Rattle.endian.specs.Place.{Holds}
 use Rattle.morton.specs.declared.grid.Volume.{Volume}
 use Rattle.morton.specs.declared.grid.Cell.{Cell}
 use Rattle.morton.specs.declared.bounds.Point.{Point}
-use Rattle.morton.specs.declared.grid.GridAnswer.the-variants as G
 use Rattle.morton.specs.declared.KeyAnswer.the-variants as K
 use Rattle.morton.specs.declared.CellAnswer.the-variants as C
-use Rattle.morton.specs.declared.bounds.BoundsAnswer.the-variants as B
 use Rattle.morton.specs.grid.Grid.{gridOf, InU32}
 use Rattle.morton.specs.Key.{keyBits, keyOf}
-use Rattle.morton.specs.grid.Answers.{noCell, gridChecks, gridAnswer}
-use Rattle.morton.specs.Answers.{keyChecks, keyAnswer, cellChecks, cellAnswer}
-use Rattle.morton.specs.bounds.Answers.{boundsChecks, boundsAnswer}
+use Rattle.morton.specs.grid.Answers.{noCell, gridChecks, gridAnswer, gridResult}
+use Rattle.morton.specs.Answers.{keyChecks, keyAnswer, cellChecks, cellAnswer, keyResult, cellResult}
+use Rattle.morton.specs.bounds.Answers.{boundsChecks, boundsAnswer, boundsResult}
 use Rattle.morton.specs.batch.Batch.{keysChecks, keysAnswer, keysLeft}
 use Rattle.cover.specs.overlap.Cover.{coverChecks, coverAnswer, coverLeft}
 use Rattle.sharding.specs.declared.Sharding.{Sharding}
-use Rattle.sharding.specs.declared.placement.PlaceAnswer.the-variants as P
 use Rattle.sharding.specs.Specification.{isMesh, noSuchShard}
-use Rattle.sharding.specs.placement.Place.{minishardOf, placeChecks, placeAnswer}
+use Rattle.sharding.specs.placement.Place.{minishardOf, placeChecks, placeAnswer, placeResult}
 use Rattle.sharding.specs.batch.Batch.{placesChecks, placesAnswer, shardsLeft, minishardsLeft}
 use Rattle.names.specs.chunks.Chunks.{chunkNameChecks, chunkNameAnswer, chunkNameLeft}
 use Rattle.names.specs.Shards.{fileNameChecks, fileNameAnswer, fileNameLeft}
 use Rattle.names.specs.declared.FileKind.{FileKind}
-use Rattle.shard.specs.declared.CheckAnswer.the-variants.{Sound, Faulty, Refused as CheckRefused}
+use Rattle.shard.specs.declared.CheckAnswer.the-variants.{Sound, Faulty}
 use Rattle.shard.specs.index.Index.{mostShardBytes}
-use Rattle.shard.specs.Faults.{shardFault}
-use Rattle.shard.specs.File.{indexLength, indexPart, dataPart, fileChecks, shardChecks, checkAnswer, checkNumber}
+use Rattle.shard.specs.File.{indexLength, indexPart, dataPart, shardChecks, checkAnswer, checkResult}
 use Rattle.shard.specs.Sound.{SoundMinishard, SoundShard, FirstFaultIs}
 use Rattle.shard.specs.Items.{Item}
 use Rattle.shard.specs.Lists.{ListsAt, ListsIn, ListsItem, SameListing, SameChunks}
 use Rattle.unlisted.specs.ranges.Ranges.{Unlisted}
-use Rattle.unlisted.specs.declared.UnlistedAnswer.the-variants as U
 use Rattle.unlisted.specs.Answers.{unlistedAnswer}
 use Rattle.lookup.specs.declared.id_search.LookupAnswer.the-variants as L
-use Rattle.lookup.specs.Find.{lookupChecks, lookupAnswer}
+use Rattle.lookup.specs.Find.{lookupChecks, lookupAnswer, lookupResult}
 use Rattle.lookup.specs.Lookups.{Asked, HandsOut, entryBytes, AgreeFor, SameAnswer}
 use Rattle.lookup.specs.fragments.Fragment.{fragmentChecks, fragmentAnswer}
 use Rattle.lookup.specs.fragments.Fragments.{HandsOutFragment, LacksFragment, SameFragment}
-use Rattle.lookup.specs.declared.listings.CountAnswer.the-variants as N
+use Rattle.refusal.specs.declared.CountAnswer.the-variants as N
 use Rattle.lookup.specs.listings.Listing.{listingOf, countChecks, countAnswer, listingChecks, listingAnswer, listingLeft}
 use Rattle.lookup.specs.listings.Triples.{Says}
 use Rattle.settled_form.specs.Content.{fileForm, fileFormLength}
-use Rattle.settle.specs.declared.answers.SettleAnswer.the-variants as S
 use Rattle.settle.specs.answers.Answers.{settledLengthChecks, lengthAnswer, settleChecks, settleAnswer, settleLeft}
 use Rattle.split_shard.specs.seam.Pair.{pairChecks}
-use Rattle.split_shard.specs.declared.held_range.RangeAnswer.the-variants as R
-use Rattle.split_shard.specs.seam.Range.{rangeChecks, rangeAnswer}
+use Rattle.split_shard.specs.seam.Range.{rangeChecks, rangeAnswer, rangeResult}
 use Rattle.split_shard.specs.Answers.{otherShard, pairCheck, pairLookup, pairFragment}
 use Rattle.split_shard.specs.form.Answers.{noMinishard, pairCount, pairListing, pairListingLeft, pairUnlisted, pairLength, pairSettle, pairSettleLeft}
 use Rattle.intake.specs.declared.state.Intake.{Intake}
 use Rattle.intake.specs.admission.Refusals.{openChecks, announceChecks, partChecks, closeChecks}
 use Rattle.intake.specs.declared.IntakeAnswer.the-variants as I
 use Rattle.intake.specs.declared.CloseAnswer.the-variants as X
-use Rattle.intake.specs.Calls.{openAnswer, openLeft, announceAnswer, announceLeft, announceWaiting, partAnswer, partLeft, closeAnswer, closeLeft}
-use Rattle.holdings.specs.declared.measures.MeasureAnswer.{MeasureAnswer}
+use Rattle.intake.specs.Calls.{openAnswer, openLeft, announceAnswer, announceLeft, announceWaiting, partAnswer, partLeft, closeAnswer, closeLeft, intakeResult, closeResult}
 use Rattle.holdings.specs.declared.measures.MeasureAnswer.the-variants as Ms
 use Rattle.holdings.specs.measures.Measures.{chunkBytes}
 use Rattle.holdings.specs.chunk_sums.Totals.{passes}
-use Rattle.holdings.specs.measures.Answers.{measureAnswer, pairMeasure}
+use Rattle.holdings.specs.measures.Answers.{measureAnswer, pairMeasure, measureResult}
 use Rattle.holdings.specs.declared.one_shard.Sheet.{Sheet}
-use Rattle.holdings.specs.declared.SheetAnswer.the-variants as Sh
 use Rattle.holdings.specs.one_shard.Sheet.{rows}
 use Rattle.holdings.specs.passing.Totals.{anyPasses, both}
-use Rattle.holdings.specs.Answers.{joinAnswer, sheetOf, addAnswer, pairSheet, pairAddAnswer}
+use Rattle.holdings.specs.Answers.{joinAnswer, sheetOf, addAnswer, pairSheet, pairAddAnswer, sheetResult}
 use Rattle.card.specs.declared.Card.{Card}
-use Rattle.card.specs.declared.CardAnswer.the-variants as D
-use Rattle.card.specs.Answers.{readChecks, readAnswer, writeChecks, writeAnswer, writeLeft}
+use Rattle.card.specs.Answers.{readChecks, readAnswer, writeChecks, writeAnswer, writeLeft, cardResult}
 use Rattle.card.specs.Meaning.{OneCard}
 use Rattle.info.specs.Answers.{infoChecks, infoAnswer}
 use Rattle.info.specs.document.Meaning.{InfoMeaning}
-use Rattle.mesh_manifest.specs.declared.sound.ManifestAnswer.the-variants as M
-use Rattle.mesh_manifest.specs.declared.HeaderAnswer.the-variants as H
-use Rattle.mesh_manifest.specs.declared.Field.the-variants as F
 use Rattle.mesh_manifest.specs.layout.Layout.{countOf}
-use Rattle.mesh_manifest.specs.sound.Verdict.{manifestChecks, manifestAnswer}
-use Rattle.mesh_manifest.specs.Fields.{headerAnswer, fieldChecks, fieldAnswer}
-use Rattle.mesh_manifest.specs.declared.nodes.NodeAnswer.the-variants as O
+use Rattle.mesh_manifest.specs.sound.Verdict.{manifestChecks, manifestAnswer, manifestResult}
+use Rattle.mesh_manifest.specs.Fields.{headerAnswer, fieldChecks, fieldAnswer, headerResult, fieldResult}
 use Rattle.mesh_manifest.specs.nodes.Run.{fragmentOf, allFragments}
-use Rattle.mesh_manifest.specs.nodes.Nodes.{hasNode, fragmentsLength, nodeAt, nodeChecks, nodeAnswer}
+use Rattle.mesh_manifest.specs.nodes.Nodes.{hasNode, fragmentsLength, nodeAt, nodeChecks, nodeAnswer, nodeResult}
 use Rattle.mesh_manifest.specs.node_numbers.Numbers.{numbersOf, nodesOf}
 use Rattle.mesh_manifest.specs.level.Level.{nodesChecks, nodesAnswer, nodesLeft}
-use Rattle.mesh_manifest.specs.declared.corners.CornersAnswer.the-variants as Cs
-use Rattle.mesh_manifest.specs.corners.Boxes.{cornersChecks, cornersAnswer}
+use Rattle.mesh_manifest.specs.corners.Boxes.{cornersChecks, cornersAnswer, cornersResult}
 use Rattle.compressed_segmentation.specs.declared.Shape.{Shape}
-use Rattle.compressed_segmentation.specs.declared.LabelAnswer.the-variants as E
-use Rattle.compressed_segmentation.specs.Labels.{labelChecks, labelAnswer}
+use Rattle.compressed_segmentation.specs.Labels.{labelChecks, labelAnswer, labelResult}
 use Rattle.compressed_segmentation.specs.raw_form.Raw.{unpackChecks, unpackAnswer, unpackLeft, unpackedLengthChecks as lengthChecksOfLabels, lengthAnswer as lengthAnswerOfLabels}
 
 -- ---- Demand 1
@@ -103,10 +88,6 @@ use Rattle.compressed_segmentation.specs.raw_form.Raw.{unpackChecks, unpackAnsw
 abbrev pub measureChecks : Sharding → ℕ → List ℕ → List Check
 measureChecks spec shard file = shardChecks spec shard file ++ (check 27 (passes (chunkBytes spec (indexPart spec file) (dataPart spec file))) ∷ [])
 
--- its refusal with a position names, as the check's does, the first minishard that has a fault
-abbrev pub faultyAt : Sharding → ℕ → List ℕ → ℕ → ℕ → MeasureAnswer
-faultyAt spec shard file number position = Ms.Faulty number (shardFault spec shard (indexPart spec file) (dataPart spec file) .minishard) position
-
 -- the one check of two sheets that are joined: "27 a total would pass 2^64-1"
 abbrev pub joinChecks : Sheet → Sheet → List Check
 joinChecks a b = check 27 (anyPasses (rows (both a b))) ∷ []
@@ -114,69 +95,65 @@ joinChecks a b = check 27 (anyPasses (rows (both a b))) ∷ []
 -- That every entry point takes any numbers and bytes and ends is the checker's own: no entry point's contract has a `requires`, and each function is proved to end.
 -- (RULES D1, R5)
 pub record Demand1 : Type 0 where
-  -- A refusal gives one number of the table: that of the first check, in the call's fixed order, that holds. 7 to 11, and 15 to 17 and 21 of a
-  -- listed manifest, carry a position, that of the same check; the others carry none (orders 6 and 7). Of each call:
-  pub grid : (v : Volume) → Refuses (gridAnswer v) G.Refused (gridChecks v)
-  pub key : (v : Volume) (c : Cell) → Refuses (keyAnswer v c) K.Refused (keyChecks v c)
-  pub keys : (v : Volume) (cells : List Cell) (out : List ℕ) → Refuses (keysAnswer v cells out) Refused (keysChecks v cells out)
-  pub cell : (v : Volume) (k : ℕ) → Refuses (cellAnswer v k) C.Refused (cellChecks v k)
-  pub bounds : (v : Volume) (c : Cell) → Refuses (boundsAnswer v c) B.Refused (boundsChecks v c)
-  pub cover : (v : Volume) (lower upper : Point) (out : List ℕ) → Refuses (coverAnswer v lower upper out) Refused (coverChecks v lower upper out)
-  pub place : (spec : Sharding) (id : ℕ) → Refuses (placeAnswer spec id) P.Refused (placeChecks spec)
-  pub places : (spec : Sharding) (ids shards minishards : List ℕ) → Refuses (placesAnswer spec ids shards minishards) Refused (placesChecks spec ids shards minishards)
-  pub chunkName : (v : Volume) (c : Cell) (out : List ℕ) → Refuses (chunkNameAnswer v c out) Refused (chunkNameChecks v c out)
-  pub fileName : (kind : FileKind) (spec : Sharding) (shard : ℕ) (out : List ℕ) → Refuses (fileNameAnswer kind spec shard out) Refused (fileNameChecks kind spec shard out)
-  pub lookup : (spec : Sharding) (shard : ℕ) (file : List ℕ) (id : ℕ) → RefusesAt (lookupAnswer spec shard file id) L.Refused L.Faulty (lookupChecks spec shard file id)
-  pub fragment : (spec : Sharding) (shard : ℕ) (file : List ℕ) (id level node : ℕ) → RefusesAt (fragmentAnswer spec shard file id level node) L.Refused L.Faulty (fragmentChecks spec shard file id level node)
-  pub count : (spec : Sharding) (shard : ℕ) (file : List ℕ) (m : ℕ) → RefusesAt (countAnswer spec shard file m) N.Refused N.Faulty (countChecks spec shard file m)
-  pub listing : (spec : Sharding) (shard : ℕ) (file : List ℕ) (m : ℕ) (out : List ℕ) → RefusesAt (listingAnswer spec shard file m out) N.Refused N.Faulty (listingChecks spec shard file m out)
-  -- (of the whole-shard check: 1, 5 and 6 come alone, the others with the first minishard, in number order, that has a fault, and their position)
-  pub check : (spec : Sharding) (shard : ℕ) (file : List ℕ) → Refuses (checkAnswer spec shard file) CheckRefused (fileChecks spec (noSuchShard spec shard) file)
-  pub checked : (spec : Sharding) (shard : ℕ) (file : List ℕ) → checkNumber (checkAnswer spec shard file) ≡ firstNumber (shardChecks spec shard file)
-  pub passed : (spec : Sharding) (shard : ℕ) (file : List ℕ) → (checkAnswer spec shard file ≡ Sound) ↔ (firstNumber (shardChecks spec shard file) ≡ 0)
+  -- A refusal gives one number of the table: that of the first check, in the call's fixed order, that holds; with the position of the same check, where it
+  -- carries one (orders 6 and 7). Of each call:
+  pub grid : (v : Volume) → DecidedBy (gridChecks v) (gridResult (gridAnswer v))
+  pub key : (v : Volume) (c : Cell) → DecidedBy (keyChecks v c) (keyResult (keyAnswer v c))
+  pub keys : (v : Volume) (cells : List Cell) (out : List ℕ) → DecidedBy (keysChecks v cells out) (writtenResult (keysAnswer v cells out))
+  pub cell : (v : Volume) (k : ℕ) → DecidedBy (cellChecks v k) (cellResult (cellAnswer v k))
+  pub bounds : (v : Volume) (c : Cell) → DecidedBy (boundsChecks v c) (boundsResult (boundsAnswer v c))
+  pub cover : (v : Volume) (lower upper : Point) (out : List ℕ) → DecidedBy (coverChecks v lower upper out) (writtenResult (coverAnswer v lower upper out))
+  pub place : (spec : Sharding) (id : ℕ) → DecidedBy (placeChecks spec) (placeResult (placeAnswer spec id))
+  pub places : (spec : Sharding) (ids shards minishards : List ℕ) → DecidedBy (placesChecks spec ids shards minishards) (writtenResult (placesAnswer spec ids shards minishards))
+  pub chunkName : (v : Volume) (c : Cell) (out : List ℕ) → DecidedBy (chunkNameChecks v c out) (writtenResult (chunkNameAnswer v c out))
+  pub fileName : (kind : FileKind) (spec : Sharding) (shard : ℕ) (out : List ℕ) → DecidedBy (fileNameChecks kind spec shard out) (writtenResult (fileNameAnswer kind spec shard out))
+  pub lookup : (spec : Sharding) (shard : ℕ) (file : List ℕ) (id : ℕ) → DecidedBy (lookupChecks spec shard file id) (lookupResult (lookupAnswer spec shard file id))
+  pub fragment : (spec : Sharding) (shard : ℕ) (file : List ℕ) (id level node : ℕ) → DecidedBy (fragmentChecks spec shard file id level node) (lookupResult (fragmentAnswer spec shard file id level node))
+  pub count : (spec : Sharding) (shard : ℕ) (file : List ℕ) (m : ℕ) → DecidedBy (countChecks spec shard file m) (countResult (countAnswer spec shard file m))
+  pub listing : (spec : Sharding) (shard : ℕ) (file : List ℕ) (m : ℕ) (out : List ℕ) → DecidedBy (listingChecks spec shard file m out) (countResult (listingAnswer spec shard file m out))
+  -- (of the whole-shard check: 1, 5 and 6 come alone, the others also with the first minishard, in number order, that has a fault)
+  pub check : (spec : Sharding) (shard : ℕ) (file : List ℕ) → DecidedBy (shardChecks spec shard file) (checkResult (checkAnswer spec shard file))
   pub named : (spec : Sharding) (shard : ℕ) (file : List ℕ) (k m p : ℕ) → (checkAnswer spec shard file ≡ Faulty k m p) ↔ FirstFaultIs spec shard file k m p
-  pub formLength : (spec : Sharding) (shard : ℕ) (file : List ℕ) (dropping : Bool) → RefusesAt (lengthAnswer spec shard file dropping) S.Refused S.Faulty (settledLengthChecks spec shard file dropping)
-  pub settle : (spec : Sharding) (shard : ℕ) (file : List ℕ) (dropping : Bool) (out : List ℕ) → RefusesAt (settleAnswer spec shard file dropping out) S.Refused S.Faulty (settleChecks spec shard file dropping out)
-  pub unlisted : (spec : Sharding) (shard : ℕ) (file : List ℕ) → RefusesAt (unlistedAnswer spec shard file) U.Refused U.Faulty (shardChecks spec shard file)
+  pub formLength : (spec : Sharding) (shard : ℕ) (file : List ℕ) (dropping : Bool) → DecidedBy (settledLengthChecks spec shard file dropping) (countResult (lengthAnswer spec shard file dropping))
+  pub settle : (spec : Sharding) (shard : ℕ) (file : List ℕ) (dropping : Bool) (out : List ℕ) → DecidedBy (settleChecks spec shard file dropping out) (countResult (settleAnswer spec shard file dropping out))
+  pub unlisted : (spec : Sharding) (shard : ℕ) (file : List ℕ) → DecidedBy (shardChecks spec shard file) (countResult (unlistedAnswer spec shard file))
   -- (of a pair: 1, 5, 23, then those of the joined file, whose 1 and 5 are the same tests; order 10)
-  pub checkOfPair : (spec : Sharding) (shard : ℕ) (index d : List ℕ) → Refuses (pairCheck spec shard index d) CheckRefused (pairChecks spec (noSuchShard spec shard) index ++ fileChecks spec (noSuchShard spec shard) (index ++ d))
-  pub checkedOfPair : (spec : Sharding) (shard : ℕ) (index d : List ℕ) → checkNumber (pairCheck spec shard index d) ≡ firstNumber (pairChecks spec (noSuchShard spec shard) index ++ shardChecks spec shard (index ++ d))
-  pub passedOfPair : (spec : Sharding) (shard : ℕ) (index d : List ℕ) → (pairCheck spec shard index d ≡ Sound) ↔ (firstNumber (pairChecks spec (noSuchShard spec shard) index ++ shardChecks spec shard (index ++ d)) ≡ 0)
+  pub checkOfPair : (spec : Sharding) (shard : ℕ) (index d : List ℕ) → DecidedBy (pairChecks spec (noSuchShard spec shard) index ++ shardChecks spec shard (index ++ d)) (checkResult (pairCheck spec shard index d))
   pub namedOfPair : (spec : Sharding) (shard : ℕ) (index d : List ℕ) (k m p : ℕ) → (pairCheck spec shard index d ≡ Faulty k m p) ↔ ((length index ≡ indexLength spec) × FirstFaultIs spec shard (index ++ d) k m p)
-  pub lookupOfPair : (spec : Sharding) (shard : ℕ) (index d : List ℕ) (id : ℕ) → RefusesAt (pairLookup spec shard index d id) L.Refused L.Faulty (pairChecks spec (otherShard spec shard id) index ++ lookupChecks spec shard (index ++ d) id)
-  pub fragmentOfPair : (spec : Sharding) (shard : ℕ) (index d : List ℕ) (id level node : ℕ) → RefusesAt (pairFragment spec shard index d id level node) L.Refused L.Faulty (pairChecks spec (otherShard spec shard id) index ++ fragmentChecks spec shard (index ++ d) id level node)
-  pub countOfPair : (spec : Sharding) (shard : ℕ) (index d : List ℕ) (m : ℕ) → RefusesAt (pairCount spec shard index d m) N.Refused N.Faulty (pairChecks spec (noMinishard spec shard m) index ++ countChecks spec shard (index ++ d) m)
-  pub listingOfPair : (spec : Sharding) (shard : ℕ) (index d : List ℕ) (m : ℕ) (out : List ℕ) → RefusesAt (pairListing spec shard index d m out) N.Refused N.Faulty (pairChecks spec (noMinishard spec shard m) index ++ listingChecks spec shard (index ++ d) m out)
-  pub unlistedOfPair : (spec : Sharding) (shard : ℕ) (index d : List ℕ) → RefusesAt (pairUnlisted spec shard index d) U.Refused U.Faulty (pairChecks spec (noSuchShard spec shard) index ++ shardChecks spec shard (index ++ d))
-  pub formLengthOfPair : (spec : Sharding) (shard : ℕ) (index d : List ℕ) (dropping : Bool) → RefusesAt (pairLength spec shard index d dropping) S.Refused S.Faulty (pairChecks spec (noSuchShard spec shard) index ++ settledLengthChecks spec shard (index ++ d) dropping)
-  pub settleOfPair : (spec : Sharding) (shard : ℕ) (index d : List ℕ) (dropping : Bool) (out : List ℕ) → RefusesAt (pairSettle spec shard index d dropping out) S.Refused S.Faulty (pairChecks spec (noSuchShard spec shard) index ++ settleChecks spec shard (index ++ d) dropping out)
+  pub lookupOfPair : (spec : Sharding) (shard : ℕ) (index d : List ℕ) (id : ℕ) → DecidedBy (pairChecks spec (otherShard spec shard id) index ++ lookupChecks spec shard (index ++ d) id) (lookupResult (pairLookup spec shard index d id))
+  pub fragmentOfPair : (spec : Sharding) (shard : ℕ) (index d : List ℕ) (id level node : ℕ) → DecidedBy (pairChecks spec (otherShard spec shard id) index ++ fragmentChecks spec shard (index ++ d) id level node) (lookupResult (pairFragment spec shard index d id level node))
+  pub countOfPair : (spec : Sharding) (shard : ℕ) (index d : List ℕ) (m : ℕ) → DecidedBy (pairChecks spec (noMinishard spec shard m) index ++ countChecks spec shard (index ++ d) m) (countResult (pairCount spec shard index d m))
+  pub listingOfPair : (spec : Sharding) (shard : ℕ) (index d : List ℕ) (m : ℕ) (out : List ℕ) → DecidedBy (pairChecks spec (noMinishard spec shard m) index ++ listingChecks spec shard (index ++ d) m out) (countResult (pairListing spec shard index d m out))
+  pub unlistedOfPair : (spec : Sharding) (shard : ℕ) (index d : List ℕ) → DecidedBy (pairChecks spec (noSuchShard spec shard) index ++ shardChecks spec shard (index ++ d)) (countResult (pairUnlisted spec shard index d))
+  pub formLengthOfPair : (spec : Sharding) (shard : ℕ) (index d : List ℕ) (dropping : Bool) → DecidedBy (pairChecks spec (noSuchShard spec shard) index ++ settledLengthChecks spec shard (index ++ d) dropping) (countResult (pairLength spec shard index d dropping))
+  pub settleOfPair : (spec : Sharding) (shard : ℕ) (index d : List ℕ) (dropping : Bool) (out : List ℕ) → DecidedBy (pairChecks spec (noSuchShard spec shard) index ++ settleChecks spec shard (index ++ d) dropping out) (countResult (pairSettle spec shard index d dropping out))
   -- (of a measure: those of the check, with minishard and position as there, then 27; of a sheet: 27 alone, where a total would pass; order 13)
-  pub measure : (spec : Sharding) (shard : ℕ) (file : List ℕ) → RefusesAt (measureAnswer spec shard file) Ms.Refused (faultyAt spec shard file) (measureChecks spec shard file)
+  pub measure : (spec : Sharding) (shard : ℕ) (file : List ℕ) → DecidedBy (measureChecks spec shard file) (measureResult (measureAnswer spec shard file))
   pub measureNamed : (spec : Sharding) (shard : ℕ) (file : List ℕ) (k m p : ℕ) → (measureAnswer spec shard file ≡ Ms.Faulty k m p) ↔ FirstFaultIs spec shard file k m p
-  pub measureOfPair : (spec : Sharding) (shard : ℕ) (index d : List ℕ) → RefusesAt (pairMeasure spec shard index d) Ms.Refused (faultyAt spec shard (index ++ d)) (pairChecks spec (noSuchShard spec shard) index ++ measureChecks spec shard (index ++ d))
+  pub measureOfPair : (spec : Sharding) (shard : ℕ) (index d : List ℕ) → DecidedBy (pairChecks spec (noSuchShard spec shard) index ++ measureChecks spec shard (index ++ d)) (measureResult (pairMeasure spec shard index d))
   pub measureNamedOfPair : (spec : Sharding) (shard : ℕ) (index d : List ℕ) (k m p : ℕ) → (pairMeasure spec shard index d ≡ Ms.Faulty k m p) ↔ ((length index ≡ indexLength spec) × FirstFaultIs spec shard (index ++ d) k m p)
-  pub sheetAdd : (sheet : Sheet) (spec : Sharding) (shard : ℕ) (file : List ℕ) → Refuses (addAnswer sheet spec shard file) Sh.Refused (joinChecks sheet (sheetOf spec shard file))
-  pub sheetAddPair : (sheet : Sheet) (spec : Sharding) (shard : ℕ) (index d : List ℕ) → Refuses (pairAddAnswer sheet spec shard index d) Sh.Refused (joinChecks sheet (pairSheet spec shard index d))
-  pub sheetJoin : (a b : Sheet) → Refuses (joinAnswer a b) Sh.Refused (joinChecks a b)
-  pub range : (spec : Sharding) (index d : List ℕ) (start end : ℕ) → Refuses (rangeAnswer spec index d start end) R.Refused (rangeChecks spec index d start end)
-  pub cardRead : (s : List ℕ) → Refuses (readAnswer s) D.Refused (readChecks s)
-  pub cardWritten : (c : Card) (out : List ℕ) → Refuses (writeAnswer c out) Refused (writeChecks c out)
-  pub infoRead : (s : List ℕ) (k : ℕ) → Refuses (infoAnswer s k) D.Refused (infoChecks s k)
+  pub sheetAdd : (sheet : Sheet) (spec : Sharding) (shard : ℕ) (file : List ℕ) → DecidedBy (joinChecks sheet (sheetOf spec shard file)) (sheetResult (addAnswer sheet spec shard file))
+  pub sheetAddPair : (sheet : Sheet) (spec : Sharding) (shard : ℕ) (index d : List ℕ) → DecidedBy (joinChecks sheet (pairSheet spec shard index d)) (sheetResult (pairAddAnswer sheet spec shard index d))
+  pub sheetJoin : (a b : Sheet) → DecidedBy (joinChecks a b) (sheetResult (joinAnswer a b))
+  pub range : (spec : Sharding) (index d : List ℕ) (start end : ℕ) → DecidedBy (rangeChecks spec index d start end) (rangeResult (rangeAnswer spec index d start end))
+  pub cardRead : (s : List ℕ) → DecidedBy (readChecks s) (cardResult (readAnswer s))
+  pub cardWritten : (c : Card) (out : List ℕ) → DecidedBy (writeChecks c out) (writtenResult (writeAnswer c out))
+  pub infoRead : (s : List ℕ) (k : ℕ) → DecidedBy (infoChecks s k) (cardResult (infoAnswer s k))
   -- (of an intake: of 30, 1, 5, 10, 25, 26, 13, in this order, those that the call has; order 11)
-  pub intakeOpen : (spec : Sharding) (shard : ℕ) (out waiting : List ℕ) → Refuses (openAnswer spec shard out waiting) I.Refused (openChecks spec shard (length out))
-  pub intakeAnnounce : (s : Intake) (id size : ℕ) (out waiting : List ℕ) → Refuses (announceAnswer s id size out waiting) I.Refused (announceChecks s id size (length out) waiting)
-  pub intakePart : (s : Intake) (bytes out waiting : List ℕ) → Refuses (partAnswer s bytes out waiting) I.Refused (partChecks s (length bytes) (length out) waiting)
-  pub intakeClose : (s : Intake) (out waiting : List ℕ) → Refuses (closeAnswer s out waiting) X.Refused (closeChecks s (length out) waiting)
-  pub manifest : (s : List ℕ) → Refuses (manifestAnswer s) M.Refused (manifestChecks s)
-  pub header : (s : List ℕ) → Refuses (headerAnswer s) H.Refused (manifestChecks s)
-  pub field : (s : List ℕ) (i : ℕ) → Refuses (fieldAnswer s i) F.Refused (fieldChecks s i)
-  pub node : (s : List ℕ) (l i : ℕ) → Refuses (nodeAnswer s l i) O.Refused (nodeChecks s l i)
-  pub nodes : (s : List ℕ) (l : ℕ) (out : List ℕ) → Refuses (nodesAnswer s l out) Refused (nodesChecks s l out)
-  pub corners : (s : List ℕ) (l i : ℕ) → Refuses (cornersAnswer s l i) Cs.Refused (cornersChecks s l i)
+  pub intakeOpen : (spec : Sharding) (shard : ℕ) (out waiting : List ℕ) → DecidedBy (openChecks spec shard (length out)) (intakeResult (openAnswer spec shard out waiting))
+  pub intakeAnnounce : (s : Intake) (id size : ℕ) (out waiting : List ℕ) → DecidedBy (announceChecks s id size (length out) waiting) (intakeResult (announceAnswer s id size out waiting))
+  pub intakePart : (s : Intake) (bytes out waiting : List ℕ) → DecidedBy (partChecks s (length bytes) (length out) waiting) (intakeResult (partAnswer s bytes out waiting))
+  pub intakeClose : (s : Intake) (out waiting : List ℕ) → DecidedBy (closeChecks s (length out) waiting) (closeResult (closeAnswer s out waiting))
+  pub manifest : (s : List ℕ) → DecidedBy (manifestChecks s) (manifestResult (manifestAnswer s))
+  pub header : (s : List ℕ) → DecidedBy (manifestChecks s) (headerResult (headerAnswer s))
+  pub field : (s : List ℕ) (i : ℕ) → DecidedBy (fieldChecks s i) (fieldResult (fieldAnswer s i))
+  pub node : (s : List ℕ) (l i : ℕ) → DecidedBy (nodeChecks s l i) (nodeResult (nodeAnswer s l i))
+  pub nodes : (s : List ℕ) (l : ℕ) (out : List ℕ) → DecidedBy (nodesChecks s l out) (writtenResult (nodesAnswer s l out))
+  pub corners : (s : List ℕ) (l i : ℕ) → DecidedBy (cornersChecks s l i) (cornersResult (cornersAnswer s l i))
   -- (of labels: "2 first, 29 before 28, then 13 for unpacking"; order 14)
-  pub label : (s : List ℕ) (sh : Shape) (x y z c : ℕ) → Refuses (labelAnswer s sh x y z c) E.Refused (labelChecks s sh x y z c)
-  pub unpack : (s : List ℕ) (sh : Shape) (out : List ℕ) → Refuses (unpackAnswer s sh out) Refused (unpackChecks s sh out)
-  pub unpackedLength : (sh : Shape) → Refuses (lengthAnswerOfLabels sh) Refused (lengthChecksOfLabels sh)
+  pub label : (s : List ℕ) (sh : Shape) (x y z c : ℕ) → DecidedBy (labelChecks s sh x y z c) (labelResult (labelAnswer s sh x y z c))
+  pub unpack : (s : List ℕ) (sh : Shape) (out : List ℕ) → DecidedBy (unpackChecks s sh out) (writtenResult (unpackAnswer s sh out))
+  pub unpackedLength : (sh : Shape) → DecidedBy (lengthChecksOfLabels sh) (writtenResult (lengthAnswerOfLabels sh))
   -- And it changes no byte of a buffer that was lent. (A sheet stays: order 13's stays.)
   pub keysKept : (v : Volume) (cells : List Cell) (out : List ℕ) (k : ℕ) → keysAnswer v cells out ≡ Refused k → keysLeft v cells out ≡ out
   pub coverKept : (v : Volume) (lower upper : Point) (out : List ℕ) (k : ℕ) → coverAnswer v lower upper out ≡ Refused k → coverLeft v lower upper out ≡ out
@@ -185,9 +162,9 @@ pub record Demand1 : Type 0 where
   pub chunkNameKept : (v : Volume) (c : Cell) (out : List ℕ) (k : ℕ) → chunkNameAnswer v c out ≡ Refused k → chunkNameLeft v c out ≡ out
   pub fileNameKept : (kind : FileKind) (spec : Sharding) (shard : ℕ) (out : List ℕ) (k : ℕ) → fileNameAnswer kind spec shard out ≡ Refused k → fileNameLeft kind spec shard out ≡ out
   pub listingKept : (spec : Sharding) (shard : ℕ) (file : List ℕ) (m : ℕ) (out : List ℕ) (k : ℕ) (p : Option ℕ) → listingAnswer spec shard file m out ≡ refusal N.Refused N.Faulty k p → listingLeft spec shard file m out ≡ out
-  pub settleKept : (spec : Sharding) (shard : ℕ) (file : List ℕ) (dropping : Bool) (out : List ℕ) (k : ℕ) (p : Option ℕ) → settleAnswer spec shard file dropping out ≡ refusal S.Refused S.Faulty k p → settleLeft spec shard file dropping out ≡ out
+  pub settleKept : (spec : Sharding) (shard : ℕ) (file : List ℕ) (dropping : Bool) (out : List ℕ) (k : ℕ) (p : Option ℕ) → settleAnswer spec shard file dropping out ≡ refusal N.Refused N.Faulty k p → settleLeft spec shard file dropping out ≡ out
   pub listingOfPairKept : (spec : Sharding) (shard : ℕ) (index d : List ℕ) (m : ℕ) (out : List ℕ) (k : ℕ) (p : Option ℕ) → pairListing spec shard index d m out ≡ refusal N.Refused N.Faulty k p → pairListingLeft spec shard index d m out ≡ out
-  pub settleOfPairKept : (spec : Sharding) (shard : ℕ) (index d : List ℕ) (dropping : Bool) (out : List ℕ) (k : ℕ) (p : Option ℕ) → pairSettle spec shard index d dropping out ≡ refusal S.Refused S.Faulty k p → pairSettleLeft spec shard index d dropping out ≡ out
+  pub settleOfPairKept : (spec : Sharding) (shard : ℕ) (index d : List ℕ) (dropping : Bool) (out : List ℕ) (k : ℕ) (p : Option ℕ) → pairSettle spec shard index d dropping out ≡ refusal N.Refused N.Faulty k p → pairSettleLeft spec shard index d dropping out ≡ out
   pub cardKept : (c : Card) (out : List ℕ) (k : ℕ) → writeAnswer c out ≡ Refused k → writeLeft c out ≡ out
   -- (nor does it give an intake another state: its answer has none)
   pub intakeOpenKept : (spec : Sharding) (shard : ℕ) (out waiting : List ℕ) (k : ℕ) → openAnswer spec shard out waiting ≡ I.Refused k → openLeft spec shard out ≡ out
@@ -277,7 +254,7 @@ TooLong spec a out = (length out < length (fileForm spec a)) ⊎ (mostShardBytes
 
 -- settling `a` into `out` reports the length of `form` and writes exactly it: past it the output is as it was
 abbrev pub Settles : Sharding → ℕ → List ℕ → Bool → List ℕ → List ℕ → Type 0
-Settles spec shard a dropping form out = (settleAnswer spec shard a dropping out ≡ S.Length (length form)) × (settleLeft spec shard a dropping out ≡ over form out)
+Settles spec shard a dropping form out = (settleAnswer spec shard a dropping out ≡ N.Count (length form)) × (settleLeft spec shard a dropping out ≡ over form out)
 
 -- "Demand 3 holds as before when dropping is asked, and otherwise for shards with no unlisted byte." (order 8) (RULES D3)
 abbrev pub Ready : Sharding → List ℕ → Bool → Type 0
@@ -304,12 +281,12 @@ pub record Demand3 : Type 0 where
       → length (fileForm spec a) ≤ length out → Settles spec shard (fileForm spec a) dropping (fileForm spec a) out
   -- Settling a sound shard is refused exactly when its form is longer than the output or than 1 GiB, and then with 13, which has no position;
   pub refused : (spec : Sharding) (shard : ℕ) (a : List ℕ) (dropping : Bool) (out : List ℕ) → SoundShard spec shard a → Ready spec a dropping
-      → (number : ℕ) (p : Option ℕ) → (settleAnswer spec shard a dropping out ≡ refusal S.Refused S.Faulty number p) ↔ ((number ≡ 13) × (p ≡ none) × TooLong spec a out)
+      → (number : ℕ) (p : Option ℕ) → (settleAnswer spec shard a dropping out ≡ refusal N.Refused N.Faulty number p) ↔ ((number ≡ 13) × (p ≡ none) × TooLong spec a out)
   -- otherwise it writes exactly that form and reports its length.
   pub written : (spec : Sharding) (shard : ℕ) (a : List ℕ) (dropping : Bool) (out : List ℕ) → SoundShard spec shard a → Ready spec a dropping
       → (TooLong spec a out → ⊥) → Settles spec shard a dropping (fileForm spec a) out
   -- The form is as long as its length, a whole number of any size, says; the settled length of a sound shard is answered with it, or
   -- with 13 where it is above 1 GiB.
   pub long : (spec : Sharding) (a : List ℕ) → length (fileForm spec a) ≡ fileFormLength spec a
-  pub measured : (spec : Sharding) (shard : ℕ) (a : List ℕ) (dropping : Bool) → SoundShard spec shard a → Ready spec a dropping → Short spec a → lengthAnswer spec shard a dropping ≡ S.Length (fileFormLength spec a)
-  pub unmeasured : (spec : Sharding) (shard : ℕ) (a : List ℕ) (dropping : Bool) → SoundShard spec shard a → Ready spec a dropping → mostShardBytes < fileFormLength spec a → lengthAnswer spec shard a dropping ≡ S.Refused 13
+  pub measured : (spec : Sharding) (shard : ℕ) (a : List ℕ) (dropping : Bool) → SoundShard spec shard a → Ready spec a dropping → Short spec a → lengthAnswer spec shard a dropping ≡ N.Count (fileFormLength spec a)
+  pub unmeasured : (spec : Sharding) (shard : ℕ) (a : List ℕ) (dropping : Bool) → SoundShard spec shard a → Ready spec a dropping → mostShardBytes < fileFormLength spec a → lengthAnswer spec shard a dropping ≡ N.Refused 13

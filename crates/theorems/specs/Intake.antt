@@ -17,8 +17,9 @@ use Rattle.intake.specs.numbers.Numbers.{stateOf}
 use Rattle.intake.specs.admission.Refusals.{openChecks, announceChecks, partChecks, closeChecks}
 use Rattle.intake.specs.declared.CloseAnswer.the-variants.{Closed}
 use Rattle.intake.specs.steps.Steps.{closed}
-use Rattle.intake.specs.Calls.{openAnswer, openLeft, announceAnswer, announceLeft, announceWaiting, partAnswer, partLeft, closeAnswer, closeLeft}
-use Rattle.coronagamba.specs.Intakes.{intakeWord, stateAfter, partAfter, closeWord, shardLengthAfter}
+use Rattle.intake.specs.Calls.{openAnswer, openLeft, announceAnswer, announceLeft, announceWaiting, partAnswer, partLeft, closeAnswer, closeLeft, intakeResult, closeResult}
+use Rattle.coronagamba.specs.word.Word.{wordOf}
+use Rattle.coronagamba.specs.Intakes.{stateAfter, partAfter, shardLengthAfter}
 use Rattle.delivered.specs.Delivered.{Delivery, asItems, deliveredForm, InOrder}
 use Rattle.delivered.specs.Runs.{Desk, afterPart, afterClose, HandsOver, Delivers, Takes, ClosedShard, Over}
 use Rattle.delivered.specs.Says.{owing, openSays, announceSays, partSays, closeSays}
@@ -76,16 +77,16 @@ rowHanded r bytes = record {
 -- runs of such calls, as those of crates/delivered/specs/Runs.antt
 pub data RowHands : Row → List (List ℕ) → Row → Type 0 where
   row-no-part : {r : Row} → RowHands r [] r
-  row-part : {r e : Row} {bytes : List ℕ} {parts : List (List ℕ)} → intakeWord (partOn r bytes) ≡ 0 → RowHands (rowHanded r bytes) parts e → RowHands r (bytes ∷ parts) e
+  row-part : {r e : Row} {bytes : List ℕ} {parts : List (List ℕ)} → wordOf (intakeResult (partOn r bytes)) ≡ 0 → RowHands (rowHanded r bytes) parts e → RowHands r (bytes ∷ parts) e
 
 pub data RowDelivers : Row → List Delivery → Row → Type 0 where
   row-no-chunk : {r : Row} → RowDelivers r [] r
-  row-chunk : {r e f : Row} {x : Delivery} {xs : List Delivery} → x .id < 2 ^ 64 → intakeWord (announceOn r (x .id) (x .size)) ≡ 0
+  row-chunk : {r e f : Row} {x : Delivery} {xs : List Delivery} → x .id < 2 ^ 64 → wordOf (intakeResult (announceOn r (x .id) (x .size))) ≡ 0
       → RowHands (rowAnnounced r (x .id) (x .size)) (x .parts) e → RowDelivers e xs f → RowDelivers r (x ∷ xs) f
 
 pub record RowTakes (spec : Sharding) (shard : ℕ) (out waiting : List ℕ) (xs : List Delivery) (r : Row) : Type 0 where
   pub before : List ℕ
-  pub opens : intakeWord (openAnswer spec shard out waiting) ≡ 0
+  pub opens : wordOf (intakeResult (openAnswer spec shard out waiting)) ≡ 0
   pub idle : List (List ℕ)
   pub first : Row
   pub idles : RowHands (rowOpened spec shard out waiting before) idle first
@@ -97,7 +98,7 @@ pub record Order11 : Type 0 where
   pub settled : (spec : Sharding) (shard : ℕ) (out waiting : List ℕ) (xs : List Delivery) (d : Desk) (n : ℕ) → Takes spec shard out waiting xs d → Closes d n
       → (n ≡ length (deliveredForm spec xs)) × (closeLeft (d .state) (d .output) (d .waiting) ≡ over (deliveredForm spec xs) out)
   -- The same at the C border: the close writes the length, and the output is as above,
-  pub border : (spec : Sharding) (shard : ℕ) (out waiting : List ℕ) (xs : List Delivery) (r : Row) (before : ℕ) → RowTakes spec shard out waiting xs r → closeWord (closeOn r) ≡ 0
+  pub border : (spec : Sharding) (shard : ℕ) (out waiting : List ℕ) (xs : List Delivery) (r : Row) (before : ℕ) → RowTakes spec shard out waiting xs r → wordOf (closeResult (closeOn r)) ≡ 0
       → (shardLengthAfter (closeOn r) before ≡ length (deliveredForm spec xs))
       × (closeLeft (stateOf (r .numbers)) (r .output) (r .waiting) ≡ over (deliveredForm spec xs) out)
   -- however the parts were cut": two runs that deliver the same, in other parts or into other buffers, leave the same.

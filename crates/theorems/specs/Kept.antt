@@ -21,8 +21,8 @@ use Rattle.lookup.specs.declared.id_search.LookupAnswer.the-variants as L
 use Rattle.lookup.specs.chosen_minishard.Chosen.{chosenChecks, chosenChunk}
 use Rattle.settled_form.specs.Form.{settled, settledLength}
 use Rattle.settled_form.specs.Content.{contentFrom}
-use Rattle.settle.specs.declared.answers.SettleAnswer.{SettleAnswer}
-use Rattle.settle.specs.declared.answers.SettleAnswer.the-variants as S
+use Rattle.refusal.specs.declared.CountAnswer.{CountAnswer}
+use Rattle.refusal.specs.declared.CountAnswer.the-variants as S
 
 -- the minishards of a shard, its shard index, and the data behind it
 abbrev pub minishardsBefore : Sharding → ℕ
@@ -63,8 +63,8 @@ settlingBefore spec shard file out =
     (fileChecksBefore spec (noShardBefore spec shard) file ++ minishardsChecks spec shard (indexBefore spec file) (dataBefore spec file) 0 (minishardsBefore spec))
     ++ (check 13 (ltb (length out) (settledLength (contentBefore spec file)) || ltb 1073741824 (settledLength (contentBefore spec file))) ∷ [])
 
-unfoldable pub settleBefore : Sharding → ℕ → List ℕ → List ℕ → SettleAnswer
-settleBefore spec shard file out = answeredAt S.Refused S.Faulty (settlingBefore spec shard file out) (S.Length (settledLength (contentBefore spec file)))
+unfoldable pub settleBefore : Sharding → ℕ → List ℕ → List ℕ → CountAnswer
+settleBefore spec shard file out = answeredAt S.Refused S.Faulty (settlingBefore spec shard file out) (S.Count (settledLength (contentBefore spec file)))
 
 unfoldable pub settleLeftBefore : Sharding → ℕ → List ℕ → List ℕ → List ℕ
 settleLeftBefore spec shard file out = left (settlingBefore spec shard file out) (over (settled (contentBefore spec file)) out) out

@@ -3,11 +3,13 @@ use Prim.Native.Nat.{ℕ, zero, suc, _<_, _≤_, _+_, _-_, _^_}
 use mathlib.Core.Path.{_≡_}
 use mathlib.Core.Bool.{Bool, true, false, not, _&&_, _||_}
 use mathlib.Core.Logic.{_↔_}
+use mathlib.Core.Option.{none}
 use mathlib.Core.List.{List, [], _∷_, _++_, List·Memᴰ, map}
 use lib.Dec.{eqb, leb}
 use lib.ListN.{length, take, getD}
 use Rattle.refusal.specs.Choice.{pick}
 use Rattle.refusal.specs.Checks.{Check, check, left, answeredAt}
+use Rattle.refusal.specs.Result.{Result, countResult}
 use Rattle.refusal.specs.Buffer.{over, room}
 use Rattle.refusal.specs.declared.Written.the-variants.{Length}
 use Rattle.morton.specs.declared.grid.Cell.{Cell}
@@ -31,32 +33,28 @@ use Rattle.sharding.specs.batch.Batch.{shardsOf, minishardsOf, placesChecks}
 use Rattle.sharding.specs.Before.{mostMinishardBitsBefore, allowedBefore}
 use Rattle.names.specs.Shards.{shardName, shardNameChecks}
 use Rattle.shard.specs.declared.CheckAnswer.the-variants.{Sound, Faulty}
-use Rattle.shard.specs.declared.CheckAnswer.the-variants as C
 use Rattle.shard.specs.index.Index.{entryStart, entryEnd, entryCount, startSteps, chunkAt, mostShardBytes}
 use Rattle.mesh_manifest.specs.nodes.Nodes.{fragmentsLength}
-use Rattle.shard.specs.File.{indexPart, dataPart, fileChecks, shardChecks, checkAnswer}
+use Rattle.shard.specs.File.{indexPart, dataPart, fileChecks, shardChecks, checkAnswer, checkResult}
 use Rattle.shard.specs.Before.{PassedBefore}
 use Rattle.shard.specs.Sound.{SoundMinishard, SoundShard}
 use Rattle.mesh_manifest.specs.sound.Soundness.{Sound as Manifest}
 use Rattle.unlisted.specs.ranges.Ranges.{countIn, chunkStart, Unlisted}
 use Rattle.bitmap.specs.Positions.{misses}
 use Rattle.unlisted.specs.ranges.Covered.{coveredAt, fileUnlisted}
-use Rattle.unlisted.specs.declared.UnlistedAnswer.the-variants as U
 use Rattle.unlisted.specs.Answers.{unlistedAnswer}
 use Rattle.lookup.specs.declared.id_search.LookupAnswer.the-variants as L
-use Rattle.lookup.specs.Find.{lookupAnswer}
+use Rattle.lookup.specs.Find.{lookupAnswer, lookupResult}
 use Rattle.lookup.specs.fragments.Fragment.{fragmentAnswer}
-use Rattle.lookup.specs.declared.listings.CountAnswer.the-variants as N
+use Rattle.refusal.specs.declared.CountAnswer.the-variants as N
 use Rattle.lookup.specs.listings.Listing.{countAnswer, listingAnswer}
 use Rattle.settled_form.specs.Content.{fileContent, fileForm, fileFormLength}
 use Rattle.settled_form.specs.Form.{partsLength}
 use Rattle.settled_form.specs.Before.{Pair, settledBefore, pairsFrom, pairBefore, fileFormBeforeMesh}
-use Rattle.settle.specs.declared.answers.SettleAnswer.the-variants as S
 use Rattle.settle.specs.answers.Answers.{lengthCheck, settleCheck, lengthAnswer, settleAnswer, settleLeft}
 use Rattle.split_shard.specs.Answers.{pairCheck, pairLookup, pairFragment}
 use Rattle.split_shard.specs.form.Answers.{pairCount, pairListing, pairUnlisted, pairLength, pairSettle}
-use Rattle.holdings.specs.declared.measures.MeasureAnswer.the-variants as Ms
-use Rattle.holdings.specs.measures.Answers.{measureAnswer, pairMeasure}
+use Rattle.holdings.specs.measures.Answers.{measureAnswer, pairMeasure, measureResult}
 use Rattle.positions.specs.Points.{PointsAt, Named}
 use Rattle.card.specs.declared.Card.{Card}
 use Rattle.card.specs.declared.CardAnswer.the-variants.{Says, Refused}
@@ -86,7 +84,7 @@ pub record Order2 : Type 0 where
   pub form : (spec : Sharding) (shard : ℕ) (a : List ℕ) → PassedBefore spec shard a → fileForm spec a ≡ formBefore spec a
   -- and where that has room, settling, asked to drop what is unlisted as it always did, writes these bytes and reports their length.
   pub settles : (spec : Sharding) (shard : ℕ) (a out : List ℕ) → PassedBefore spec shard a → length (formBefore spec a) ≤ length out → length (formBefore spec a) ≤ mostShardBytes
-      → (settleAnswer spec shard a true out ≡ S.Length (length (formBefore spec a))) × (settleLeft spec shard a true out ≡ over (formBefore spec a) out)
+      → (settleAnswer spec shard a true out ≡ N.Count (length (formBefore spec a))) × (settleLeft spec shard a true out ≡ over (formBefore spec a) out)
 
 -- Order 4: "Existing shards and cards keep their bytes and meaning." Since order 7 it "speaks of volume cards". (RULES S9, C6)
 pub record Order4 : Type 0 where
@@ -139,10 +137,9 @@ pub record Order5 : Type 0 where
 abbrev pub isPlaced : ℕ → Bool
 isPlaced k = (leb 7 k && leb k 11) || (leb 15 k && leb k 17) || eqb k 21
 
--- the answer a has a position exactly where it refuses with one of these
-pub record Carries {A : Type 0} (a : A) (refused : ℕ → A) (refusedAt : ℕ → ℕ → A) : Type 0 where
-  pub always : (k : ℕ) → a ≡ refused k → isPlaced k ≡ false
-  pub only : (k p : ℕ) → a ≡ refusedAt k p → isPlaced k ≡ true
+-- a result names a position exactly where its number is one of these
+abbrev pub Carries : {A : Type 0} → Result A → Type 0
+Carries r = (r .position ≡ none) ↔ (isPlaced (r .number) ≡ false)
 
 -- Order 6: "Refusals 7 to 11 now carry a byte position in the shard: for 7 and 8 the index entry, for 9 and 10 the id step of the first
 -- offending entry, for 11 its start step. For 9 the offending entry is the later of the pair." Since order 7 also those of a mesh's manifests, 15 to 17
@@ -157,29 +154,29 @@ pub record Order6 : Type 0 where
   pub count : (spec : Sharding) (shard : ℕ) (file : List ℕ) (m k p : ℕ) → countAnswer spec shard file m ≡ N.Faulty k p → PointsAt spec shard file m k p
   pub listing : (spec : Sharding) (shard : ℕ) (file : List ℕ) (m : ℕ) (out : List ℕ) (k p : ℕ) → listingAnswer spec shard file m out ≡ N.Faulty k p → PointsAt spec shard file m k p
   -- Settling, and the count of unlisted bytes, give what the check gives, without the minishard.
-  pub unlisted : (spec : Sharding) (shard : ℕ) (file : List ℕ) (k p : ℕ) → unlistedAnswer spec shard file ≡ U.Faulty k p → Named spec shard file k p
-  pub formLength : (spec : Sharding) (shard : ℕ) (file : List ℕ) (k p : ℕ) (dropping : Bool) → lengthAnswer spec shard file dropping ≡ S.Faulty k p → Named spec shard file k p
-  pub settle : (spec : Sharding) (shard : ℕ) (file : List ℕ) (dropping : Bool) (out : List ℕ) (k p : ℕ) → settleAnswer spec shard file dropping out ≡ S.Faulty k p → Named spec shard file k p
+  pub unlisted : (spec : Sharding) (shard : ℕ) (file : List ℕ) (k p : ℕ) → unlistedAnswer spec shard file ≡ N.Faulty k p → Named spec shard file k p
+  pub formLength : (spec : Sharding) (shard : ℕ) (file : List ℕ) (k p : ℕ) (dropping : Bool) → lengthAnswer spec shard file dropping ≡ N.Faulty k p → Named spec shard file k p
+  pub settle : (spec : Sharding) (shard : ℕ) (file : List ℕ) (dropping : Bool) (out : List ℕ) (k p : ℕ) → settleAnswer spec shard file dropping out ≡ N.Faulty k p → Named spec shard file k p
   -- "Refusals 7 to 11 now carry a byte position", and 15 to 17 and 21 of a listed manifest, always; no other refusal ever does. "All who pass these refusals on,
   -- from lookup to settling, pass the position too": of each call on a file, and on a pair.
-  pub checkCarries : (spec : Sharding) (shard : ℕ) (file : List ℕ) (m : ℕ) → Carries (checkAnswer spec shard file) C.Refused (λ k p. C.Faulty k m p)
-  pub lookupCarries : (spec : Sharding) (shard : ℕ) (file : List ℕ) (id : ℕ) → Carries (lookupAnswer spec shard file id) L.Refused L.Faulty
-  pub fragmentCarries : (spec : Sharding) (shard : ℕ) (file : List ℕ) (id level node : ℕ) → Carries (fragmentAnswer spec shard file id level node) L.Refused L.Faulty
-  pub countCarries : (spec : Sharding) (shard : ℕ) (file : List ℕ) (m : ℕ) → Carries (countAnswer spec shard file m) N.Refused N.Faulty
-  pub listingCarries : (spec : Sharding) (shard : ℕ) (file : List ℕ) (m : ℕ) (out : List ℕ) → Carries (listingAnswer spec shard file m out) N.Refused N.Faulty
-  pub unlistedCarries : (spec : Sharding) (shard : ℕ) (file : List ℕ) → Carries (unlistedAnswer spec shard file) U.Refused U.Faulty
-  pub formLengthCarries : (spec : Sharding) (shard : ℕ) (file : List ℕ) (dropping : Bool) → Carries (lengthAnswer spec shard file dropping) S.Refused S.Faulty
-  pub settleCarries : (spec : Sharding) (shard : ℕ) (file : List ℕ) (dropping : Bool) (out : List ℕ) → Carries (settleAnswer spec shard file dropping out) S.Refused S.Faulty
-  pub measureCarries : (spec : Sharding) (shard : ℕ) (file : List ℕ) (m : ℕ) → Carries (measureAnswer spec shard file) Ms.Refused (λ k p. Ms.Faulty k m p)
-  pub checkOfPairCarries : (spec : Sharding) (shard : ℕ) (index d : List ℕ) (m : ℕ) → Carries (pairCheck spec shard index d) C.Refused (λ k p. C.Faulty k m p)
-  pub lookupOfPairCarries : (spec : Sharding) (shard : ℕ) (index d : List ℕ) (id : ℕ) → Carries (pairLookup spec shard index d id) L.Refused L.Faulty
-  pub fragmentOfPairCarries : (spec : Sharding) (shard : ℕ) (index d : List ℕ) (id level node : ℕ) → Carries (pairFragment spec shard index d id level node) L.Refused L.Faulty
-  pub countOfPairCarries : (spec : Sharding) (shard : ℕ) (index d : List ℕ) (m : ℕ) → Carries (pairCount spec shard index d m) N.Refused N.Faulty
-  pub listingOfPairCarries : (spec : Sharding) (shard : ℕ) (index d : List ℕ) (m : ℕ) (out : List ℕ) → Carries (pairListing spec shard index d m out) N.Refused N.Faulty
-  pub unlistedOfPairCarries : (spec : Sharding) (shard : ℕ) (index d : List ℕ) → Carries (pairUnlisted spec shard index d) U.Refused U.Faulty
-  pub formLengthOfPairCarries : (spec : Sharding) (shard : ℕ) (index d : List ℕ) (dropping : Bool) → Carries (pairLength spec shard index d dropping) S.Refused S.Faulty
-  pub settleOfPairCarries : (spec : Sharding) (shard : ℕ) (index d : List ℕ) (dropping : Bool) (out : List ℕ) → Carries (pairSettle spec shard index d dropping out) S.Refused S.Faulty
-  pub measureOfPairCarries : (spec : Sharding) (shard : ℕ) (index d : List ℕ) (m : ℕ) → Carries (pairMeasure spec shard index d) Ms.Refused (λ k p. Ms.Faulty k m p)
+  pub checkCarries : (spec : Sharding) (shard : ℕ) (file : List ℕ) → Carries (checkResult (checkAnswer spec shard file))
+  pub lookupCarries : (spec : Sharding) (shard : ℕ) (file : List ℕ) (id : ℕ) → Carries (lookupResult (lookupAnswer spec shard file id))
+  pub fragmentCarries : (spec : Sharding) (shard : ℕ) (file : List ℕ) (id level node : ℕ) → Carries (lookupResult (fragmentAnswer spec shard file id level node))
+  pub countCarries : (spec : Sharding) (shard : ℕ) (file : List ℕ) (m : ℕ) → Carries (countResult (countAnswer spec shard file m))
+  pub listingCarries : (spec : Sharding) (shard : ℕ) (file : List ℕ) (m : ℕ) (out : List ℕ) → Carries (countResult (listingAnswer spec shard file m out))
+  pub unlistedCarries : (spec : Sharding) (shard : ℕ) (file : List ℕ) → Carries (countResult (unlistedAnswer spec shard file))
+  pub formLengthCarries : (spec : Sharding) (shard : ℕ) (file : List ℕ) (dropping : Bool) → Carries (countResult (lengthAnswer spec shard file dropping))
+  pub settleCarries : (spec : Sharding) (shard : ℕ) (file : List ℕ) (dropping : Bool) (out : List ℕ) → Carries (countResult (settleAnswer spec shard file dropping out))
+  pub measureCarries : (spec : Sharding) (shard : ℕ) (file : List ℕ) → Carries (measureResult (measureAnswer spec shard file))
+  pub checkOfPairCarries : (spec : Sharding) (shard : ℕ) (index d : List ℕ) → Carries (checkResult (pairCheck spec shard index d))
+  pub lookupOfPairCarries : (spec : Sharding) (shard : ℕ) (index d : List ℕ) (id : ℕ) → Carries (lookupResult (pairLookup spec shard index d id))
+  pub fragmentOfPairCarries : (spec : Sharding) (shard : ℕ) (index d : List ℕ) (id level node : ℕ) → Carries (lookupResult (pairFragment spec shard index d id level node))
+  pub countOfPairCarries : (spec : Sharding) (shard : ℕ) (index d : List ℕ) (m : ℕ) → Carries (countResult (pairCount spec shard index d m))
+  pub listingOfPairCarries : (spec : Sharding) (shard : ℕ) (index d : List ℕ) (m : ℕ) (out : List ℕ) → Carries (countResult (pairListing spec shard index d m out))
+  pub unlistedOfPairCarries : (spec : Sharding) (shard : ℕ) (index d : List ℕ) → Carries (countResult (pairUnlisted spec shard index d))
+  pub formLengthOfPairCarries : (spec : Sharding) (shard : ℕ) (index d : List ℕ) (dropping : Bool) → Carries (countResult (pairLength spec shard index d dropping))
+  pub settleOfPairCarries : (spec : Sharding) (shard : ℕ) (index d : List ℕ) (dropping : Bool) (out : List ℕ) → Carries (countResult (pairSettle spec shard index d dropping out))
+  pub measureOfPairCarries : (spec : Sharding) (shard : ℕ) (index d : List ℕ) → Carries (measureResult (pairMeasure spec shard index d))
 
 -- the specification, of a volume
 abbrev pub asVolume : Sharding → Sharding
@@ -245,21 +242,21 @@ pub record Order8 : Type 0 where
   -- "An unlisted byte lies past the shard index in no listed chunk, no fragment and no nonempty minishard index." Their number, which a sound
   -- shard is answered with, is that of the positions of the data that the test misses, and these are the unlisted ones; it is 0 exactly when there
   -- is none.
-  pub counted : (spec : Sharding) (shard : ℕ) (a : List ℕ) → SoundShard spec shard a → unlistedAnswer spec shard a ≡ U.Count (fileUnlisted spec a)
+  pub counted : (spec : Sharding) (shard : ℕ) (a : List ℕ) → SoundShard spec shard a → unlistedAnswer spec shard a ≡ N.Count (fileUnlisted spec a)
   pub number : (spec : Sharding) (a : List ℕ) → fileUnlisted spec a ≡ misses (coveredAt spec (indexPart spec a) (dataPart spec a)) (length (dataPart spec a))
   pub missed : (spec : Sharding) (a : List ℕ) (p : ℕ) → p < length (dataPart spec a)
       → (coveredAt spec (indexPart spec a) (dataPart spec a) p ≡ false) ↔ Unlisted spec (indexPart spec a) (dataPart spec a) p
   pub none : (spec : Sharding) (a : List ℕ) → (fileUnlisted spec a ≡ 0) ↔ ((p : ℕ) → Unlisted spec (indexPart spec a) (dataPart spec a) p → ⊥)
   -- A sound shard that has one is refused with 22, whatever the output's length, and the output is as it was;
   pub refused : (spec : Sharding) (shard : ℕ) (a out : List ℕ) (p : ℕ) → SoundShard spec shard a → Unlisted spec (indexPart spec a) (dataPart spec a) p
-      → (settleAnswer spec shard a false out ≡ S.Refused 22) × (settleLeft spec shard a false out ≡ out)
-  pub unmeasured : (spec : Sharding) (shard : ℕ) (a : List ℕ) (p : ℕ) → SoundShard spec shard a → Unlisted spec (indexPart spec a) (dataPart spec a) p → lengthAnswer spec shard a false ≡ S.Refused 22
+      → (settleAnswer spec shard a false out ≡ N.Refused 22) × (settleLeft spec shard a false out ≡ out)
+  pub unmeasured : (spec : Sharding) (shard : ℕ) (a : List ℕ) (p : ℕ) → SoundShard spec shard a → Unlisted spec (indexPart spec a) (dataPart spec a) p → lengthAnswer spec shard a false ≡ N.Refused 22
   -- asked to drop them, settling answers and writes what it did before there was a choice: the check's refusals, then 13; so does the settled length.
   pub asked : (spec : Sharding) (shard : ℕ) (a out : List ℕ)
-      → (settleAnswer spec shard a true out ≡ answeredAt S.Refused S.Faulty (settleChecksBefore spec shard a out) (S.Length (fileFormLength spec a)))
+      → (settleAnswer spec shard a true out ≡ answeredAt N.Refused N.Faulty (settleChecksBefore spec shard a out) (N.Count (fileFormLength spec a)))
       × (settleLeft spec shard a true out ≡ left (settleChecksBefore spec shard a out) (over (fileForm spec a) out) out)
   pub askedLength : (spec : Sharding) (shard : ℕ) (a : List ℕ)
-      → lengthAnswer spec shard a true ≡ answeredAt S.Refused S.Faulty (lengthChecksBefore spec shard a) (S.Length (fileFormLength spec a))
+      → lengthAnswer spec shard a true ≡ answeredAt N.Refused N.Faulty (lengthChecksBefore spec shard a) (N.Count (fileFormLength spec a))
   -- A settled form has none.
   pub form : (spec : Sharding) (shard : ℕ) (a : List ℕ) → SoundShard spec shard a → length (fileForm spec a) ≤ mostShardBytes → fileUnlisted spec (fileForm spec a) ≡ 0
 

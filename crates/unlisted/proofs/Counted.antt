@@ -8,6 +8,8 @@ use borrow.Author.Needs.{needs}
 use lib.ListN.{length, take, length-drop}
 use lib.Seq.{length-take-le}
 use Rattle.refusal.specs.Checks.{RefusesAt}
+use Rattle.refusal.specs.Result.{countResult, DecidedBy}
+use Rattle.refusal.proofs.Results.{decided-at}
 use Rattle.refusal.proofs.Tests.{told-yes}
 use Rattle.refusal.proofs.Positions.{refusing-at}
 use Rattle.bitmap.specs.Positions.{after, misses}
@@ -25,7 +27,7 @@ use Rattle.shard.proofs.Numbers.{shard-in}
 use Rattle.shard.proofs.Split.{restOf, rest-whole}
 use Rattle.shard.proofs.Whole.{sound-passes-check}
 use Rattle.shard.proofs.WholeAnswers.{check-disallowed, check-shard, check-short, check-long, check-sound, check-fault}
-use Rattle.unlisted.specs.declared.UnlistedAnswer.the-variants.{Count, Refused, Faulty}
+use Rattle.refusal.specs.declared.CountAnswer.the-variants.{Count, Refused, Faulty}
 use Rattle.unlisted.specs.declared.rising_walk.Run.{Run}
 use Rattle.unlisted.specs.ranges.Ranges.{Range, chunkRange, leadRange, indexRange, countIn, begin, finish, Has, LiesIn}
 use Rattle.unlisted.specs.ranges.Covered.{coveredAt, unlistedBytes, fileUnlisted}
@@ -112,6 +114,10 @@ module _ (spec : Sharding) (shard : ℕ) (file : List ℕ) where
   pub unlisted-refuses : RefusesAt (unlistedAnswer spec shard file) Refused Faulty (shardChecks spec shard file)
   unfolding unlistedAnswer
   unlisted-refuses = refusing-at Refused Faulty (λ j k e. cc) (λ j k p q e. (cc, cc)) (λ j k p e. cc) (shardChecks spec shard file) _ (λ k e. cc) (λ k p e. cc) (shard-in spec shard file)
+
+  pub unlisted-decided : DecidedBy (shardChecks spec shard file) (countResult (unlistedAnswer spec shard file))
+  unfolding unlistedAnswer
+  unlisted-decided = decided-at countResult Refused (λ k. refl) Faulty (λ k p. (refl, refl, refl)) (shardChecks spec shard file) _ refl (shard-in spec shard file)
 
   -- of a sound shard the count is answered
   pub unlisted-sound : SoundShard spec shard file → unlistedAnswer spec shard file ≡ Count (fileUnlisted spec file)

@@ -17,19 +17,12 @@ ghost use Rattle.unlisted.specs.Judging.{Counts};
 ghost use Rattle.unlisted.specs.Answers.{unlistedAnswer};
 use crate::counting::Counted;
 use crate::counting::count_judged;
+use refusal::CountAnswer;
 use shard::lengths::MOST_SHARD_BYTES;
 use shard::lengths::index_length;
 use sharding::Sharding;
 use sharding::limits::is_allowed;
 use sharding::limits::shard_count;
-
-// How many bytes of a shard are unlisted, or the refusal. What is wrong in a minishard comes with its byte position, counted from
-// the beginning of the shard.
-pub enum UnlistedAnswer {
-    Count(u64),
-    Refused(u8),
-    Faulty { number: u8, position: u64 },
-}
 
 // In a file whose length was tested, by its two parts.
 fn counted_file(spec: Sharding, shard: u64, file: &[u8]) -> Counted
@@ -42,26 +35,26 @@ fn counted_file(spec: Sharding, shard: u64, file: &[u8]) -> Counted
 }
 
 // The number of unlisted bytes of a sound shard, or the refusal.
-pub fn unlisted_count(spec: Sharding, shard: u64, file: &[u8]) -> UnlistedAnswer
+pub fn unlisted_count(spec: Sharding, shard: u64, file: &[u8]) -> CountAnswer
     ensures answer { λ r. ⌜ r ≡ unlistedAnswer spec shard (now (file .entry)) ⌝ }
 {
     if !is_allowed(spec) {
-        return UnlistedAnswer::Refused(1);
+        return CountAnswer::Refused(1);
     }
     if shard_count(spec) <= shard {
-        return UnlistedAnswer::Refused(5);
+        return CountAnswer::Refused(5);
     }
     if file.len() < index_length(spec) {
-        return UnlistedAnswer::Refused(6);
+        return CountAnswer::Refused(6);
     }
     if MOST_SHARD_BYTES < file.len() {
-        return UnlistedAnswer::Refused(6);
+        return CountAnswer::Refused(6);
     }
     let found = counted_file(spec, shard, file);
     if found.number == 0 {
-        return UnlistedAnswer::Count(found.bytes);
+        return CountAnswer::Count(found.bytes as usize);
     }
-    UnlistedAnswer::Faulty {
+    CountAnswer::Faulty {
         number: found.number,
         position: found.position,
     }

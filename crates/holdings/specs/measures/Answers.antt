@@ -2,12 +2,14 @@
 use Prim.Native.Nat.{ℕ}
 use mathlib.Core.List.{List, [], _∷_}
 use Rattle.refusal.specs.Checks.{check, answered}
+use Rattle.refusal.specs.Result.{Result, success, refused, faultyIn}
 use Rattle.sharding.specs.declared.Sharding.{Sharding}
 use Rattle.shard.specs.declared.CheckAnswer.{CheckAnswer}
 use Rattle.shard.specs.declared.CheckAnswer.the-variants as C
 use Rattle.shard.specs.File.{indexPart, dataPart, checkAnswer}
 use Rattle.split_shard.specs.Answers.{pairCheck}
 use Rattle.holdings.specs.chunk_sums.Totals.{passes}
+use Rattle.holdings.specs.declared.measures.Counts.{Counts}
 use Rattle.holdings.specs.declared.measures.MeasureAnswer.{MeasureAnswer}
 use Rattle.holdings.specs.declared.measures.MeasureAnswer.the-variants.{Sound, Refused, Faulty}
 use Rattle.holdings.specs.measures.Measures.{chunkBytes, measureOf}
@@ -29,3 +31,8 @@ measureAnswer spec shard file = afterVerdict (checkAnswer spec shard file) (meas
 -- of a pair: the index file is the shard index where the check passes, else 23 (RULES P1) (RULES H1)
 unfoldable pub pairMeasure : Sharding → ℕ → List ℕ → List ℕ → MeasureAnswer
 pairMeasure spec shard index d = afterVerdict (pairCheck spec shard index d) (measuredIn spec index d)
+
+abbrev pub measureResult : MeasureAnswer → Result Counts
+measureResult (Sound counts) = success counts
+measureResult (Refused k) = refused k
+measureResult (Faulty k m p) = faultyIn k m p

@@ -30,8 +30,8 @@ use Rattle.shard.proofs.Passed.{sound-readable}
 use Rattle.shard.proofs.Split.{restOf, rest-whole, rest-short, front-index, length-short, length-long, length-good, index-short}
 use Rattle.lookup.specs.entries.Entries.{listingIn}
 use Rattle.lookup.proofs.entries.Entries.{length-entries}
-use Rattle.lookup.specs.declared.listings.CountAnswer.{CountAnswer}
-use Rattle.lookup.specs.declared.listings.CountAnswer.the-variants.{Count, Refused, Faulty}
+use Rattle.refusal.specs.declared.CountAnswer.{CountAnswer}
+use Rattle.refusal.specs.declared.CountAnswer.the-variants.{Count, Refused, Faulty}
 use Rattle.lookup.specs.listings.Listing.{listingOf, listedCount, countIn, countChecks, countAnswer, listingAnswer, listingLeft}
 use Rattle.lookup.proofs.listings.Refused.{listing-picks, left-picks}
 

@@ -9,6 +9,8 @@ use lib.Dec.{ltb, leb}
 use lib.ListN.{length}
 use Rattle.refusal.specs.Choice.{pick}
 use Rattle.refusal.specs.Checks.{firstNumber, firstPosition, unless, left, refusal, answeredAt, RefusesAt}
+use Rattle.refusal.specs.Result.{countResult, DecidedBy}
+use Rattle.refusal.proofs.Results.{decided-at}
 use Rattle.refusal.specs.Buffer.{room, over}
 use Rattle.refusal.proofs.Picks.{AllIn, all-in-both, by-picks}
 use Rattle.refusal.proofs.Refusing.{answered-both}
@@ -18,7 +20,7 @@ use Rattle.sharding.specs.Specification.{minishardCount, noSuchShard}
 use Rattle.shard.specs.Checks.{minishardChecks}
 use Rattle.shard.specs.File.{indexPart, dataPart, fileChecks}
 use Rattle.shard.proofs.Numbers.{minishard-in, file-in}
-use Rattle.lookup.specs.declared.listings.CountAnswer.the-variants.{Count, Refused, Faulty}
+use Rattle.refusal.specs.declared.CountAnswer.the-variants.{Count, Refused, Faulty}
 use Rattle.lookup.specs.listings.Listing.{listingOf, countChecks, countAnswer, listingChecks, listingAnswer, listingLeft}
 
 module _ (spec : Sharding) (shard : ℕ) (file : List ℕ) (m : ℕ) where
@@ -31,6 +33,10 @@ module _ (spec : Sharding) (shard : ℕ) (file : List ℕ) (m : ℕ) where
   pub count-refuses : RefusesAt (countAnswer spec shard file m) Refused Faulty (countChecks spec shard file m)
   unfolding countAnswer
   count-refuses = refusing-at Refused Faulty (λ j k e. cc) (λ j k p q e. (cc, cc)) (λ j k p e. cc) (countChecks spec shard file m) _ (λ k e. cc) (λ k p e. cc) count-in
+
+  pub count-decided : DecidedBy (countChecks spec shard file m) (countResult (countAnswer spec shard file m))
+  unfolding countAnswer
+  count-decided = decided-at countResult Refused (λ k. refl) Faulty (λ k p. (refl, refl, refl)) (countChecks spec shard file m) _ refl count-in
 
   module _ (out : List ℕ) where
     -- the refusals of the count, then 13
@@ -50,12 +56,17 @@ module _ (spec : Sharding) (shard : ℕ) (file : List ℕ) (m : ℕ) where
         answered-both (λ k. out) (countChecks spec shard file m) last _ count-in
         ∙ rw (by-picks (λ k. out) last (over (listingOf spec file m) out) refl)
 
+    listing-in : AllIn (listingChecks spec shard file m out)
+    unfolding listingChecks
+    listing-in = all-in-both (countChecks spec shard file m) (room (listingOf spec file m) out ∷ []) count-in ((omega arith, omega arith), tt)
+
     pub listing-refuses : RefusesAt (listingAnswer spec shard file m out) Refused Faulty (listingChecks spec shard file m out)
     unfolding listingAnswer
-    listing-refuses = refusing-at Refused Faulty (λ j k e. cc) (λ j k p q e. (cc, cc)) (λ j k p e. cc) (listingChecks spec shard file m out) _ (λ k e. cc) (λ k p e. cc) in-table
-      where
-        in-table : AllIn (listingChecks spec shard file m out)
-        in-table = unfold listingChecks in all-in-both (countChecks spec shard file m) (room (listingOf spec file m) out ∷ []) count-in ((omega arith, omega arith), tt)
+    listing-refuses = refusing-at Refused Faulty (λ j k e. cc) (λ j k p q e. (cc, cc)) (λ j k p e. cc) (listingChecks spec shard file m out) _ (λ k e. cc) (λ k p e. cc) listing-in
+
+    pub listing-decided : DecidedBy (listingChecks spec shard file m out) (countResult (listingAnswer spec shard file m out))
+    unfolding listingAnswer
+    listing-decided = decided-at countResult Refused (λ k. refl) Faulty (λ k p. (refl, refl, refl)) (listingChecks spec shard file m out) _ refl listing-in
 
     pub listing-kept : (k : ℕ) (p : Option ℕ) → listingAnswer spec shard file m out ≡ refusal Refused Faulty k p → listingLeft spec shard file m out ≡ out
     unfolding listingAnswer listingLeft

@@ -13,8 +13,8 @@ use Rattle.shard.specs.index.Index.{entryStart, entryEnd, entryCount}
 use Rattle.shard.specs.Checks.{minishardChecks}
 use Rattle.shard.specs.File.{indexPart, dataPart, fileChecks}
 use Rattle.lookup.specs.entries.Entries.{listingIn}
-use Rattle.lookup.specs.declared.listings.CountAnswer.{CountAnswer}
-use Rattle.lookup.specs.declared.listings.CountAnswer.the-variants.{Count, Refused, Faulty}
+use Rattle.refusal.specs.declared.CountAnswer.{CountAnswer}
+use Rattle.refusal.specs.declared.CountAnswer.the-variants.{Count, Refused, Faulty}
 
 -- the listing of minishard m of a file
 abbrev pub listingOf : Sharding → List ℕ → ℕ → List ℕ

@@ -9,7 +9,7 @@ ghost use Rattle.shard.specs.index.Index.{mostShardBytes};
 ghost use Rattle.shard.specs.File.{indexLength, indexPart, dataPart};
 ghost use Rattle.lookup.specs.listings.Listing.{countIn};
 use crate::entries::count_in;
-use crate::listings::CountAnswer;
+use refusal::CountAnswer;
 use shard::judge::judge;
 use shard::lengths::index_length;
 use sharding::Sharding;

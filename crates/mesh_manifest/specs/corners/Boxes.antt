@@ -5,6 +5,7 @@ use mathlib.Core.Bool.{Bool, not, _&&_}
 use mathlib.Core.List.{List, [], _∷_, _++_}
 use lib.Dec.{ltb}
 use Rattle.refusal.specs.Checks.{Check, check, answered}
+use Rattle.refusal.specs.Result.{Result, success, refused}
 use Rattle.mesh_manifest.specs.reals.Reals.{finite, nearOf, farOf}
 use Rattle.mesh_manifest.specs.Fields.{headerAt}
 use Rattle.mesh_manifest.specs.nodes.Nodes.{nodeAt, nodeChecks}
@@ -59,3 +60,7 @@ cornersChecks s l i = nodeChecks s l i ++ boxChecks (headerAt s) l (nodeAt s l i
 
 unfoldable pub cornersAnswer : List ℕ → ℕ → ℕ → CornersAnswer
 cornersAnswer s l i = answered C.Refused (cornersChecks s l i) (C.Corners (boxOf (headerAt s) l (nodeAt s l i)))
+
+abbrev pub cornersResult : CornersAnswer → Result Corners
+cornersResult (C.Corners corners) = success corners
+cornersResult (C.Refused k) = refused k

@@ -4,6 +4,7 @@ use mathlib.Core.Bool.{Bool, not, _&&_}
 use mathlib.Core.List.{List, [], _∷_, _++_}
 use lib.Dec.{ltb}
 use Rattle.refusal.specs.Checks.{Check, check, answered}
+use Rattle.refusal.specs.Result.{Result, success, refused}
 use Rattle.endian.specs.Range.{sumTo}
 use Rattle.mesh_manifest.specs.layout.Layout.{levelsOf, countOf, levelItem, xAt, yAt, zAt, sizeAt}
 use Rattle.mesh_manifest.specs.sound.Verdict.{manifestChecks}
@@ -54,3 +55,7 @@ nodeChecks s l i = manifestChecks s ++ (check 18 (not (hasNode s l i)) ∷ [])
 
 unfoldable pub nodeAnswer : List ℕ → ℕ → ℕ → NodeAnswer
 nodeAnswer s l i = answered N.Refused (nodeChecks s l i) (N.Node (nodeAt s l i))
+
+abbrev pub nodeResult : NodeAnswer → Result Node
+nodeResult (N.Node node) = success node
+nodeResult (N.Refused k) = refused k

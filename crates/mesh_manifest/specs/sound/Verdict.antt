@@ -5,6 +5,7 @@ use mathlib.Core.List.{List, [], _∷_}
 use lib.ListN.{length}
 use lib.Dec.{leb, eqb}
 use Rattle.refusal.specs.Checks.{Check, check, firstNumber, answered}
+use Rattle.refusal.specs.Result.{Result, success, refused}
 use Rattle.endian.specs.Range.{every}
 use Rattle.mesh_manifest.specs.layout.Layout.{manifestItem, levelsOf, isReal, countOf, nodesBefore, levelItem, xAt, yAt, zAt}
 use Rattle.mesh_manifest.specs.layout.Bits.{finiteBits, aboveZero}
@@ -61,3 +62,7 @@ manifestVerdict s = firstNumber (manifestChecks s)
 
 unfoldable pub manifestAnswer : List ℕ → ManifestAnswer
 manifestAnswer s = answered Refused (manifestChecks s) Sound
+
+abbrev pub manifestResult : ManifestAnswer → Result (Unit {0})
+manifestResult Sound = success tt
+manifestResult (Refused k) = refused k

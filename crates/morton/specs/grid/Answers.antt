@@ -2,7 +2,9 @@
 use mathlib.Core.Bool.{Bool, not, _||_}
 use mathlib.Core.List.{List, [], _∷_}
 use Rattle.refusal.specs.Checks.{Check, check, answered}
+use Rattle.refusal.specs.Result.{Result, success, refused}
 use Rattle.morton.specs.declared.grid.Volume.{Volume}
+use Rattle.morton.specs.declared.grid.Extents.{Extents}
 use Rattle.morton.specs.declared.grid.Cell.{Cell}
 use Rattle.morton.specs.declared.grid.GridAnswer.{GridAnswer}
 use Rattle.morton.specs.declared.grid.GridAnswer.the-variants.{Grid, Refused as GridRefused}
@@ -19,3 +21,7 @@ gridChecks v = check 2 (zeroExtent v) ∷ []
 
 unfoldable pub gridAnswer : Volume → GridAnswer
 gridAnswer v = answered GridRefused (gridChecks v) (Grid (gridOf v))
+
+abbrev pub gridResult : GridAnswer → Result Extents
+gridResult (Grid grid) = success grid
+gridResult (GridRefused k) = refused k

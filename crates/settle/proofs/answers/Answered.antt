@@ -27,7 +27,7 @@ use Rattle.shard.proofs.AfterCheck.{afterCheck, by-check}
 use Rattle.unlisted.specs.ranges.Covered.{unlistedBytes, fileUnlisted}
 use Rattle.settled_form.specs.Content.{formOf, formLength, fileForm, fileFormLength}
 use Rattle.settled_form.proofs.Demand3.{file-form-length}
-use Rattle.settle.specs.declared.answers.SettleAnswer.the-variants.{Length, Refused, Faulty}
+use Rattle.refusal.specs.declared.CountAnswer.the-variants.{Count, Refused, Faulty}
 use Rattle.settle.specs.answers.Answers.{answerOf, losesBytes, unlistedCheck, lengthCheck, lengthIn, tooLong, settleCheck, settleIn, leftIn, settledLengthChecks, lengthAnswer, settleChecks, settleAnswer, settleLeft}
 
 -- ---- 13
@@ -101,8 +101,8 @@ unfolding unless
 answer-unless zero w = refl
 answer-unless (suc k) w = refl
 
-last-answer : (cs : List Check) (n : ℕ) → Plain cs → answeredAt Refused Faulty cs (Length n) ≡ answerOf (answered NotWritten cs (Wrote n))
-last-answer cs n e = at-plain Refused Faulty cs (Length n) e ∙ answer-unless (firstNumber cs) (Wrote n)
+last-answer : (cs : List Check) (n : ℕ) → Plain cs → answeredAt Refused Faulty cs (Count n) ≡ answerOf (answered NotWritten cs (Wrote n))
+last-answer cs n e = at-plain Refused Faulty cs (Count n) e ∙ answer-unless (firstNumber cs) (Wrote n)
 
 module _ (spec : Sharding) (shard : ℕ) (file : List ℕ) (dropping : Bool) where
   pub length-by-check : lengthAnswer spec shard file dropping
@@ -140,7 +140,7 @@ module _ {spec : Sharding} {shard : ℕ} {file : List ℕ} (sound : SoundShard s
   goes-on : {A : Type 0} (r : ℕ → A) (at : ℕ → ℕ → A) (a : A) → afterCheck r at (checkAnswer spec shard file) a ≡ a
   goes-on r at a = rw (sound-passes-check spec shard file sound)
 
-  pick-answer : (b : Bool) (n : ℕ) → answerOf (pick b (NotWritten 13) (Wrote n)) ≡ pick b (Refused 13) (Length n)
+  pick-answer : (b : Bool) (n : ℕ) → answerOf (pick b (NotWritten 13) (Wrote n)) ≡ pick b (Refused 13) (Count n)
   pick-answer true n = refl
   pick-answer false n = refl
 
@@ -156,10 +156,10 @@ module _ {spec : Sharding} {shard : ℕ} {file : List ℕ} (sound : SoundShard s
     left-lost out = left-by-check spec shard file false out ∙ goes-on (λ k. out) (λ k p. out) _ ∙ left-in spec (indexPart spec file) (dataPart spec file) false out ∙ rw (some-lost spec (indexPart spec file) (dataPart spec file) l)
 
   module _ {dropping : Bool} (ready : Ready spec file dropping) where
-    length-sound : lengthAnswer spec shard file dropping ≡ pick (ltb mostShardBytes (fileFormLength spec file)) (Refused 13) (Length (fileFormLength spec file))
+    length-sound : lengthAnswer spec shard file dropping ≡ pick (ltb mostShardBytes (fileFormLength spec file)) (Refused 13) (Count (fileFormLength spec file))
     length-sound = length-by-check spec shard file dropping ∙ goes-on Refused Faulty _ ∙ rw (length-in spec (indexPart spec file) (dataPart spec file) dropping, none-lost spec (indexPart spec file) (dataPart spec file) ready) (pick-answer (ltb mostShardBytes (fileFormLength spec file)) (fileFormLength spec file))
 
-    answer-sound : (out : List ℕ) → settleAnswer spec shard file dropping out ≡ pick (tooLong (fileFormLength spec file) out) (Refused 13) (Length (fileFormLength spec file))
+    answer-sound : (out : List ℕ) → settleAnswer spec shard file dropping out ≡ pick (tooLong (fileFormLength spec file) out) (Refused 13) (Count (fileFormLength spec file))
     answer-sound out = settle-by-check spec shard file dropping out ∙ goes-on Refused Faulty _ ∙ rw (settle-in spec (indexPart spec file) (dataPart spec file) dropping out, none-lost spec (indexPart spec file) (dataPart spec file) ready) (pick-answer (tooLong (fileFormLength spec file) out) (fileFormLength spec file))
 
     left-sound : (out : List ℕ) → settleLeft spec shard file dropping out ≡ pick (tooLong (fileFormLength spec file) out) out (over (fileForm spec file) out)
@@ -169,7 +169,7 @@ module _ {spec : Sharding} {shard : ℕ} {file : List ℕ} (sound : SoundShard s
     pub length-long : mostShardBytes < length (fileForm spec file) → lengthAnswer spec shard file dropping ≡ Refused 13
     length-long h = let n = file-form-length spec file in length-sound ∙ rw (lt-ltb mostShardBytes (fileFormLength spec file) (omega arith))
 
-    pub length-fits : length (fileForm spec file) ≤ mostShardBytes → lengthAnswer spec shard file dropping ≡ Length (length (fileForm spec file))
+    pub length-fits : length (fileForm spec file) ≤ mostShardBytes → lengthAnswer spec shard file dropping ≡ Count (length (fileForm spec file))
     length-fits h = let n = file-form-length spec file in length-sound ∙ rw (le-ltb mostShardBytes (fileFormLength spec file) (omega arith), n)
 
     module _ (out : List ℕ) where
@@ -181,7 +181,7 @@ module _ {spec : Sharding} {shard : ℕ} {file : List ℕ} (sound : SoundShard s
       left-long h = left-sound out ∙ rw (too-long (fileFormLength spec file) out (rw (file-form-length spec file) at h))
 
       -- it is not
-      pub answer-fits : length (fileForm spec file) ≤ length out → length (fileForm spec file) ≤ mostShardBytes → settleAnswer spec shard file dropping out ≡ Length (length (fileForm spec file))
+      pub answer-fits : length (fileForm spec file) ≤ length out → length (fileForm spec file) ≤ mostShardBytes → settleAnswer spec shard file dropping out ≡ Count (length (fileForm spec file))
       answer-fits h g =
           let n = file-form-length spec file in
           answer-sound out ∙ rw (not-long (fileFormLength spec file) out (omega arith) (omega arith), n)
@@ -206,10 +206,10 @@ module _ {spec : Sharding} {shard : ℕ} {file : List ℕ} (sound : SoundShard s
               let z : _≡_ {A = ℕ} 0 1 = cc in
               absurd (omega arith)
           by-test false none t e =
-              let f : Length (fileFormLength spec file) ≡ Refused number = rw t at (sym (answer-sound out) ∙ e) in
+              let f : Count (fileFormLength spec file) ≡ Refused number = rw t at (sym (answer-sound out) ∙ e) in
               let z : _≡_ {A = ℕ} 0 1 = cc in
               absurd (omega arith)
           by-test false (some q) t e =
-              let f : Length (fileFormLength spec file) ≡ Faulty number q = rw t at (sym (answer-sound out) ∙ e) in
+              let f : Count (fileFormLength spec file) ≡ Faulty number q = rw t at (sym (answer-sound out) ∙ e) in
               let z : _≡_ {A = ℕ} 0 1 = cc in
               absurd (omega arith)

@@ -4,11 +4,11 @@ use mathlib.Core.Path.{_≡_}
 use borrow.Author.Needs.{needs}
 use Rattle.refusal.specs.declared.Written.{Written}
 use Rattle.refusal.specs.declared.Written.the-variants.{Length as Wrote, Refused as NotWritten}
-use Rattle.settle.specs.declared.answers.SettleAnswer.the-variants.{Length, Refused}
+use Rattle.refusal.specs.declared.CountAnswer.the-variants.{Count, Refused}
 use Rattle.settle.specs.answers.Answers.{answerOf}
 
 module _ {w : Written} {n : ℕ} where
-  pub answer-length : w ≡ Wrote n → Length n ≡ answerOf w
+  pub answer-length : w ≡ Wrote n → Count n ≡ answerOf w
   answer-length e = rw e
 
   pub answer-refused : w ≡ NotWritten n → Refused n ≡ answerOf w

@@ -14,12 +14,12 @@ use Rattle.shard.specs.index.Index.{mostShardBytes}
 use Rattle.shard.specs.File.{indexPart, dataPart, shardChecks}
 use Rattle.unlisted.specs.ranges.Covered.{unlistedBytes}
 use Rattle.settled_form.specs.Content.{formOf, formLength, fileForm, fileFormLength}
-use Rattle.settle.specs.declared.answers.SettleAnswer.{SettleAnswer}
-use Rattle.settle.specs.declared.answers.SettleAnswer.the-variants.{Length, Refused, Faulty}
+use Rattle.refusal.specs.declared.CountAnswer.{CountAnswer}
+use Rattle.refusal.specs.declared.CountAnswer.the-variants.{Count, Refused, Faulty}
 
 -- what a writer answered, as an answer of settling
-abbrev pub answerOf : Written → SettleAnswer
-answerOf (Wrote n) = Length n
+abbrev pub answerOf : Written → CountAnswer
+answerOf (Wrote n) = Count n
 answerOf (NotWritten k) = Refused k
 
 -- ---- a shard of two parts that passed the check: 22 and 13 are left
@@ -61,8 +61,8 @@ settledLengthChecks spec shard file dropping =
     ++ (unlistedCheck spec (indexPart spec file) (dataPart spec file) dropping ∷ lengthCheck spec (indexPart spec file) (dataPart spec file) ∷ [])
 
 -- RULES U6
-unfoldable pub lengthAnswer : Sharding → ℕ → List ℕ → Bool → SettleAnswer
-lengthAnswer spec shard file dropping = answeredAt Refused Faulty (settledLengthChecks spec shard file dropping) (Length (fileFormLength spec file))
+unfoldable pub lengthAnswer : Sharding → ℕ → List ℕ → Bool → CountAnswer
+lengthAnswer spec shard file dropping = answeredAt Refused Faulty (settledLengthChecks spec shard file dropping) (Count (fileFormLength spec file))
 
 unfoldable pub settleChecks : Sharding → ℕ → List ℕ → Bool → List ℕ → List Check
 settleChecks spec shard file dropping out =
@@ -70,8 +70,8 @@ settleChecks spec shard file dropping out =
     ++ (unlistedCheck spec (indexPart spec file) (dataPart spec file) dropping ∷ settleCheck spec (indexPart spec file) (dataPart spec file) out ∷ [])
 
 -- RULES U5
-unfoldable pub settleAnswer : Sharding → ℕ → List ℕ → Bool → List ℕ → SettleAnswer
-settleAnswer spec shard file dropping out = answeredAt Refused Faulty (settleChecks spec shard file dropping out) (Length (fileFormLength spec file))
+unfoldable pub settleAnswer : Sharding → ℕ → List ℕ → Bool → List ℕ → CountAnswer
+settleAnswer spec shard file dropping out = answeredAt Refused Faulty (settleChecks spec shard file dropping out) (Count (fileFormLength spec file))
 
 -- RULES U5
 unfoldable pub settleLeft : Sharding → ℕ → List ℕ → Bool → List ℕ → List ℕ

@@ -5,6 +5,7 @@ use mathlib.Core.List.{List, [], _∷_}
 use lib.Dec.{eqb}
 use Rattle.refusal.specs.Choice.{pick}
 use Rattle.refusal.specs.Checks.{Check, check, answered}
+use Rattle.refusal.specs.Result.{Result, success, refused}
 use Rattle.murmur3.specs.Murmur.{murmurHash}
 use Rattle.sharding.specs.declared.Sharding.{Sharding}
 use Rattle.sharding.specs.declared.placement.Place.{Place}
@@ -35,3 +36,7 @@ placeChecks spec = check 1 (not (allowed spec)) ∷ []
 
 unfoldable pub placeAnswer : Sharding → ℕ → PlaceAnswer
 placeAnswer spec id = answered Refused (placeChecks spec) (At (placeOf spec id))
+
+abbrev pub placeResult : PlaceAnswer → Result Place
+placeResult (At place) = success place
+placeResult (Refused k) = refused k

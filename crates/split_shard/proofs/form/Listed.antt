@@ -18,8 +18,8 @@ use Rattle.shard.specs.File.{indexLength}
 use Rattle.split_shard.specs.seam.Pair.{pairChecks, lengthNumber}
 use Rattle.split_shard.proofs.seam.Pairs.{checks-seamed, number-seamed, seamed-index, seamed-data, seamed-front, seamed-rest, seam-measured, seam-short, pair-1, pair-5, pair-length, pair-inside}
 use Rattle.lookup.specs.entries.Entries.{listingIn}
-use Rattle.lookup.specs.declared.listings.CountAnswer.{CountAnswer}
-use Rattle.lookup.specs.declared.listings.CountAnswer.the-variants.{Count, Refused, Faulty}
+use Rattle.refusal.specs.declared.CountAnswer.{CountAnswer}
+use Rattle.refusal.specs.declared.CountAnswer.the-variants.{Count, Refused, Faulty}
 use Rattle.lookup.specs.listings.Listing.{countIn, countAnswer, listingAnswer, listingLeft}
 use Rattle.lookup.proofs.listings.Listings as one
 use Rattle.split_shard.specs.form.Answers.{noMinishard, pairCount, pairListing, pairListingLeft}

@@ -16,15 +16,14 @@ use Rattle.shard.specs.Sound.{SoundShard}
 use Rattle.shard.proofs.AfterCheck.{afterCheck}
 use Rattle.shard.proofs.Whole.{check-passes-sound}
 use Rattle.unlisted.specs.ranges.Covered.{unlistedBytes, fileUnlisted}
-use Rattle.unlisted.specs.declared.UnlistedAnswer.the-variants as U
+use Rattle.refusal.specs.declared.CountAnswer.the-variants as U
 use Rattle.unlisted.specs.runs.Reading.{RangedShard}
 use Rattle.unlisted.proofs.Counted.{sound-ranged, unlisted-by-check}
 use Rattle.split_shard.specs.seam.Pair.{pairChecks}
 use Rattle.split_shard.proofs.seam.Pairs.{seamed-front, seamed-back}
 use Rattle.split_shard.specs.Answers.{pairCheck}
 use Rattle.split_shard.proofs.Laws.{sound-seamed}
-use Rattle.settle.specs.declared.answers.SettleAnswer.{SettleAnswer}
-use Rattle.settle.specs.declared.answers.SettleAnswer.the-variants as S
+use Rattle.refusal.specs.declared.CountAnswer.{CountAnswer}
 use Rattle.settle.specs.answers.Answers.{answerOf, lengthIn, settleIn, leftIn}
 use Rattle.settle.specs.length.Settleable.{SettleableShard}
 use Rattle.settle.proofs.answers.Answered.{length-by-check, settle-by-check, left-by-check}
@@ -47,14 +46,14 @@ module _ (spec : Sharding) (shard : ℕ) (index d : List ℕ) where
 
   module _ (dropping : Bool) where
     length-after : pairLength spec shard index d dropping
-        ≡ afterCheck S.Refused S.Faulty (pairCheck spec shard index d) (answerOf (lengthIn spec (indexPart spec (index ++ d)) (dataPart spec (index ++ d)) dropping))
+        ≡ afterCheck U.Refused U.Faulty (pairCheck spec shard index d) (answerOf (lengthIn spec (indexPart spec (index ++ d)) (dataPart spec (index ++ d)) dropping))
     unfolding pairLength pairCheck
-    length-after = rw (length-by-check spec shard (index ++ d) dropping) (through S.Refused S.Faulty first (checkAnswer spec shard (index ++ d)) _)
+    length-after = rw (length-by-check spec shard (index ++ d) dropping) (through U.Refused U.Faulty first (checkAnswer spec shard (index ++ d)) _)
 
     settle-after : (out : List ℕ) → pairSettle spec shard index d dropping out
-        ≡ afterCheck S.Refused S.Faulty (pairCheck spec shard index d) (answerOf (settleIn spec (indexPart spec (index ++ d)) (dataPart spec (index ++ d)) dropping out))
+        ≡ afterCheck U.Refused U.Faulty (pairCheck spec shard index d) (answerOf (settleIn spec (indexPart spec (index ++ d)) (dataPart spec (index ++ d)) dropping out))
     unfolding pairSettle pairCheck
-    settle-after out = rw (settle-by-check spec shard (index ++ d) dropping out) (through S.Refused S.Faulty first (checkAnswer spec shard (index ++ d)) _)
+    settle-after out = rw (settle-by-check spec shard (index ++ d) dropping out) (through U.Refused U.Faulty first (checkAnswer spec shard (index ++ d)) _)
 
     left-after : (out : List ℕ) → pairSettleLeft spec shard index d dropping out
         ≡ afterCheck (λ k. out) (λ k p. out) (pairCheck spec shard index d) (leftIn spec (indexPart spec (index ++ d)) (dataPart spec (index ++ d)) dropping out)
@@ -68,10 +67,10 @@ module _ (spec : Sharding) (shard : ℕ) (index d : List ℕ) where
       unlisted-stopped = rw (unlisted-after, ← e, q)
 
       module _ (dropping : Bool) where
-        pub length-stopped : S.Refused k ≡ pairLength spec shard index d dropping
+        pub length-stopped : U.Refused k ≡ pairLength spec shard index d dropping
         length-stopped = rw (length-after dropping, ← e, q)
 
-        pub settle-stopped : (out : List ℕ) → S.Refused k ≡ pairSettle spec shard index d dropping out
+        pub settle-stopped : (out : List ℕ) → U.Refused k ≡ pairSettle spec shard index d dropping out
         settle-stopped out = rw (settle-after dropping out, ← e, q)
 
         pub left-stopped : (out : List ℕ) → out ≡ pairSettleLeft spec shard index d dropping out
@@ -82,10 +81,10 @@ module _ (spec : Sharding) (shard : ℕ) (index d : List ℕ) where
       unlisted-faulty = rw (unlisted-after, ← e, q)
 
       module _ (dropping : Bool) where
-        pub length-faulty : S.Faulty k p ≡ pairLength spec shard index d dropping
+        pub length-faulty : U.Faulty k p ≡ pairLength spec shard index d dropping
         length-faulty = rw (length-after dropping, ← e, q)
 
-        pub settle-faulty : (out : List ℕ) → S.Faulty k p ≡ pairSettle spec shard index d dropping out
+        pub settle-faulty : (out : List ℕ) → U.Faulty k p ≡ pairSettle spec shard index d dropping out
         settle-faulty out = rw (settle-after dropping out, ← e, q)
 
         pub left-faulty : (out : List ℕ) → out ≡ pairSettleLeft spec shard index d dropping out
@@ -107,7 +106,7 @@ module _ (spec : Sharding) (shard : ℕ) (index d : List ℕ) where
       pub unlisted-given : {n : ℕ} → n ≡ unlistedBytes spec index d → U.Count n ≡ pairUnlisted spec shard index d
       unlisted-given h = rw (unlisted-after, ← e, q, seamed-front spec index d measured, seamed-back spec index d measured) (ap (λ (k : ℕ). U.Count k) h)
 
-      module _ (dropping : Bool) {w : Written} {r : SettleAnswer} (g : r ≡ answerOf w) where
+      module _ (dropping : Bool) {w : Written} {r : CountAnswer} (g : r ≡ answerOf w) where
         pub length-given : w ≡ lengthIn spec index d dropping → r ≡ pairLength spec shard index d dropping
         length-given h =
             rw (length-after dropping, ← e, q, seamed-front spec index d measured, seamed-back spec index d measured)

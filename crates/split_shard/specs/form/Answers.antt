@@ -6,14 +6,10 @@ use lib.Dec.{leb}
 use Rattle.sharding.specs.declared.Sharding.{Sharding}
 use Rattle.sharding.specs.Specification.{minishardCount, noSuchShard}
 use Rattle.split_shard.specs.seam.Pair.{pairAnswer}
-use Rattle.lookup.specs.declared.listings.CountAnswer.{CountAnswer}
-use Rattle.lookup.specs.declared.listings.CountAnswer.the-variants as N
+use Rattle.refusal.specs.declared.CountAnswer.{CountAnswer}
+use Rattle.refusal.specs.declared.CountAnswer.the-variants as N
 use Rattle.lookup.specs.listings.Listing.{countAnswer, listingAnswer, listingLeft}
-use Rattle.unlisted.specs.declared.UnlistedAnswer.{UnlistedAnswer}
-use Rattle.unlisted.specs.declared.UnlistedAnswer.the-variants as U
 use Rattle.unlisted.specs.Answers.{unlistedAnswer}
-use Rattle.settle.specs.declared.answers.SettleAnswer.{SettleAnswer}
-use Rattle.settle.specs.declared.answers.SettleAnswer.the-variants as S
 use Rattle.settle.specs.answers.Answers.{lengthAnswer, settleAnswer, settleLeft}
 
 -- ---- the listing of a minishard
@@ -36,16 +32,16 @@ pairListingLeft spec shard index d m out = pairAnswer (λ k. out) spec (noMinish
 -- ---- unlisted bytes, and the settled form, which is one file
 
 -- RULES P2
-unfoldable pub pairUnlisted : Sharding → ℕ → List ℕ → List ℕ → UnlistedAnswer
-pairUnlisted spec shard index d = pairAnswer U.Refused spec (noSuchShard spec shard) index (unlistedAnswer spec shard (index ++ d))
+unfoldable pub pairUnlisted : Sharding → ℕ → List ℕ → List ℕ → CountAnswer
+pairUnlisted spec shard index d = pairAnswer N.Refused spec (noSuchShard spec shard) index (unlistedAnswer spec shard (index ++ d))
 
 -- RULES P2
-unfoldable pub pairLength : Sharding → ℕ → List ℕ → List ℕ → Bool → SettleAnswer
-pairLength spec shard index d dropping = pairAnswer S.Refused spec (noSuchShard spec shard) index (lengthAnswer spec shard (index ++ d) dropping)
+unfoldable pub pairLength : Sharding → ℕ → List ℕ → List ℕ → Bool → CountAnswer
+pairLength spec shard index d dropping = pairAnswer N.Refused spec (noSuchShard spec shard) index (lengthAnswer spec shard (index ++ d) dropping)
 
 -- RULES P2
-unfoldable pub pairSettle : Sharding → ℕ → List ℕ → List ℕ → Bool → List ℕ → SettleAnswer
-pairSettle spec shard index d dropping out = pairAnswer S.Refused spec (noSuchShard spec shard) index (settleAnswer spec shard (index ++ d) dropping out)
+unfoldable pub pairSettle : Sharding → ℕ → List ℕ → List ℕ → Bool → List ℕ → CountAnswer
+pairSettle spec shard index d dropping out = pairAnswer N.Refused spec (noSuchShard spec shard) index (settleAnswer spec shard (index ++ d) dropping out)
 
 unfoldable pub pairSettleLeft : Sharding → ℕ → List ℕ → List ℕ → Bool → List ℕ → List ℕ
 pairSettleLeft spec shard index d dropping out = pairAnswer (λ k. out) spec (noSuchShard spec shard) index (settleLeft spec shard (index ++ d) dropping out)

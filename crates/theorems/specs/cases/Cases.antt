@@ -37,8 +37,8 @@ use Rattle.lookup.specs.declared.id_search.LookupAnswer.the-variants.{Found, Re
 use Rattle.lookup.specs.Find.{lookupAnswer}
 use Rattle.shard.specs.Items.{Item}
 use Rattle.settled_form.specs.Content.{fileContent, fileForm, fileFormLength}
-use Rattle.settle.specs.declared.answers.SettleAnswer.{SettleAnswer}
-use Rattle.settle.specs.declared.answers.SettleAnswer.the-variants.{Length as SettledLength, Refused as NotSettled}
+use Rattle.refusal.specs.declared.CountAnswer.{CountAnswer}
+use Rattle.refusal.specs.declared.CountAnswer.the-variants.{Count as SettledLength, Refused as NotSettled}
 use Rattle.settle.specs.answers.Answers.{settleAnswer, settleLeft}
 use Rattle.mesh_manifest.specs.declared.corners.Corner.{Corner}
 use Rattle.mesh_manifest.specs.declared.corners.CornersAnswer.{CornersAnswer}
@@ -62,7 +62,7 @@ pub data Case : Type 0 where
   -- settling it as that shard number, dropping what is unlisted or not, into a lent output, and the output then; the lookup of an id
   lists : Sharding → List ℕ → List (List Item) → Case
   form : Sharding → List ℕ → List ℕ → ℕ → Case
-  settles : Sharding → ℕ → List ℕ → Bool → List ℕ → SettleAnswer → List ℕ → Case
+  settles : Sharding → ℕ → List ℕ → Bool → List ℕ → CountAnswer → List ℕ → Case
   lookup : Sharding → ℕ → List ℕ → ℕ → LookupAnswer → Case
   -- of a manifest: the corners of a level's node
   corners : List ℕ → ℕ → ℕ → CornersAnswer → Case

@@ -15,8 +15,8 @@ use Rattle.lookup.specs.Find.{lookupAnswer}
 use Rattle.lookup.specs.fragments.Fragment.{fragmentAnswer}
 use Rattle.settled_form.specs.Content.{fileContent, fileForm}
 use Rattle.settled_form.specs.shortest.Worked.{oneBit}
-use Rattle.settle.specs.declared.answers.SettleAnswer.{SettleAnswer}
-use Rattle.settle.specs.declared.answers.SettleAnswer.the-variants.{Length}
+use Rattle.refusal.specs.declared.CountAnswer.{CountAnswer}
+use Rattle.refusal.specs.declared.CountAnswer.the-variants.{Count}
 use Rattle.settle.specs.answers.Answers.{lengthAnswer}
 
 -- ---- what a case asks and what it expects
@@ -27,7 +27,7 @@ pub data MeshCase : Type 0 where
   listing : Sharding → List ℕ → List (List Item) → MeshCase
   settled : Sharding → List ℕ → List ℕ → MeshCase
   check : Sharding → ℕ → List ℕ → CheckAnswer → MeshCase
-  long : Sharding → ℕ → List ℕ → SettleAnswer → MeshCase
+  long : Sharding → ℕ → List ℕ → CountAnswer → MeshCase
   find : Sharding → ℕ → List ℕ → ℕ → LookupAnswer → MeshCase
   fragment : Sharding → ℕ → List ℕ → ℕ → ℕ → ℕ → LookupAnswer → MeshCase
 
@@ -86,7 +86,7 @@ meshTable =
     ∷ settled (oneBit mesh) settledMesh settledMesh
     ∷ check (oneBit mesh) 0 otherMesh Sound
     ∷ check (oneBit mesh) 0 settledMesh Sound
-    ∷ long (oneBit mesh) 0 otherMesh (Length 229)
+    ∷ long (oneBit mesh) 0 otherMesh (Count 229)
     -- a lookup finds the manifest
     ∷ find (oneBit mesh) 0 otherMesh 10 (Found 35 80)
     ∷ find (oneBit mesh) 0 otherMesh 4 (Found 118 64)

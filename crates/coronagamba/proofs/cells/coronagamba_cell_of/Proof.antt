@@ -1,20 +1,24 @@
+use mathlib.Core.Path.{refl}
 use borrow.Author.Needs.{needs}
-use Rattle.coronagamba.specs.Cells.{cellWord, cellAfter}
-use Rattle.coronagamba.proofs.Told.{told, after}
+use Rattle.morton.specs.Answers.{cellResult}
+use Rattle.coronagamba.specs.Cells.{cellAfter}
+use Rattle.coronagamba.proofs.Told.{word-success, word-refused, after}
 use Rattle.coronagamba.proofs.cells.coronagamba_cell_of.Statement.{statement}
 use Rattle.coronagamba.proofs.cells.coronagamba_cell_of.Tie as tie
 
 returns : tie.Need-returns
+unfolding cellAfter
 returns c =
     let e = c .before .before .before .before .cell-of .ensures in
     let h = c .before .before .c .given .1 in
-    (told cellWord e h, after cellAfter _ e h)
+    (word-success cellResult e h refl, after cellAfter _ e h)
 
 returns-2 : tie.Need-returns-2
+unfolding cellAfter
 returns-2 c =
     let e = c .before .before .before .cell-of .ensures in
     let h = c .before .number .given .1 in
-    (told cellWord e h, after cellAfter _ e h)
+    (word-refused cellResult e h refl, after cellAfter _ e h)
 
 pub coronagamba-cell-of-spec : {M : Type 1} → statement M
 coronagamba-cell-of-spec =

@@ -1,27 +1,32 @@
+use mathlib.Core.Path.{refl}
 use borrow.Author.Needs.{needs}
 use Rattle.mesh_manifest.proofs.Fields.{field-number}
-use Rattle.coronagamba.specs.Manifests.{fieldWord, kindAfter, valueAfter}
-use Rattle.coronagamba.proofs.Told.{told, after}
+use Rattle.mesh_manifest.specs.Fields.{fieldResult}
+use Rattle.coronagamba.specs.Manifests.{kindAfter, valueAfter}
+use Rattle.coronagamba.proofs.Told.{word-success, word-refused, after}
 use Rattle.coronagamba.proofs.manifests.coronagamba_manifest_field.Statement.{statement}
 use Rattle.coronagamba.proofs.manifests.coronagamba_manifest_field.Tie as tie
 
 returns : tie.Need-returns
+unfolding kindAfter valueAfter
 returns c =
     let e = c .before .before .before .field-of .ensures in
     let h = c .before .x .given .1 in
-    (told fieldWord e h, (after kindAfter _ e h, after valueAfter _ e h))
+    (word-success fieldResult e h refl, (after kindAfter _ e h, after valueAfter _ e h))
 
 returns-2 : tie.Need-returns-2
+unfolding kindAfter valueAfter
 returns-2 c =
     let e = c .before .before .before .field-of .ensures in
     let h = c .before .n .given .1 in
-    (told fieldWord e h, (after kindAfter _ e h, after valueAfter _ e h))
+    (word-success fieldResult e h refl, (after kindAfter _ e h, after valueAfter _ e h))
 
 returns-3 : tie.Need-returns-3
+unfolding kindAfter valueAfter
 returns-3 c =
     let e = c .before .before .before .field-of .ensures in
     let h = c .before .refusal .given .1 in
-    (told fieldWord e h, (after kindAfter _ e h, after valueAfter _ e h))
+    (word-refused fieldResult e h refl, (after kindAfter _ e h, after valueAfter _ e h))
 
 pub coronagamba-manifest-field-spec : {M : Type 1} → statement M
 coronagamba-manifest-field-spec =

@@ -1,21 +1,25 @@
+use mathlib.Core.Path.{refl}
 use borrow.Author.Needs.{needs}
-use Rattle.coronagamba.specs.Manifests.{headerWord, headerAfter}
-use Rattle.coronagamba.proofs.Told.{told, after}
+use Rattle.mesh_manifest.specs.Fields.{headerResult}
+use Rattle.coronagamba.specs.Manifests.{headerAfter}
+use Rattle.coronagamba.proofs.Told.{word-success, word-refused, after}
 use Rattle.coronagamba.proofs.Patterned.{shape-x, shape-y, shape-z, origin-x, origin-y, origin-z}
 use Rattle.coronagamba.proofs.manifests.coronagamba_manifest_header.Statement.{statement}
 use Rattle.coronagamba.proofs.manifests.coronagamba_manifest_header.Tie as tie
 
 returns : tie.Need-returns
+unfolding headerAfter
 returns c =
     let e = c .before .before .before .before .before .before .before .before .before .before .header-of .ensures in
     let h = c .before .before .before .before .before .before .before .before .h .given .1 in
-    (told headerWord e h, after headerAfter _ e h)
+    (word-success headerResult e h refl, after headerAfter _ e h)
 
 returns-2 : tie.Need-returns-2
+unfolding headerAfter
 returns-2 c =
     let e = c .before .before .before .header-of .ensures in
     let h = c .before .refusal .given .1 in
-    (told headerWord e h, after headerAfter _ e h)
+    (word-refused headerResult e h refl, after headerAfter _ e h)
 
 pub coronagamba-manifest-header-spec : {M : Type 1} → statement M
 coronagamba-manifest-header-spec =

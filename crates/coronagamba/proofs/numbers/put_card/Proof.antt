@@ -1,14 +1,16 @@
 use borrow.Author.Needs.{needs}
 use mathlib.Core.Path.{refl, _∙_}
-use Rattle.coronagamba.specs.Cards.{cardWord, shardingAfter, volumeAfter, chunkAfter, offsetAfter}
-use Rattle.coronagamba.proofs.Told.{told, after}
+use Rattle.card.specs.Answers.{cardResult}
+use Rattle.coronagamba.specs.Cards.{shardingAfter, volumeAfter, chunkAfter, offsetAfter}
+use Rattle.coronagamba.proofs.Told.{word-success, word-refused, after}
 use Rattle.coronagamba.proofs.numbers.put_card.Statement.{statement}
 use Rattle.coronagamba.proofs.numbers.put_card.Tie as tie
 
 returns : tie.Need-returns
+unfolding shardingAfter volumeAfter chunkAfter offsetAfter
 returns c =
     let h = c .before .before .before .before .before .before .answer .given .1 in (
-      told cardWord refl h,
+      word-success cardResult refl h refl,
       (
         c .before .before .before .five .ensures ∙ after shardingAfter _ refl h,
         (
@@ -19,9 +21,10 @@ returns c =
     )
 
 returns-2 : tie.Need-returns-2
+unfolding shardingAfter volumeAfter chunkAfter offsetAfter
 returns-2 c =
     let h = c .before .answer2 .given .1 in (
-      told cardWord refl h,
+      word-refused cardResult refl h refl,
       (after shardingAfter _ refl h, (after volumeAfter _ refl h, (after chunkAfter _ refl h, after offsetAfter _ refl h))),
     )
 
