@@ -36,6 +36,7 @@ use Rattle.info.proofs.document.Meaning.{meaning}
 use Rattle.mesh_manifest.proofs.level.Each.{node-numbers}
 use Rattle.theorems.specs.Demands.{Demand1, Demand2, Ready, Demand3}
 use Rattle.theorems.proofs.Entry.{entry-decides}
+use Rattle.theorems.proofs.Published.{published}
 use Rattle.theorems.proofs.Measures.{measure-refuses, measure-names, check-number-pair, check-passes-pair, check-names-pair, measure-names-pair, measure-refuses-pair, add-refuses, add-pair-refuses, join-refuses}
 use Rattle.theorems.proofs.Calls.{grid-refuses, key-refuses, keys-refuses, keys-kept, cover-refuses, cover-kept, cell-refuses, bounds-refuses, chunk-name-refuses, chunk-name-kept, place-refuses, places-refuses, places-kept, file-name-refuses, file-name-kept, card-read-refuses, card-write-refuses, card-kept, manifest-refuses, header-refuses, field-refuses, node-refuses, nodes-refuses, nodes-kept, corners-refuses, label-refuses, unpack-refuses, unpacked-length-refuses, unpack-kept}
 
@@ -119,6 +120,7 @@ demand-1 =
 pub demand-2 : Demand2
 demand-2 =
     record {
+      published = published;
       keyed = λ v c u h l. let w = cell-gives-key-gives-cell v c u h l in let e = keyed v c (w .key) (w .given) .is in (rw e at (w .given), rw e at (w .back));
       celled = accepted-key;
       found = λ spec shard file id i bytes a. listed-chunk-is-handed-out spec shard file id a;
