@@ -34,6 +34,7 @@ use Rattle.info.proofs.document.Meaning.{meaning}
 use Rattle.mesh_manifest.proofs.level.Each.{node-numbers}
 use Rattle.theorems.specs.Demands.{Demand1, Demand2, Ready, Demand3}
 use Rattle.theorems.proofs.Entry.{entry-decides}
+use Rattle.theorems.proofs.Published.{published}
 use Rattle.theorems.proofs.Measures.{measure-decided, measure-names, check-decided-pair, check-names-pair, measure-names-pair, measure-decided-pair, add-decided, add-pair-decided, join-decided}
 use Rattle.theorems.proofs.PairCalls.{lookup-decided-pair, fragment-decided-pair, count-decided-pair, listing-decided-pair, unlisted-decided-pair, length-decided-pair, settle-decided-pair, range-decided}
 use Rattle.theorems.proofs.Calls.{grid-decided, key-decided, keys-decided, keys-kept, cover-decided, cover-kept, cell-decided, bounds-decided, chunk-name-decided, chunk-name-kept, place-decided, places-decided, places-kept, file-name-decided, file-name-kept, card-read-decided, info-decided, card-write-decided, card-kept, manifest-decided, header-decided, field-decided, node-decided, nodes-decided, nodes-kept, corners-decided, label-decided, unpack-decided, unpacked-length-decided, unpack-kept}
@@ -114,6 +115,7 @@ demand-1 =
 pub demand-2 : Demand2
 demand-2 =
     record {
+      published = published;
       keyed = λ v c u h l. let w = cell-gives-key-gives-cell v c u h l in let e = keyed v c (w .key) (w .given) .is in (rw e at (w .given), rw e at (w .back));
       celled = accepted-key;
       found = λ spec shard file id i bytes a. listed-chunk-is-handed-out spec shard file id a;

@@ -11,8 +11,15 @@ use lib.ListN.{length}
 use Rattle.refusal.specs.Choice.{pick}
 use Rattle.refusal.proofs.Tests.{neither}
 use Rattle.duplicate_ids.proofs.ids.Cases.{eq-or-not}
+use Rattle.sharding.specs.declared.Sharding.{Sharding}
 use Rattle.shard.specs.declared.CheckAnswer.{CheckAnswer}
 use Rattle.shard.specs.declared.CheckAnswer.the-variants.{Sound, Refused, Faulty}
+use Rattle.shard.specs.Sound.{SoundShard}
+use Rattle.shard.proofs.Whole.{check-passes-sound}
+use Rattle.split_shard.specs.Answers.{pairCheck}
+use Rattle.split_shard.proofs.seam.Pairs.{seamed-front, seamed-back}
+use Rattle.split_shard.proofs.Laws.{sound-seamed}
+use Rattle.holdings.specs.measures.Measures.{measureOf, fileMeasure}
 use Rattle.holdings.specs.declared.measures.Counts.{Counts}
 use Rattle.holdings.specs.chunk_sums.Totals.{mostTotal, passes}
 use Rattle.holdings.specs.declared.one_shard.Sheet.{Sheet}
@@ -262,6 +269,17 @@ unfolding keptBy rowsAfter
 rows-left s (Total t) = refl
 rows-left s (SheetRefused k) = refl
 
+-- ---- a pair that passes is a sound joined file, cut at its seam
+
+module _ (spec : Sharding) (shard : ℕ) (index d : List ℕ) (e : pairCheck spec shard index d ≡ Sound) where
+  joined-sound : SoundShard spec shard (index ++ d)
+  joined-sound = check-passes-sound spec shard (index ++ d) (sound-seamed spec shard index d e .1)
+
+  joined-measure : measureOf spec index d ≡ fileMeasure spec (index ++ d)
+  joined-measure =
+      let l = sound-seamed spec shard index d e .0 in
+      rw (seamed-front spec index d l, seamed-back spec index d l)
+
 -- ----
 
 pub order-13 : Order13
@@ -273,6 +291,9 @@ order-13 = record {
   chunks = λ spec shard a items s. chunks-listed spec shard a s items;
   bytes = λ spec shard a items s. bytes-listed spec shard a s items;
   list = listed-these;
+  chunksOfPair = λ spec shard index d items e g. ap (λ (k : Counts). k .chunks) (joined-measure spec shard index d e) ∙ chunks-listed spec shard (index ++ d) (joined-sound spec shard index d e) items g;
+  bytesOfPair = λ spec shard index d items e g. ap (λ (k : Counts). k .bytes) (joined-measure spec shard index d e) ∙ bytes-listed spec shard (index ++ d) (joined-sound spec shard index d e) items g;
+  listOfPair = λ spec shard index d e. listed-these spec shard (index ++ d) (joined-sound spec shard index d e);
   parts = parts-join;
   past = λ sheet h. rw (add-pick sheet h) (by-27 _ _);
   only = λ sheet h k e. only-27 (anyPasses (rows (both sheet (sheetOver (h ∷ []))))) (both sheet (one h)) k (sym (add-pick sheet h) ∙ e);

@@ -3,6 +3,10 @@ pub mod Measures
 pub mod PairCalls
 pub mod Carried
 pub mod Entry
+pub mod Named
+pub mod Laid
+pub mod Relaid
+pub mod Published
 pub mod Demands
 pub mod Hash
 pub mod Standing

@@ -81,6 +81,7 @@ use Rattle.mesh_manifest.specs.corners.Boxes.{cornersChecks, cornersAnswer, cor
 use Rattle.compressed_segmentation.specs.declared.Shape.{Shape}
 use Rattle.compressed_segmentation.specs.Labels.{labelChecks, labelAnswer, labelResult}
 use Rattle.compressed_segmentation.specs.raw_form.Raw.{unpackChecks, unpackAnswer, unpackLeft, unpackedLengthChecks as lengthChecksOfLabels, lengthAnswer as lengthAnswerOfLabels}
+use Rattle.theorems.specs.Published.{Published}
 
 -- ---- Demand 1
 
@@ -191,9 +192,10 @@ ChosenLists spec file id bytes = ListsIn (indexPart spec file) (dataPart spec fi
 abbrev pub ChosenListsItem : Sharding → List ℕ → Item → Type 0
 ChosenListsItem spec file item = ListsItem spec (indexPart spec file) (dataPart spec file) (minishardOf spec (item .id)) item
 
--- The first sentence, that keys, places, names, byte ranges and fields are the published ones, is what the contracts' equations say with these definitions.
--- (RULES D2, G7, L3)
+-- RULES D2, G7, L3
 pub record Demand2 : Type 0 where
+  -- Places, names, manifest fields and the parts of a pair are those of the published format.
+  pub published : Published
   -- Where a grid has at most 64 key bits, a cell of it is answered with its key, and that key is answered with the cell.
   pub keyed : (v : Volume) (c : Cell) → InU32 (v .size) → noCell v c ≡ false → keyBits (gridOf v) ≤ 64
       → (keyAnswer v c ≡ K.Key (keyOf (gridOf v) c)) × (cellAnswer v (keyOf (gridOf v) c) ≡ C.At c)

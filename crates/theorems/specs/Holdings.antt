@@ -137,6 +137,12 @@ pub record Order13 : Type 0 where
   pub bytes : (spec : Sharding) (shard : ℕ) (a : List ℕ) (items : List Item) → SoundShard spec shard a → ListsThese spec a items → fileMeasure spec a .bytes ≡ bodyBytes items
   -- Every sound shard has such a list.
   pub list : (spec : Sharding) (shard : ℕ) (a : List ℕ) → SoundShard spec shard a → (items : List Item) × ListsThese spec a items
+  -- Of a pair that the check passes the same is counted over what the joined file lists.
+  pub chunksOfPair : (spec : Sharding) (shard : ℕ) (index d : List ℕ) (items : List Item) → pairCheck spec shard index d ≡ Sound → ListsThese spec (index ++ d) items
+      → measureOf spec index d .chunks ≡ length items
+  pub bytesOfPair : (spec : Sharding) (shard : ℕ) (index d : List ℕ) (items : List Item) → pairCheck spec shard index d ≡ Sound → ListsThese spec (index ++ d) items
+      → measureOf spec index d .bytes ≡ bodyBytes items
+  pub listOfPair : (spec : Sharding) (shard : ℕ) (index d : List ℕ) → pairCheck spec shard index d ≡ Sound → (items : List Item) × ListsThese spec (index ++ d) items
   -- The sheets of two parts, joined, are that of the whole.
   pub parts : (hs gs : List Holding) → Within (hs ++ gs) → joinAnswer (addAll empty hs) (addAll empty gs) ≡ Total (addAll empty (hs ++ gs))
   -- 27 is given exactly when a total would pass, of any sheet, and no other number;

@@ -1,6 +1,8 @@
 -- The demands and the orders' promises, a statement each; the worked cases.
 pub mod cases
 pub mod mesh_cases
+pub mod Manifests
+pub mod Published
 pub mod Demands
 pub mod Hash
 pub mod Kept

@@ -2,6 +2,7 @@
 
 use reference::card::{self, Card};
 use std::env;
+use std::fs::File;
 use std::io::Write;
 use std::path::PathBuf;
 use std::process::{Command, Stdio};
@@ -152,6 +153,20 @@ fn other_card_lengths() {
         if length != 46 {
             assert_eq!(expected, b"refused 14\n");
         }
+    }
+}
+
+/// No card and no cell is told of what can't be read.
+#[test]
+fn what_it_can_not_read() {
+    let folder = File::open(env!("CARGO_MANIFEST_DIR")).expect("a folder");
+    let write_only = File::options().write(true).open("/dev/null");
+    for input in [folder, write_only.expect("a file that takes all")] {
+        let output = Command::new(program())
+            .stdin(input)
+            .output()
+            .expect("the program runs");
+        assert_eq!(String::from_utf8_lossy(&output.stdout), "unreadable\n");
     }
 }
 

@@ -5,5 +5,15 @@ use Rattle.locate.proofs.main.Tie as tie
 pub main-spec : {M : Type 1} → statement M
 main-spec =
     tie.close
-    (tie.spec (λ c. search handed) (λ c. search handed) (λ c κs. search handed) (λ c. search handed) (λ c κs. search handed) (λ c. search handed)
-    (λ c κs. search handed) (λ c. search handed) (λ c. search handed))
+    (tie.spec
+    (λ c. search handed)
+    (λ c. search handed)
+    (λ c κs. search handed)
+    (λ c κs. search handed)
+    (λ c. search handed)
+    (λ c. search handed)
+    (λ c κs. search handed)
+    (λ c. search handed)
+    (λ c κs. search handed)
+    (λ c. search handed)
+    (λ c. search handed))

@@ -1,5 +1,5 @@
 -- What the functions that read a card's length and print a block need, and that they print what the definitions over a card say.
-use Prim.Native.Nat.{ℕ, zero, suc, _+_, _*_, _/_, _%_, _≤_, _<_}
+use Prim.Native.Nat.{ℕ, zero, suc, _+_, _-_, _*_, _/_, _%_, _≤_, _<_}
 use mathlib.Core.Path.{_≡_, refl, sym, ap, _∙_}
 use mathlib.Core.Bool.{Bool, true, false, not, _||_, false≢true}
 use mathlib.Core.List.{List, [], _++_, append-nil}
@@ -7,7 +7,10 @@ use native.Mathlib.Omega.{arith}
 use borrow.Author.Needs.{needs}
 use borrow.Author.Tests.{eqb-true, lt-ltb, le-ltb, eq-eqb, ne-eqb}
 use lib.Dec.{eqb}
+use lib.IntN.{ℤ, pos, negsuc}
 use lib.ListN.{length, length-append}
+use mir.Syntax.{w64}
+use mir.Val.{SFits, ofZ}
 use Rattle.refusal.specs.Choice.{pick}
 use Rattle.refusal.proofs.Tests.{told-no, told-yes}
 use Rattle.endian.specs.Little.{le, leAt}
@@ -33,6 +36,7 @@ use Rattle.locate.specs.lines.Lines.{refusedLine, keyed, lineFor, lineOf
 use Rattle.locate.specs.lines.Cells.{cellAt, linesBy}
 use Rattle.locate.specs.text.Output.{cutLine, cutAfter, textBy, cellsText, framed}
 use Rattle.locate.specs.text.Blocks.{isCardLength, cardLength}
+use Rattle.locate.specs.text.Ends.{isNone, toldBytes}
 
 -- ---- a card's length, and a card of that length
 pub is-length : (n : ℕ) → (eqb n 46 || (eqb n 61 || (eqb n 50 || eqb n 65))) ≡ isCardLength n
@@ -74,6 +78,23 @@ module _ (s : List ℕ) where
   framed-read {n} e p = rw (eq-eqb (length s) n e) p
 
 pub ruleset framing = (is-length, length-short, length-said, length-most, length-none, framed-14, framed-read, needs)
+
+-- ---- the end of the input
+pub none-is : (z : ℤ) → SFits w64 z → eqb (ofZ w64 z) 0 ≡ isNone z
+unfolding isNone
+none-is (pos n) f = refl
+none-is (negsuc n) f = ne-eqb (18446744073709551616 - suc n) 0 (λ e. omega (arith, f .sfits))
+
+module _ (got : ℕ) {r : Bool} where
+  pub told-all : r ≡ true → got ≡ toldBytes got r
+  unfolding toldBytes
+  told-all e = rw e
+
+  pub told-whole : r ≡ false → got - got % 12 ≡ toldBytes got r
+  unfolding toldBytes
+  told-whole e = rw e
+
+pub ruleset ending = (none-is, told-all, told-whole, needs)
 
 -- ---- the cut
 pub cut-put : (at : ℕ) (d : List ℕ) {e : List ℕ} → e ≡ paste at (le 4 0x0a747563) d → e ≡ paste at cutLine d

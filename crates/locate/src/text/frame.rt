@@ -1,9 +1,10 @@
-// What stands before the cells: a card's length and the card.
+// What stands before the cells: a card's length and the card; and the end of the input.
 
 ghost use mathlib.Core.Path.{_≡_};
 ghost use Prim.Native.Nat.{_≤_};
 ghost use Rattle.locate.specs.text.Output.{framed};
 ghost use Rattle.locate.specs.text.Blocks.{isCardLength, cardLength};
+ghost use Rattle.locate.specs.text.Ends.{isNone, toldBytes};
 use card::CardAnswer;
 
 // A card of a volume can have 46 or 61 bytes, of a mesh 50 or 65.
@@ -35,4 +36,23 @@ pub fn framed_card(n: usize, bytes: &[u8]) -> CardAnswer
         return CardAnswer::Refused(14);
     }
     card::read_card(bytes)
+}
+
+// ---- where the input ends
+
+// Whether a read answered that no byte is left. A failed one answers -1.
+pub fn is_none(answer: isize) -> bool
+    ensures { λ r. ⌜ r ≡ isNone answer ⌝ }
+{
+    answer == 0
+}
+
+// How many bytes of a block are told: all that came, or whole cells alone where a read failed.
+pub fn told_bytes(got: usize, readable: bool) -> usize
+    ensures { λ r. ⌜ (r ≡ toldBytes got readable) × (r ≤ got) ⌝ }
+{
+    if readable {
+        return got;
+    }
+    got - got % 12
 }

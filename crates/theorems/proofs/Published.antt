@@ -1,0 +1,27 @@
+-- Demand 2's first sentence holds: places and names from Named, manifests from Laid and Relaid, pairs from split_shard's laws.
+use mathlib.Core.Path.{refl, ap, _∙_}
+use mathlib.Core.List.{_++_}
+use Rattle.lookup.specs.Find.{partBytes}
+use Rattle.lookup.specs.declared.id_search.LookupAnswer.{LookupAnswer}
+use Rattle.split_shard.proofs.Laws.{lookup-as-joined, fragment-as-joined}
+use Rattle.split_shard.proofs.Parts.{lookup-bytes}
+use Rattle.split_shard.proofs.Fragments.{node-bytes}
+use Rattle.theorems.specs.Published.{Published}
+use Rattle.theorems.proofs.Named.{place-is, file-name-is, chunk-name-is}
+use Rattle.theorems.proofs.Laid.{header-is, field-is, node-is, corners-are}
+use Rattle.theorems.proofs.Relaid.{verdict, relaid}
+
+pub published : Published
+published = record {
+  place = place-is;
+  fileName = file-name-is;
+  chunkName = chunk-name-is;
+  manifest = relaid;
+  header = λ m l. header-is m (l .fits) (verdict _ (l .sound));
+  field = λ m l. field-is m (l .fits) (verdict _ (l .sound));
+  node = λ m l level i start f t. node-is m (l .fits) level i start f t (verdict _ (l .sound));
+  corners = λ m l. corners-are m (l .fits);
+  pairPart = λ spec shard index d id e. lookup-bytes spec shard index d id refl refl ∙ ap (λ (a : LookupAnswer). partBytes a (index ++ d)) (lookup-as-joined spec shard index d id e);
+  pairFragmentPart = λ spec shard index d id level node e.
+      node-bytes spec shard index d id level node refl refl ∙ ap (λ (a : LookupAnswer). partBytes a (index ++ d)) (fragment-as-joined spec shard index d id level node e);
+}
