@@ -21,7 +21,7 @@ use Rattle.shard.specs.Faults.{faultOf, noFault, orLater, firstFault, sh
 use Rattle.shard.specs.File.{indexPart, dataPart, fileChecks, shardChecks, checkVerdict, checkAnswer, checkResult}
 use Rattle.shard.specs.Sound.{SoundShard, FirstFaultIs}
 use Rattle.shard.proofs.Judged.{passes-minishard, minishard-passes}
-use Rattle.shard.proofs.Numbers.{unless-some, shard-in, shard-answer, Called, file-called, called-file, file-in, minishard-number, minishard-position}
+use Rattle.shard.proofs.Numbers.{unless-some, shard-in, shard-answer, Called, file-called, called-file, minishard-number, minishard-position}
 
 -- ---- the first fault of k minishards from m on
 

@@ -1,10 +1,10 @@
--- The calls on a pair refuse by their checks, and but for 23 answer as for the joined file.
+-- But for 23 the calls on a pair answer as for the joined file.
 use Prim.Native.Nat.{ℕ, zero, suc}
 use mathlib.Core.Path.{_≡_, refl}
 use mathlib.Core.List.{List, _++_}
 use native.Mathlib.Omega.{arith}
 use lib.ListN.{length}
-use Rattle.refusal.specs.Checks.{firstNumber, unless, Refuses, RefusesAt}
+use Rattle.refusal.specs.Checks.{firstNumber, unless}
 use Rattle.sharding.specs.declared.Sharding.{Sharding}
 use Rattle.sharding.specs.Specification.{noSuchShard}
 use Rattle.shard.specs.declared.CheckAnswer.the-variants as C
@@ -12,7 +12,7 @@ use Rattle.shard.specs.File.{indexLength, fileChecks, checkAnswer}
 use Rattle.shard.proofs.Whole.{check-refuses}
 use Rattle.split_shard.specs.seam.Pair.{pairChecks}
 use Rattle.split_shard.proofs.seam.Pairs.{checks-seamed}
-use Rattle.split_shard.proofs.seam.Refusals.{pair-refuses, pair-refuses-at, as-joined, as-joined-at}
+use Rattle.split_shard.proofs.seam.Refusals.{as-joined, as-joined-at}
 use Rattle.lookup.specs.declared.id_search.LookupAnswer.the-variants.{Refused, Faulty}
 use Rattle.lookup.specs.Find.{lookupChecks, lookupAnswer}
 use Rattle.lookup.proofs.Refused.{lookup-refuses}
@@ -21,13 +21,9 @@ use Rattle.lookup.proofs.fragments.Refused.{fragment-refuses}
 use Rattle.split_shard.specs.Answers.{pairCheck, otherShard, pairLookup, pairFragment}
 
 module _ (spec : Sharding) (shard : ℕ) (index d : List ℕ) where
-  pub check-refuses-pair : Refuses (pairCheck spec shard index d) C.Refused (pairChecks spec (noSuchShard spec shard) index ++ fileChecks spec (noSuchShard spec shard) (index ++ d))
-  unfolding pairCheck
-  check-refuses-pair = pair-refuses C.Refused (λ j k e. cc) spec (noSuchShard spec shard) index (check-refuses spec shard (index ++ d))
-
   pub check-as-joined : length index ≡ indexLength spec → pairCheck spec shard index d ≡ checkAnswer spec shard (index ++ d)
   unfolding pairCheck fileChecks
-  check-as-joined e = as-joined C.Refused (λ j k e. cc) spec (noSuchShard spec shard) index e (check-refuses spec shard (index ++ d))
+  check-as-joined e = as-joined C.Refused spec (noSuchShard spec shard) index e (check-refuses spec shard (index ++ d))
 
   -- a pair of which 23 holds is not sound
   pub sound-seamed : pairCheck spec shard index d ≡ C.Sound → (length index ≡ indexLength spec) × (checkAnswer spec shard (index ++ d) ≡ C.Sound)
@@ -40,19 +36,11 @@ module _ (spec : Sharding) (shard : ℕ) (index d : List ℕ) where
       go (suc n) z e = unfold unless in (let y : _≡_ {A = ℕ} 0 1 = cc in absurd (omega arith))
 
   module _ (id : ℕ) where
-    pub lookup-refuses-pair : RefusesAt (pairLookup spec shard index d id) Refused Faulty (pairChecks spec (otherShard spec shard id) index ++ lookupChecks spec shard (index ++ d) id)
-    unfolding pairLookup
-    lookup-refuses-pair = pair-refuses-at Refused (λ j k e. cc) Faulty (λ j k p e. cc) spec (otherShard spec shard id) index (lookup-refuses spec shard (index ++ d) id)
-
     pub lookup-as-joined : length index ≡ indexLength spec → pairLookup spec shard index d id ≡ lookupAnswer spec shard (index ++ d) id
     unfolding pairLookup lookupChecks fileChecks
-    lookup-as-joined e = as-joined-at Refused (λ j k e. cc) Faulty (λ j k p e. cc) spec (otherShard spec shard id) index e (lookup-refuses spec shard (index ++ d) id)
+    lookup-as-joined e = as-joined-at Refused Faulty spec (otherShard spec shard id) index e (lookup-refuses spec shard (index ++ d) id)
 
     module _ (level node : ℕ) where
-      pub fragment-refuses-pair : RefusesAt (pairFragment spec shard index d id level node) Refused Faulty (pairChecks spec (otherShard spec shard id) index ++ fragmentChecks spec shard (index ++ d) id level node)
-      unfolding pairFragment
-      fragment-refuses-pair = pair-refuses-at Refused (λ j k e. cc) Faulty (λ j k p e. cc) spec (otherShard spec shard id) index (fragment-refuses spec shard (index ++ d) id level node)
-
       pub fragment-as-joined : length index ≡ indexLength spec → pairFragment spec shard index d id level node ≡ fragmentAnswer spec shard (index ++ d) id level node
       unfolding pairFragment fragmentChecks lookupChecks fileChecks
-      fragment-as-joined e = as-joined-at Refused (λ j k e. cc) Faulty (λ j k p e. cc) spec (otherShard spec shard id) index e (fragment-refuses spec shard (index ++ d) id level node)
+      fragment-as-joined e = as-joined-at Refused Faulty spec (otherShard spec shard id) index e (fragment-refuses spec shard (index ++ d) id level node)

@@ -27,13 +27,13 @@ use Rattle.lookup.specs.Find.{lookupChecks, lookupAnswer, lookupResult}
 use Rattle.lookup.proofs.Refused.{lookup-decided}
 use Rattle.lookup.specs.fragments.Fragment.{fragmentChecks, fragmentAnswer}
 use Rattle.lookup.proofs.fragments.Refused.{fragment-decided}
-use Rattle.lookup.specs.listings.Listing.{countChecks, countAnswer, listingChecks, listingAnswer}
+use Rattle.lookup.specs.listings.Listing.{askedChecks, countChecks, countAnswer, listingChecks, listingAnswer}
 use Rattle.lookup.proofs.listings.Refused.{count-decided, listing-decided}
 use Rattle.settle.specs.answers.Answers.{unlistedCheck, lengthCheck, settledLengthChecks, lengthAnswer, settleCheck, settleChecks, settleAnswer}
 use Rattle.settle.proofs.Refused.{length-decided, settle-decided}
 use Rattle.split_shard.specs.seam.Pair.{pairChecks}
 use Rattle.split_shard.specs.Answers.{otherShard, pairCheck, pairLookup, pairFragment}
-use Rattle.split_shard.specs.form.Answers.{noMinishard, pairCount, pairListing, pairUnlisted, pairLength, pairSettle}
+use Rattle.split_shard.specs.form.Answers.{pairAskedChecks, pairCount, pairListing, pairUnlisted, pairLength, pairSettle}
 use Rattle.holdings.specs.measures.Answers.{measureAnswer, pairMeasure, measureResult}
 use Rattle.theorems.specs.Demands.{measureChecks}
 use Rattle.theorems.specs.Orders.{isPlaced, Carries}
@@ -113,6 +113,10 @@ marked-seam : (spec : Sharding) (five : Bool) (index : List ℕ) (cs : List Chec
 unfolding pairChecks Marked
 marked-seam spec five index cs m = (refl, (refl, (refl, m)))
 
+marked-asked : (spec : Sharding) (shard m : ℕ) (index : List ℕ) (cs : List Check) → Marked cs → Marked (pairAskedChecks spec shard m index ++ cs)
+unfolding pairAskedChecks askedChecks Marked
+marked-asked spec shard m index cs h = (refl, (refl, (refl, (refl, h))))
+
 module _ (spec : Sharding) (shard : ℕ) (file : List ℕ) where
   marked-shard : Marked (shardChecks spec shard file)
   unfolding shardChecks
@@ -133,8 +137,8 @@ module _ (spec : Sharding) (shard : ℕ) (file : List ℕ) where
   marked-fragment id level node = marked-both (lookupChecks spec shard file id) _ (marked-lookup id) (unfold Marked in (refl, tt))
 
   marked-count : (m : ℕ) → Marked (countChecks spec shard file m)
-  unfolding countChecks
-  marked-count m = marked-both (fileChecks spec (noMinishard spec shard m) file) _ (marked-file spec (noMinishard spec shard m) file) (marked-minishard spec shard (indexPart spec file) (dataPart spec file) m)
+  unfolding countChecks askedChecks Marked
+  marked-count m = (refl, (refl, (refl, (refl, marked-minishard spec shard (indexPart spec file) (dataPart spec file) m))))
 
   marked-listing : (m : ℕ) (out : List ℕ) → Marked (listingChecks spec shard file m out)
   unfolding listingChecks
@@ -197,10 +201,14 @@ module _ (spec : Sharding) (shard : ℕ) (index d : List ℕ) where
   fragment-pair-carries id level node = seamed (otherShard spec shard id) (fragmentChecks spec shard (index ++ d) id level node) (marked-fragment spec shard (index ++ d) id level node) (fragment-decided-pair spec shard index d id level node)
 
   pub count-pair-carries : (m : ℕ) → Carries (countResult (pairCount spec shard index d m))
-  count-pair-carries m = seamed (noMinishard spec shard m) (countChecks spec shard (index ++ d) m) (marked-count spec shard (index ++ d) m) (count-decided-pair spec shard index d m)
+  count-pair-carries m =
+      let cs = countChecks spec shard (index ++ d) m in
+      carried (pairAskedChecks spec shard m index ++ cs) (marked-asked spec shard m index cs (marked-count spec shard (index ++ d) m)) (count-decided-pair spec shard index d m)
 
   pub listing-pair-carries : (m : ℕ) (out : List ℕ) → Carries (countResult (pairListing spec shard index d m out))
-  listing-pair-carries m out = seamed (noMinishard spec shard m) (listingChecks spec shard (index ++ d) m out) (marked-listing spec shard (index ++ d) m out) (listing-decided-pair spec shard index d m out)
+  listing-pair-carries m out =
+      let cs = listingChecks spec shard (index ++ d) m out in
+      carried (pairAskedChecks spec shard m index ++ cs) (marked-asked spec shard m index cs (marked-listing spec shard (index ++ d) m out)) (listing-decided-pair spec shard index d m out)
 
   pub unlisted-pair-carries : Carries (countResult (pairUnlisted spec shard index d))
   unlisted-pair-carries = seamed (noSuchShard spec shard) (shardChecks spec shard (index ++ d)) (marked-shard spec shard (index ++ d)) (unlisted-decided-pair spec shard index d)

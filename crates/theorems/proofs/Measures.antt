@@ -1,6 +1,6 @@
 -- What measuring a shard and adding to a sheet refuse, by their checks.
 use Prim.Native.Nat.{ℕ, zero, suc}
-use mathlib.Core.Path.{_≡_, refl, sym, ap, _∙_}
+use mathlib.Core.Path.{_≡_, refl, sym, _∙_}
 use mathlib.Core.Bool.{Bool}
 use mathlib.Core.List.{List, [], _∷_, _++_}
 use mathlib.Core.Logic.{_↔_}
@@ -13,7 +13,6 @@ use Rattle.refusal.proofs.Positions.{at-both, at-plain}
 use Rattle.refusal.proofs.Results.{decided, decided-after, decided-at}
 use Rattle.sharding.specs.declared.Sharding.{Sharding}
 use Rattle.sharding.specs.Specification.{noSuchShard}
-use Rattle.shard.specs.declared.CheckAnswer.{CheckAnswer}
 use Rattle.shard.specs.declared.CheckAnswer.the-variants as C
 use Rattle.shard.specs.Faults.{shardFault}
 use Rattle.shard.specs.File.{indexLength, indexPart, dataPart, fileChecks, shardChecks, checkAnswer, checkResult}

@@ -6,9 +6,12 @@ use mathlib.Core.List.{List, _++_}
 use lib.ListN.{length}
 use lib.Dec.{ltb}
 use Rattle.refusal.specs.Choice.{pick}
+use Rattle.refusal.specs.Checks.{Check, answered}
 use Rattle.refusal.specs.Result.{success, countResult, DecidedBy}
+use Rattle.refusal.specs.declared.CountAnswer.{CountAnswer}
 use Rattle.refusal.specs.declared.CountAnswer.the-variants as N
-use Rattle.refusal.proofs.Results.{decided}
+use Rattle.refusal.proofs.Picks.{all-in}
+use Rattle.refusal.proofs.Results.{decided, decided-after}
 use Rattle.sharding.specs.declared.Sharding.{Sharding}
 use Rattle.sharding.specs.Specification.{noSuchShard}
 use Rattle.shard.specs.File.{shardChecks}
@@ -17,14 +20,14 @@ use Rattle.lookup.specs.Find.{lookupChecks, lookupResult}
 use Rattle.lookup.proofs.Refused.{lookup-decided}
 use Rattle.lookup.specs.fragments.Fragment.{fragmentChecks}
 use Rattle.lookup.proofs.fragments.Refused.{fragment-decided}
-use Rattle.lookup.specs.listings.Listing.{countChecks, listingChecks}
+use Rattle.lookup.specs.listings.Listing.{askedChecks, countChecks, listingChecks}
 use Rattle.lookup.proofs.listings.Refused.{count-decided, listing-decided}
 use Rattle.unlisted.proofs.Counted.{unlisted-decided}
 use Rattle.settle.specs.answers.Answers.{settledLengthChecks, settleChecks}
 use Rattle.settle.proofs.Refused.{length-decided, settle-decided}
 use Rattle.split_shard.specs.seam.Pair.{pairChecks}
 use Rattle.split_shard.specs.Answers.{otherShard, pairLookup, pairFragment}
-use Rattle.split_shard.specs.form.Answers.{noMinishard, pairCount, pairListing, pairUnlisted, pairLength, pairSettle}
+use Rattle.split_shard.specs.form.Answers.{pairAskedChecks, pairCount, pairListing, pairUnlisted, pairLength, pairSettle}
 use Rattle.split_shard.specs.declared.held_range.RangeAnswer.the-variants as R
 use Rattle.split_shard.specs.held_range.Held.{heldRange}
 use Rattle.split_shard.specs.seam.Range.{rangeChecks, rangeAnswer, rangeResult}
@@ -41,13 +44,17 @@ module _ (spec : Sharding) (shard : ℕ) (index d : List ℕ) where
     fragment-decided-pair level node = pair-decided lookupResult L.Refused (λ k. refl) spec (otherShard spec shard id) index (fragment-decided spec shard (index ++ d) id level node)
 
   module _ (m : ℕ) where
-    pub count-decided-pair : DecidedBy (pairChecks spec (noMinishard spec shard m) index ++ countChecks spec shard (index ++ d) m) (countResult (pairCount spec shard index d m))
-    unfolding pairCount
-    count-decided-pair = pair-decided countResult N.Refused (λ k. refl) spec (noMinishard spec shard m) index (count-decided spec shard (index ++ d) m)
+    asked-decided : {cs : List Check} {x : CountAnswer} → DecidedBy cs (countResult x) → DecidedBy (pairAskedChecks spec shard m index ++ cs) (countResult (answered N.Refused (pairAskedChecks spec shard m index) x))
+    unfolding pairAskedChecks askedChecks
+    asked-decided {cs} {x} h = decided-after countResult N.Refused (λ k. refl) (pairAskedChecks spec shard m index) cs x (all-in (pairAskedChecks spec shard m index) refl) (refl, (refl, (refl, (refl, tt)))) h
 
-    pub listing-decided-pair : (out : List ℕ) → DecidedBy (pairChecks spec (noMinishard spec shard m) index ++ listingChecks spec shard (index ++ d) m out) (countResult (pairListing spec shard index d m out))
+    pub count-decided-pair : DecidedBy (pairAskedChecks spec shard m index ++ countChecks spec shard (index ++ d) m) (countResult (pairCount spec shard index d m))
+    unfolding pairCount
+    count-decided-pair = asked-decided (count-decided spec shard (index ++ d) m)
+
+    pub listing-decided-pair : (out : List ℕ) → DecidedBy (pairAskedChecks spec shard m index ++ listingChecks spec shard (index ++ d) m out) (countResult (pairListing spec shard index d m out))
     unfolding pairListing
-    listing-decided-pair out = pair-decided countResult N.Refused (λ k. refl) spec (noMinishard spec shard m) index (listing-decided spec shard (index ++ d) m out)
+    listing-decided-pair out = asked-decided (listing-decided spec shard (index ++ d) m out)
 
   pub unlisted-decided-pair : DecidedBy (pairChecks spec (noSuchShard spec shard) index ++ shardChecks spec shard (index ++ d)) (countResult (pairUnlisted spec shard index d))
   unfolding pairUnlisted

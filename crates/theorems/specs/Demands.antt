@@ -51,7 +51,7 @@ use Rattle.settle.specs.answers.Answers.{settledLengthChecks, lengthAnswer, set
 use Rattle.split_shard.specs.seam.Pair.{pairChecks}
 use Rattle.split_shard.specs.seam.Range.{rangeChecks, rangeAnswer, rangeResult}
 use Rattle.split_shard.specs.Answers.{otherShard, pairCheck, pairLookup, pairFragment}
-use Rattle.split_shard.specs.form.Answers.{noMinishard, pairCount, pairListing, pairListingLeft, pairUnlisted, pairLength, pairSettle, pairSettleLeft}
+use Rattle.split_shard.specs.form.Answers.{pairAskedChecks, pairCount, pairListing, pairListingLeft, pairUnlisted, pairLength, pairSettle, pairSettleLeft}
 use Rattle.intake.specs.declared.state.Intake.{Intake}
 use Rattle.intake.specs.admission.Refusals.{openChecks, announceChecks, partChecks, closeChecks}
 use Rattle.intake.specs.declared.IntakeAnswer.the-variants as I
@@ -118,13 +118,13 @@ pub record Demand1 : Type 0 where
   pub formLength : (spec : Sharding) (shard : ℕ) (file : List ℕ) (dropping : Bool) → DecidedBy (settledLengthChecks spec shard file dropping) (countResult (lengthAnswer spec shard file dropping))
   pub settle : (spec : Sharding) (shard : ℕ) (file : List ℕ) (dropping : Bool) (out : List ℕ) → DecidedBy (settleChecks spec shard file dropping out) (countResult (settleAnswer spec shard file dropping out))
   pub unlisted : (spec : Sharding) (shard : ℕ) (file : List ℕ) → DecidedBy (shardChecks spec shard file) (countResult (unlistedAnswer spec shard file))
-  -- (of a pair: 1, 5, 23, then those of the joined file, whose 1 and 5 are the same tests; order 10)
+  -- (of a pair: 1, 5, 23, of a listing 1, 5, 33, 23, then those of the joined file, whose 1, 5 and 33 are the same tests; order 10)
   pub checkOfPair : (spec : Sharding) (shard : ℕ) (index d : List ℕ) → DecidedBy (pairChecks spec (noSuchShard spec shard) index ++ shardChecks spec shard (index ++ d)) (checkResult (pairCheck spec shard index d))
   pub namedOfPair : (spec : Sharding) (shard : ℕ) (index d : List ℕ) (k m p : ℕ) → (pairCheck spec shard index d ≡ Faulty k m p) ↔ ((length index ≡ indexLength spec) × FirstFaultIs spec shard (index ++ d) k m p)
   pub lookupOfPair : (spec : Sharding) (shard : ℕ) (index d : List ℕ) (id : ℕ) → DecidedBy (pairChecks spec (otherShard spec shard id) index ++ lookupChecks spec shard (index ++ d) id) (lookupResult (pairLookup spec shard index d id))
   pub fragmentOfPair : (spec : Sharding) (shard : ℕ) (index d : List ℕ) (id level node : ℕ) → DecidedBy (pairChecks spec (otherShard spec shard id) index ++ fragmentChecks spec shard (index ++ d) id level node) (lookupResult (pairFragment spec shard index d id level node))
-  pub countOfPair : (spec : Sharding) (shard : ℕ) (index d : List ℕ) (m : ℕ) → DecidedBy (pairChecks spec (noMinishard spec shard m) index ++ countChecks spec shard (index ++ d) m) (countResult (pairCount spec shard index d m))
-  pub listingOfPair : (spec : Sharding) (shard : ℕ) (index d : List ℕ) (m : ℕ) (out : List ℕ) → DecidedBy (pairChecks spec (noMinishard spec shard m) index ++ listingChecks spec shard (index ++ d) m out) (countResult (pairListing spec shard index d m out))
+  pub countOfPair : (spec : Sharding) (shard : ℕ) (index d : List ℕ) (m : ℕ) → DecidedBy (pairAskedChecks spec shard m index ++ countChecks spec shard (index ++ d) m) (countResult (pairCount spec shard index d m))
+  pub listingOfPair : (spec : Sharding) (shard : ℕ) (index d : List ℕ) (m : ℕ) (out : List ℕ) → DecidedBy (pairAskedChecks spec shard m index ++ listingChecks spec shard (index ++ d) m out) (countResult (pairListing spec shard index d m out))
   pub unlistedOfPair : (spec : Sharding) (shard : ℕ) (index d : List ℕ) → DecidedBy (pairChecks spec (noSuchShard spec shard) index ++ shardChecks spec shard (index ++ d)) (countResult (pairUnlisted spec shard index d))
   pub formLengthOfPair : (spec : Sharding) (shard : ℕ) (index d : List ℕ) (dropping : Bool) → DecidedBy (pairChecks spec (noSuchShard spec shard) index ++ settledLengthChecks spec shard (index ++ d) dropping) (countResult (pairLength spec shard index d dropping))
   pub settleOfPair : (spec : Sharding) (shard : ℕ) (index d : List ℕ) (dropping : Bool) (out : List ℕ) → DecidedBy (pairChecks spec (noSuchShard spec shard) index ++ settleChecks spec shard (index ++ d) dropping out) (countResult (pairSettle spec shard index d dropping out))

@@ -43,7 +43,7 @@ impl<'a> Pair<'a> {
     }
 
     /// What a call answers: as for the joined file, but 23 where the seam is not
-    /// at the end of the shard index and neither 1 nor 5 is given.
+    /// at the end of the shard index and none of 1, 5 and 33 is given.
     fn answer<T>(
         &self,
         sharding: &Sharding,
@@ -51,7 +51,7 @@ impl<'a> Pair<'a> {
     ) -> Result<T, Refusal> {
         let answer = call(&self.joined());
         match answer {
-            Err(refusal) if matches!(refusal.number, 1 | 5) => Err(refusal),
+            Err(refusal) if matches!(refusal.number, 1 | 5 | 33) => Err(refusal),
             _ if !self.has_its_seam(sharding) => Err(Refusal::bare(23)),
             answer => answer,
         }

@@ -9,9 +9,9 @@ use lib.ListN.{length, take, drop, length-append}
 use borrow.Author.Needs.{needs}
 use borrow.Author.Tests.{lt-ltb, le-ltb, ltb-true, ltb-false}
 use Rattle.refusal.specs.Choice.{pick}
-use Rattle.refusal.specs.Checks.{check, firstNumber, unless, Refuses}
+use Rattle.refusal.specs.Checks.{check, firstNumber, unless}
 use Rattle.refusal.proofs.Picks.{all-in, by-picks}
-use Rattle.refusal.proofs.Refusing.{answered-both, by-none, refuses}
+use Rattle.refusal.proofs.Refusing.{answered-both, by-none}
 use Rattle.refusal.proofs.Tests.{told-no, told-yes, neither}
 use Rattle.sharding.specs.declared.Sharding.{Sharding}
 use Rattle.sharding.specs.Specification.{allowed}
@@ -37,14 +37,6 @@ module _ (spec : Sharding) (index d : List ℕ) (start end : ℕ) where
       answered-both Refused first (pairLengthChecks spec index d ++ last) _ (all-in first refl)
       ∙ by-picks Refused first _ refl
       ∙ rw (answered-both Refused (pairLengthChecks spec index d) last (heldRange (length index) start end) (all-in (pairLengthChecks spec index d) refl))
-
-  pub range-refuses : Refuses (rangeAnswer spec index d start end) Refused (rangeChecks spec index d start end)
-  unfolding rangeAnswer rangeChecks heldRange
-  range-refuses = refuses Refused (λ j k e. cc) (rangeChecks spec index d start end) _ refl (λ k e. never (ltb start (length index)) k e)
-    where
-      never : (b : Bool) (k : ℕ) → pick b (InIndex start (end - start)) (InData (start - length index) (end - start)) ≡ Refused k → _≡_ {A = ℕ} 0 1
-      never true k e = cc
-      never false k e = cc
 
   module _ {b : Bool} (p : b ≡ allowed spec) where
     pub range-spec : not b ≡ true → Refused 1 ≡ rangeAnswer spec index d start end
