@@ -25,13 +25,13 @@ use Rattle.endian.proofs.Buffer.{written-fits}
 use Rattle.card.proofs.Judged.{write-written}
 use Rattle.card.proofs.Meaning.{one-meaning-one-card}
 use Rattle.info.specs.declared.scale.Settings.{Settings}
-use Rattle.info.specs.declared.scale.Settings.the-variants.{Are as SettingsAre, Wrong as NoSettings}
+use Rattle.info.specs.declared.scale.Settings.the-variants.{Are as SettingsAre, UnknownHash as NoKnownHash, Wrong as NoSettings}
 use Rattle.info.specs.Settings.{settingsOf}
-use Rattle.info.specs.Answers.{noSettings, recordOf, infoChecks, infoAnswer}
+use Rattle.info.specs.Answers.{noSettings, unknownHash, recordOf, settingsChecks, infoChecks, infoAnswer}
 use Rattle.info.specs.document.Document.{document}
-use Rattle.info.specs.document.Said.{settingsIn, saidChecks, saidAnswer}
+use Rattle.info.specs.document.Said.{settingsIn, saidAnswer}
 use Rattle.info.specs.document.Meaning.{InfoMeaning}
-use Rattle.info.proofs.Ways.{first-is}
+use Rattle.info.proofs.Ways.{first-is, info-1}
 use Rattle.json.proofs.members.Own.{elements-own, members-own, value-own}
 use Rattle.info.proofs.document.Reading.{settings-by-document}
 use Rattle.info.proofs.document.Held.{SettingsHeld, of-held}
@@ -44,10 +44,11 @@ judged-by zero c d e = (refl, cc)
 judged-by (suc f) c d e = let z : _≡_ {A = ℕ} 0 1 = cc in absurd (omega arith)
 
 accepted-by : (t : Bool) (w : Settings) (c : Card) → SettingsHeld w
-    → unless Refused (pick (not t) 19 (pick (noSettings w) 20 (fault (recordOf w)))) (Says (recordOf w)) ≡ Says c
+    → unless Refused (pick (not t) 19 (pick (noSettings w) 20 (pick (unknownHash w) 1 (fault (recordOf w))))) (Says (recordOf w)) ≡ Says c
     → (t ≡ true) × (w ≡ SettingsAre c) × (Ranged c) × (fault c ≡ 0) × (c .sharding .kind ≡ volume)
-unfolding unless noSettings recordOf
+unfolding unless noSettings unknownHash recordOf
 accepted-by false w c h e = let z : _≡_ {A = ℕ} 0 1 = cc in absurd (omega arith)
+accepted-by true NoKnownHash c h e = let z : _≡_ {A = ℕ} 0 1 = cc in absurd (omega arith)
 accepted-by true NoSettings c h e = let z : _≡_ {A = ℕ} 0 1 = cc in absurd (omega arith)
 accepted-by true (SettingsAre d) c h e =
     let q = judged-by (fault d) c d e in
@@ -69,7 +70,7 @@ card-reads-back s k c out e h =
 -- ---- what is refused
 
 info-refuses : (s : List ℕ) (k : ℕ) → Refuses (infoAnswer s k) Refused (infoChecks s k)
-unfolding infoAnswer infoChecks recordChecks
+unfolding infoAnswer infoChecks settingsChecks recordChecks
 info-refuses s k = refuses Refused (λ i j e. cc) (infoChecks s k) (Says (recordOf (settingsOf s k))) refl (λ j e. cc)
 
 pick-small : (a b c : Bool) → pick a 1 (pick b 2 (pick c 3 0)) < 19
@@ -81,6 +82,12 @@ pick-small false false false = omega arith
 fault-small : (c : Card) → fault c < 19
 unfolding recordChecks firstNumber
 fault-small c = pick-small (not (allowed (c .sharding))) (zeroExtent (c .volume)) (tooManyBits (gridOf (c .volume)))
+
+first-small : (w : Settings) → pick (unknownHash w) 1 (fault (recordOf w)) < 19
+unfolding unknownHash recordOf
+first-small (SettingsAre c) = fault-small c
+first-small NoKnownHash = omega arith
+first-small NoSettings = fault-small (recordOf NoSettings)
 
 number-19 : (t b : Bool) (f : ℕ) → f < 19 → pick (not t) 19 (pick b 20 f) ≡ 19 → t ≡ false
 number-19 false b f h e = refl
@@ -95,7 +102,7 @@ not-json-19 : (s : List ℕ) (k : ℕ) → (infoAnswer s k ≡ Refused 19) ↔ (
 not-json-19 s k = (λ e j. false-not (no-json e) (json-complete deepest s j), λ n. info-refuses s k .decided 19 .1 (here n (isJson deepest s) refl, (omega arith, omega arith)))
   where
     no-json : infoAnswer s k ≡ Refused 19 → isJson deepest s ≡ false
-    no-json e = number-19 (isJson deepest s) (noSettings (settingsOf s k)) (fault (recordOf (settingsOf s k))) (fault-small (recordOf (settingsOf s k))) (sym (first-is s k) ∙ info-refuses s k .decided 19 .0 e .0)
+    no-json e = number-19 (isJson deepest s) (noSettings (settingsOf s k)) (pick (unknownHash (settingsOf s k)) 1 (fault (recordOf (settingsOf s k)))) (first-small (settingsOf s k)) (sym (first-is s k) ∙ info-refuses s k .decided 19 .0 e .0)
 
     here : (JsonText deepest s → ⊥) → (t : Bool) → isJson deepest s ≡ t → firstNumber (infoChecks s k) ≡ 19
     here n true e = absurd (n (json-sound deepest s e))
@@ -104,39 +111,43 @@ not-json-19 s k = (λ e j. false-not (no-json e) (json-complete deepest s j), λ
 -- ---- by what the document says
 
 by-document : (s : List ℕ) (k : ℕ) → JsonText deepest s → infoAnswer s k ≡ saidAnswer k (document s)
-unfolding infoAnswer infoChecks saidAnswer saidChecks firstNumber
+unfolding infoAnswer infoChecks saidAnswer firstNumber
 by-document s k j = rw (json-complete deepest s j, settings-by-document s k)
 
-number-20 : (w : Settings) → pick (noSettings w) 20 (fault (recordOf w)) ≡ 20 → w ≡ NoSettings
-unfolding noSettings recordOf
+number-20 : (w : Settings) → pick (noSettings w) 20 (pick (unknownHash w) 1 (fault (recordOf w))) ≡ 20 → w ≡ NoSettings
+unfolding noSettings unknownHash recordOf
 number-20 (SettingsAre c) e = absurd (omega (arith, fault-small c))
+number-20 NoKnownHash e = absurd (omega arith)
 number-20 NoSettings e = refl
 
 unsaid-20 : (s : List ℕ) (k : ℕ) → JsonText deepest s → (infoAnswer s k ≡ Refused 20) ↔ (settingsIn k (document s) ≡ NoSettings)
 unsaid-20 s k j = (λ e. sym (settings-by-document s k) ∙ none e, λ e. info-refuses s k .decided 20 .1 (here (settings-by-document s k ∙ e), (omega arith, omega arith)))
   where
-    unfolded : firstNumber (infoChecks s k) ≡ pick (noSettings (settingsOf s k)) 20 (fault (recordOf (settingsOf s k)))
+    unfolded : firstNumber (infoChecks s k) ≡ pick (noSettings (settingsOf s k)) 20 (pick (unknownHash (settingsOf s k)) 1 (fault (recordOf (settingsOf s k))))
     unfolded = first-is s k ∙ rw (json-complete deepest s j)
 
     none : infoAnswer s k ≡ Refused 20 → settingsOf s k ≡ NoSettings
     none e = number-20 (settingsOf s k) (sym unfolded ∙ info-refuses s k .decided 20 .0 e .0)
 
-    wrong : settingsOf s k ≡ NoSettings → pick (noSettings (settingsOf s k)) 20 (fault (recordOf (settingsOf s k))) ≡ 20
+    wrong : settingsOf s k ≡ NoSettings → pick (noSettings (settingsOf s k)) 20 (pick (unknownHash (settingsOf s k)) 1 (fault (recordOf (settingsOf s k)))) ≡ 20
     wrong e = rw e (unfold noSettings in refl)
 
     here : settingsOf s k ≡ NoSettings → firstNumber (infoChecks s k) ≡ 20
     here e = unfolded ∙ wrong e
 
-said-given : (k : ℕ) (w : Settings) (c : Card) → w ≡ SettingsAre c → fault c ≡ 0 → unless Refused (pick (noSettings w) 20 (fault (recordOf w))) (Says (recordOf w)) ≡ Says c
-unfolding unless noSettings recordOf
-said-given k w c e z = rw (e, z)
+said-given : (w : Settings) (c : Card) → w ≡ SettingsAre c → fault c ≡ 0 → unless Refused (pick (noSettings w) 20 (pick (unknownHash w) 1 (fault (recordOf w)))) (Says (recordOf w)) ≡ Says c
+unfolding unless noSettings unknownHash recordOf
+said-given w c e z = rw (e, z)
 
 given-said : (s : List ℕ) (k : ℕ) (c : Card) → (infoAnswer s k ≡ Says c) ↔ (JsonText deepest s × (settingsIn k (document s) ≡ SettingsAre c) × (firstNumber (recordChecks c) ≡ 0))
-unfolding saidAnswer saidChecks
+unfolding saidAnswer settingsChecks
 given-said s k c = (λ e. let a = accepted s k c e in (json-sound deepest s (a .0), sym (settings-by-document s k) ∙ a .1, a .3), λ h. by-document s k (h .0) ∙ said h)
   where
     said : JsonText deepest s × (settingsIn k (document s) ≡ SettingsAre c) × (firstNumber (recordChecks c) ≡ 0) → saidAnswer k (document s) ≡ Says c
-    said h = unfold firstNumber in said-given k (settingsIn k (document s)) c (h .1) (h .2)
+    said h = unfold firstNumber in said-given (settingsIn k (document s)) c (h .1) (h .2)
+
+unknown-1 : (s : List ℕ) (k : ℕ) → JsonText deepest s → settingsIn k (document s) ≡ NoKnownHash → infoAnswer s k ≡ Refused 1
+unknown-1 s k j e = sym (info-1 s k (sym (json-complete deepest s j)) refl (sym (settings-by-document s k)) e)
 
 -- ---- one document, one answer
 
@@ -154,6 +165,7 @@ meaning =
       refused = info-refuses;
       answer = by-document;
       unsaid = unsaid-20;
+      unknown = unknown-1;
       given = given-said;
       kind = λ s k c e. accepted s k c e .4;
       alike = alike;

@@ -19,6 +19,7 @@ use Rattle.info.specs.declared.numbers.Number.{Number}
 use Rattle.info.specs.declared.numbers.Number.the-variants.{Is, Wrong}
 use Rattle.info.specs.declared.scale.ExtentsIn.the-variants.{Wrong as NoExtents}
 use Rattle.info.specs.declared.scale.OffsetIn.the-variants.{Wrong as NoOffset}
+use Rattle.info.specs.declared.sharding_members.HashIn.the-variants.{Wrong as NoHash}
 use Rattle.info.specs.declared.sharding_members.ShardingIn.the-variants.{Wrong as NoSharding}
 use Rattle.info.specs.declared.scale.Settings.the-variants.{Wrong as NoSettings}
 use Rattle.info.specs.sharding_members.Words.{scalesName, sizeName, chunksName, offsetName, shardingName, typeName, preshiftName, hashName, minishardBitsName, shardBitsName, indexName, dataName, typeText, rawText}
@@ -225,7 +226,7 @@ hash-said : (d : ℕ) (s : List ℕ) (p : ℕ) → hashOf (documentAt (suc d) s 
 unfolding hashOf hashAt isText
 hash-said d s p = go (first (getD s p 0))
   where
-    none : (getD s p 0 ≡ 0x22 → ⊥) → Wrong ≡ hashAt s p
+    none : (getD s p 0 ≡ 0x22 → ⊥) → NoHash ≡ hashAt s p
     none n = rw (ne-eqb (getD s p 0) 0x22 n)
 
     go : First (getD s p 0) → hashOf (documentAt (suc d) s p) ≡ hashAt s p
@@ -306,9 +307,9 @@ module _ (d : ℕ) (s : List ℕ) where
       go (m ∷ []) = text-said d rawText s (valueOf s m)
       go (m ∷ n ∷ l) = refl
 
-  hashed-said : (p : ℕ) → whenOnce (memberOf hashName (documentAt (suc (suc d)) s p)) Wrong hashOf ≡ hashIn s p
+  hashed-said : (p : ℕ) → whenOnce (memberOf hashName (documentAt (suc (suc d)) s p)) NoHash hashOf ≡ hashIn s p
   unfolding hashIn
-  hashed-said p = needed-said (suc d) hashName s p Wrong hashOf ∙ when-same (needed hashName s p) Wrong _ _ (hash-said d s)
+  hashed-said p = needed-said (suc d) hashName s p NoHash hashOf ∙ when-same (needed hashName s p) NoHash _ _ (hash-said d s)
 
   number-said : (name : List ℕ) (p : ℕ) → numberOf name (documentAt (suc (suc d)) s p) ≡ numberIn name s p
   unfolding numberOf numberIn
@@ -326,9 +327,9 @@ module _ (d : ℕ) (s : List ℕ) where
   unfolding settingsOn settingsAt shardingIn
   settings-said p =
       rw (
+        volume-said d s p,
         needed-said (suc (suc (suc d))) shardingName s p NoSharding shardingOn
             ∙ when-same (needed shardingName s p) NoSharding _ _ (sharding-said (suc d) s),
-        volume-said d s p,
       )
 
   nth-said : (k : ℕ) (l : List ℕ) → whenNth k (map (documentAt (suc (suc (suc (suc d)))) s) l) NoSettings settingsOn ≡ whenAt (pickNth k l) NoSettings (settingsAt s)

@@ -17,12 +17,12 @@ use Rattle.morton.specs.Key.{step, steps, keyBits, tooManyBits}
 use Rattle.sharding.specs.Specification.{allowed}
 use Rattle.card.specs.fields.Twos.{bits32, signed32}
 use Rattle.card.specs.Answers.{recordChecks}
-use Rattle.info.specs.scale.Scale.{extentsOf, extentsAt, offsetOf, offsetAt, sizeIn, chunkIn, offsetBy, offsetIn, volumeIn, typed, formed, hashIn, numberIn, numbersOf, numbersIn, shardingAt, shardingIn, settingsAt}
-use Rattle.info.specs.sharding_members.Values.{rawBy, hashAt, shardingOf}
+use Rattle.info.specs.scale.Scale.{extentsOf, extentsAt, offsetOf, offsetAt, sizeIn, chunkIn, offsetBy, offsetIn, volumeIn, typed, formed, hashIn, numberIn, numbersOf, numbersIn, shardingAt, shardingIn, settingsBy, settingsAt}
+use Rattle.info.specs.sharding_members.Values.{rawBy, hashAt, hashedBy, shardingOf}
 use Rattle.info.specs.Settings.{scaleAt, settingsOf}
-use Rattle.info.specs.Answers.{noSettings, recordOf, infoChecks, infoAnswer}
+use Rattle.info.specs.Answers.{noSettings, unknownHash, recordOf, settingsChecks, infoChecks, infoAnswer}
 use Rattle.info.specs.document.Worked.{Case, cases}
 
 pub worked : map (λ (c : Case). infoAnswer (c .text) (c .scale)) cases ≡ map (λ (c : Case). c .answer) cases
-unfolding cases firstNumber unless choose same under inside isWs isDigit spanIn andThen follow markAt closeAt wordAt someDigits intAt fracAt isSign isE signAt expAt unsignedAt numberAt isHex isShort isTail isSecond utf8Len escapeLen charLen charsAt stringAt hexValue unitAt utf8 shortByte isPair unitBytes charBytes unescaped eqList scalarAt itemsAt listAt memberAt valueAt endsAt isJson nextElement nextMember endOf valueOf firstIn itemsBy elements members isText keep isName named only member onceOf needed pickNth element threeOf loneOf decimalOn decimalAt goesOn in32 digitsFrom wholeFrom naturalAt negative aboveOf belowOf coordinateAt gridSize gridOf hasZero zeroExtent bitOf used step steps keyBits tooManyBits allowed bits32 signed32 extentsOf extentsAt offsetOf offsetAt sizeIn chunkIn offsetBy offsetIn volumeIn typed rawBy formed hashAt hashIn numberIn shardingOf numbersOf numbersIn shardingAt shardingIn settingsAt scaleAt settingsOf noSettings recordOf recordChecks infoChecks infoAnswer
+unfolding cases firstNumber unless choose same under inside isWs isDigit spanIn andThen follow markAt closeAt wordAt someDigits intAt fracAt isSign isE signAt expAt unsignedAt numberAt isHex isShort isTail isSecond utf8Len escapeLen charLen charsAt stringAt hexValue unitAt utf8 shortByte isPair unitBytes charBytes unescaped eqList scalarAt itemsAt listAt memberAt valueAt endsAt isJson nextElement nextMember endOf valueOf firstIn itemsBy elements members isText keep isName named only member onceOf needed pickNth element threeOf loneOf decimalOn decimalAt goesOn in32 digitsFrom wholeFrom naturalAt negative aboveOf belowOf coordinateAt gridSize gridOf hasZero zeroExtent bitOf used step steps keyBits tooManyBits allowed bits32 signed32 extentsOf extentsAt offsetOf offsetAt sizeIn chunkIn offsetBy offsetIn volumeIn typed rawBy formed hashAt hashIn numberIn hashedBy shardingOf numbersOf numbersIn shardingAt shardingIn settingsBy settingsAt scaleAt settingsOf noSettings unknownHash recordOf recordChecks settingsChecks infoChecks infoAnswer
 worked = refl

@@ -16,7 +16,7 @@ use Rattle.card.specs.Layout.{cardBytes}
 use Rattle.card.specs.Answers.{recordChecks, readAnswer, writeAnswer, writeLeft}
 use Rattle.card.specs.declared.Card.{Card}
 use Rattle.card.specs.declared.CardAnswer.the-variants.{Says, Refused}
-use Rattle.info.specs.declared.scale.Settings.the-variants.{Are, Wrong}
+use Rattle.info.specs.declared.scale.Settings.the-variants.{Are, UnknownHash, Wrong}
 use Rattle.info.specs.document.Document.{document}
 use Rattle.info.specs.document.Said.{settingsIn, saidAnswer}
 use Rattle.info.specs.Answers.{infoChecks, infoAnswer}
@@ -33,6 +33,8 @@ pub record InfoMeaning : Type 0 where
   pub answer : (s : List ℕ) (k : ℕ) → JsonText deepest s → infoAnswer s k ≡ saidAnswer k (document s)
   -- so 20 is given exactly where the document does not say the settings of scale k
   pub unsaid : (s : List ℕ) (k : ℕ) → JsonText deepest s → (infoAnswer s k ≡ Refused 20) ↔ (settingsIn k (document s) ≡ Wrong)
+  -- 1 where it says all but a hash name that is known
+  pub unknown : (s : List ℕ) (k : ℕ) → JsonText deepest s → settingsIn k (document s) ≡ UnknownHash → infoAnswer s k ≡ Refused 1
   -- and a record exactly where it says that record, and 1, 2 and 3 do not hold of it: its fields are the numbers that stand in the members named
   pub given : (s : List ℕ) (k : ℕ) (c : Card) → (infoAnswer s k ≡ Says c) ↔ (JsonText deepest s × (settingsIn k (document s) ≡ Are c) × (firstNumber (recordChecks c) ≡ 0))
   -- of a volume (RULES I9)
