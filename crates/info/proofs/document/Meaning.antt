@@ -30,10 +30,12 @@ use Rattle.info.specs.Settings.{settingsOf}
 use Rattle.info.specs.Answers.{noSettings, unknownHash, recordOf, settingsChecks, infoChecks, infoAnswer}
 use Rattle.info.specs.document.Document.{document}
 use Rattle.info.specs.document.Said.{settingsIn, saidAnswer}
+use Rattle.info.specs.document.Used.{SameUsed}
 use Rattle.info.specs.document.Meaning.{InfoMeaning}
 use Rattle.info.proofs.Ways.{first-is, info-1}
 use Rattle.json.proofs.members.Own.{elements-own, members-own, value-own}
 use Rattle.info.proofs.document.Reading.{settings-by-document}
+use Rattle.info.proofs.document.Order.{used-same, used-itself, used-outermost, type-no-scales, nth-other, member-unused, member-order}
 use Rattle.info.proofs.document.Held.{SettingsHeld, of-held}
 
 -- ---- what is accepted
@@ -151,10 +153,10 @@ unknown-1 s k j e = sym (info-1 s k (sym (json-complete deepest s j)) refl (sym 
 
 -- ---- one document, one answer
 
-alike : (a b : List ℕ) (k : ℕ) → JsonText deepest a → JsonText deepest b → document a ≡ document b → infoAnswer a k ≡ infoAnswer b k
+alike : (a b : List ℕ) (k : ℕ) → JsonText deepest a → JsonText deepest b → SameUsed k (document a) (document b) → infoAnswer a k ≡ infoAnswer b k
 unfolding infoAnswer infoChecks
 alike a b k ja jb e =
-    let w : settingsOf a k ≡ settingsOf b k = settings-by-document a k ∙ ap (settingsIn k) e ∙ sym (settings-by-document b k) in
+    let w : settingsOf a k ≡ settingsOf b k = settings-by-document a k ∙ used-same k (document a) (document b) e ∙ sym (settings-by-document b k) in
     rw (json-complete deepest a ja, json-complete deepest b jb, w)
 
 pub meaning : InfoMeaning
@@ -169,6 +171,11 @@ meaning =
       given = given-said;
       kind = λ s k c e. accepted s k c e .4;
       alike = alike;
+      itself = λ k v. used-itself k v;
+      outermost = λ k xs ys a e. used-outermost k xs ys a (type-no-scales (a .name) e);
+      scales = λ k xs ys a b h. nth-other k xs ys a b h;
+      unused = λ d name xs ys a h. member-unused name xs ys a h;
+      order = λ d name xs ys a b. member-order name xs ys a b;
       elements = elements-own;
       members = members-own;
       values = value-own;

@@ -26,7 +26,7 @@ use Rattle.info.specs.sharding_members.Words.{scalesName, sizeName, chun
 use Rattle.info.specs.scale.Scale.{whenAt, whenThree, extentsOf, extentsAt, offsetOf, offsetAt, sizeIn, chunkIn, offsetBy, offsetIn, volumeIn, typed, formed, hashIn, numberIn, numbersIn, shardingAt, shardingIn, settingsAt}
 use Rattle.info.specs.sharding_members.Values.{rawBy, hashAt}
 use Rattle.info.specs.Settings.{scaleAt, settingsOf}
-use Rattle.info.specs.document.Document.{Entry, DocumentOf, Document, saidNumberAt, documentAt, document, times, valuesNamed, memberOf, elementsOf, saysText, whenOnce, whenTriple, whenNth}
+use Rattle.info.specs.document.Document.{Entry, DocumentOf, Document, saidNumberAt, documentAt, document, times, valuesNamed, memberOf, elementsOf, saysText, whenOnce, whenTriple, nth}
 use Rattle.info.specs.document.Document.DocumentOf.{word, number, string, array, object}
 use Rattle.info.specs.document.Document.Times.{never}
 use Rattle.info.specs.document.Said.{naturalOf, coordinateOf, extentsOn, offsetOn, saidSize, chunkOf, offsetGiven, volumeOf, typeSaid, rawGiven, hashOf, numberOf, shardingOn, settingsOn, settingsIn}
@@ -332,8 +332,8 @@ module _ (d : ℕ) (s : List ℕ) where
             ∙ when-same (needed shardingName s p) NoSharding _ _ (sharding-said (suc d) s),
       )
 
-  nth-said : (k : ℕ) (l : List ℕ) → whenNth k (map (documentAt (suc (suc (suc (suc d)))) s) l) NoSettings settingsOn ≡ whenAt (pickNth k l) NoSettings (settingsAt s)
-  unfolding pickNth
+  nth-said : (k : ℕ) (l : List ℕ) → whenOnce (nth k (map (documentAt (suc (suc (suc (suc d)))) s) l)) NoSettings settingsOn ≡ whenAt (pickNth k l) NoSettings (settingsAt s)
+  unfolding pickNth nth
   nth-said zero [] = refl
   nth-said (suc k) [] = refl
   nth-said zero (x ∷ l) = settings-said x
@@ -342,7 +342,7 @@ module _ (d : ℕ) (s : List ℕ) where
   scale-said : (k p : ℕ) → settingsIn k (documentAt (suc (suc (suc (suc (suc (suc d)))))) s p) ≡ whenAt (needed scalesName s p) NoSettings (λ v. whenAt (pickNth k (elements s v)) NoSettings (settingsAt s))
   unfolding settingsIn
   scale-said k p =
-      needed-said (suc (suc (suc (suc (suc d))))) scalesName s p NoSettings (λ v. whenNth k (elementsOf v) NoSettings settingsOn)
+      needed-said (suc (suc (suc (suc (suc d))))) scalesName s p NoSettings (λ v. whenOnce (nth k (elementsOf v)) NoSettings settingsOn)
       ∙ when-same (needed scalesName s p) NoSettings _ _ (λ v. rw (elements-said (suc (suc (suc (suc d)))) s v) (nth-said k (elements s v)))
 
 when-twice : {A : Type 0} (q : Found) (none : A) (g : ℕ → Found) (f : ℕ → A) → whenAt (whenAt q Nothing g) none f ≡ whenAt q none (λ v. whenAt (g v) none f)

@@ -101,8 +101,8 @@ whenTriple (a ∷ b ∷ []) none f = none
 whenTriple (a ∷ b ∷ c ∷ []) none f = f a b c
 whenTriple (a ∷ b ∷ c ∷ d ∷ l) none f = none
 
--- what follows of the k-th, from 0
-abbrev pub whenNth : {A D : Type 0} → ℕ → List D → A → (D → A) → A
-whenNth k [] none f = none
-whenNth zero (x ∷ l) none f = f x
-whenNth (suc k) (x ∷ l) none f = whenNth k l none f
+-- the k-th of a list, from 0
+unfoldable pub nth : {D : Type 0} → ℕ → List D → Times D
+nth k [] = never
+nth zero (x ∷ l) = once x
+nth (suc k) (x ∷ l) = nth k l

@@ -2,7 +2,7 @@
 use Prim.Native.Nat.{ℕ, _+_, _≤_}
 use mathlib.Core.Path.{_≡_}
 use mathlib.Core.Logic.{_↔_}
-use mathlib.Core.List.{List}
+use mathlib.Core.List.{List, _∷_, _++_}
 use lib.ListN.{length, take}
 use Rattle.refusal.specs.Checks.{firstNumber, Refuses}
 use Rattle.refusal.specs.declared.Written.the-variants.{Length}
@@ -17,8 +17,11 @@ use Rattle.card.specs.Answers.{recordChecks, readAnswer, writeAnswer, writeLeft
 use Rattle.card.specs.declared.Card.{Card}
 use Rattle.card.specs.declared.CardAnswer.the-variants.{Says, Refused}
 use Rattle.info.specs.declared.scale.Settings.the-variants.{Are, UnknownHash, Wrong}
-use Rattle.info.specs.document.Document.{document}
+use Rattle.info.specs.sharding_members.Words.{typeName}
+use Rattle.info.specs.document.Document.{Entry, Document, document, memberOf, nth}
+use Rattle.info.specs.document.Document.DocumentOf.{object}
 use Rattle.info.specs.document.Said.{settingsIn, saidAnswer}
+use Rattle.info.specs.document.Used.{SameUsed}
 use Rattle.info.specs.Answers.{infoChecks, infoAnswer}
 
 -- RULES I1, I9
@@ -39,8 +42,20 @@ pub record InfoMeaning : Type 0 where
   pub given : (s : List ℕ) (k : ℕ) (c : Card) → (infoAnswer s k ≡ Says c) ↔ (JsonText deepest s × (settingsIn k (document s) ≡ Are c) × (firstNumber (recordChecks c) ≡ 0))
   -- of a volume (RULES I9)
   pub kind : (s : List ℕ) (k : ℕ) (c : Card) → infoAnswer s k ≡ Says c → c .sharding .kind ≡ volume
-  -- two JSON texts that say the same document, however it is written, are answered alike
-  pub alike : (a b : List ℕ) (k : ℕ) → JsonText deepest a → JsonText deepest b → document a ≡ document b → infoAnswer a k ≡ infoAnswer b k
+  -- two JSON texts whose documents agree on the members that the rules name are answered alike, however they are written
+  pub alike : (a b : List ℕ) (k : ℕ) → JsonText deepest a → JsonText deepest b → SameUsed k (document a) (document b) → infoAnswer a k ≡ infoAnswer b k
+  -- one document agrees with itself
+  pub itself : (k : ℕ) (v : Document deepest) → SameUsed k v v
+  -- the outermost @type does not matter: it may be there, be another or be missing
+  pub outermost : (k : ℕ) (xs ys : List (Entry (Document 31))) (a : Entry (Document 31)) → a .name ≡ typeName → SameUsed k (object (xs ++ (a ∷ ys))) (object (xs ++ ys))
+  -- nor do the other scales
+  pub scales : (k : ℕ) (xs ys : List (Document 30)) (a b : Document 30) → (length xs ≡ k → ⊥) → nth k (xs ++ (a ∷ ys)) ≡ nth k (xs ++ (b ∷ ys))
+  -- nor, in each object, a member of another name than the one that is asked for
+  pub unused : (d : ℕ) (name : List ℕ) (xs ys : List (Entry (Document d))) (a : Entry (Document d)) → (a .name ≡ name → ⊥)
+      → memberOf name (object (xs ++ (a ∷ ys))) ≡ memberOf name (object (xs ++ ys))
+  -- nor the order of members
+  pub order : (d : ℕ) (name : List ℕ) (xs ys : List (Entry (Document d))) (a b : Entry (Document d))
+      → memberOf name (object (xs ++ (a ∷ b ∷ ys))) ≡ memberOf name (object (xs ++ (b ∷ a ∷ ys)))
   -- the elements and members that a document is made of stand where the grammar's own items begin, and a member's value where its value does
   pub elements : (d : ℕ) (s : List ℕ) (p e : ℕ) → d ≤ deepest → byteAt s p ≡ 0x5B → (r : Listed s (Value s d) 0x5D (p + 1) e) → elements s p ≡ places r
   pub members : (d : ℕ) (s : List ℕ) (p e : ℕ) → d ≤ deepest → byteAt s p ≡ 0x7B → (r : Listed s (Member s (Value s d)) 0x7D (p + 1) e) → members s p ≡ places r

@@ -28,7 +28,7 @@ use Rattle.info.specs.declared.scale.Settings.the-variants.{Wrong as NoS
 use Rattle.info.specs.sharding_members.Words.{scalesName, sizeName, chunksName, offsetName, shardingName, typeName, preshiftName, hashName, minishardBitsName, shardBitsName, indexName, dataName, typeText, rawText, identityText, murmurText}
 use Rattle.info.specs.Answers.{recordOf, settingsChecks}
 use Rattle.info.specs.scale.Scale.{whenExtents, whenOffset, whenVolume, extentsOf, offsetOf, numbersOf, settingsBy}
-use Rattle.info.specs.document.Document.{DocumentOf, Document, Times, times, memberOf, elementsOf, saysText, whenOnce, whenTriple, whenNth}
+use Rattle.info.specs.document.Document.{DocumentOf, Document, Times, times, memberOf, elementsOf, saysText, whenOnce, whenTriple, nth}
 use Rattle.info.specs.document.Document.DocumentOf.{word, number, string, array, object}
 use Rattle.info.specs.document.Document.Times.{never, once, twice}
 
@@ -105,7 +105,7 @@ settingsOn scale =
 
 -- of scale k, from 0, of the outermost value's scales (RULES I5)
 unfoldable pub settingsIn : {D : Type 0} → ℕ → DocumentOf (DocumentOf (DocumentOf (DocumentOf (DocumentOf (DocumentOf D))))) → Settings
-settingsIn k doc = whenOnce (memberOf scalesName doc) NoSettings (λ v. whenNth k (elementsOf v) NoSettings settingsOn)
+settingsIn k doc = whenOnce (memberOf scalesName doc) NoSettings (λ v. whenOnce (nth k (elementsOf v)) NoSettings settingsOn)
 
 -- ---- what a text whose document this is gets for scale k: "20 no scale k, a needed member missing, a used one doubled or of the wrong kind,
 -- another @type or a refused encoding", then 1, "which also answers an unknown hash name", 2 and 3 as for a card, else the record
