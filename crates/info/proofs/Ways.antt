@@ -21,6 +21,7 @@ use Rattle.json.specs.members.Places.{needed, element}
 use Rattle.info.specs.sharding_members.Words.{scalesName}
 use Rattle.info.specs.scale.Scale.{settingsAt}
 use Rattle.info.specs.Settings.{scaleAt, settingsOf}
+use Rattle.info.proofs.document.Reading.{settings-by-places}
 use Rattle.info.specs.Answers.{judgedAnswer, noSettings, unknownHash, recordOf, settingsChecks, infoChecks, infoAnswer}
 
 -- ---- the scale
@@ -66,27 +67,34 @@ module _ (c : Card) {f : ℕ} (ef : f ≡ fault c) where
   unfolding judgedAnswer
   judged-says z = sym (rw (← ef) (unless-none Refused f (Says c) z))
 
-pub first-is : (s : List ℕ) (k : ℕ)
-    → firstNumber (infoChecks s k) ≡ pick (not (isJson deepest s)) 19 (pick (noSettings (settingsOf s k)) 20 (pick (unknownHash (settingsOf s k)) 1 (fault (recordOf (settingsOf s k)))))
-unfolding infoChecks settingsChecks firstNumber
-first-is s k = refl
+-- the answer by places in the text
+unfoldable pub placedNumber : List ℕ → ℕ → ℕ
+placedNumber s k = pick (not (isJson deepest s)) 19 (pick (noSettings (settingsOf s k)) 20 (pick (unknownHash (settingsOf s k)) 1 (fault (recordOf (settingsOf s k)))))
+
+pub first-is : (s : List ℕ) (k : ℕ) → firstNumber (infoChecks s k) ≡ placedNumber s k
+unfolding infoChecks settingsChecks firstNumber placedNumber
+first-is s k = rw (settings-by-places s k)
+
+pub by-places : (s : List ℕ) (k : ℕ) → infoAnswer s k ≡ unless Refused (placedNumber s k) (Says (recordOf (settingsOf s k)))
+unfolding infoAnswer
+by-places s k = rw (first-is s k, settings-by-places s k)
 
 module _ (s : List ℕ) (k : ℕ) {t : Bool} (et : t ≡ isJson deepest s) where
   pub info-19 : not t ≡ true → Refused 19 ≡ infoAnswer s k
-  unfolding infoAnswer unless
-  info-19 n = sym (rw (first-is s k, sym et ∙ not-true t n))
+  unfolding placedNumber unless
+  info-19 n = sym (by-places s k ∙ rw (sym et ∙ not-true t n))
 
   module _ (n : not t ≡ false) {w : Settings} (ew : w ≡ settingsOf s k) where
     pub info-20 : w ≡ NoSettings → Refused 20 ≡ infoAnswer s k
-    unfolding infoAnswer unless noSettings
-    info-20 e = sym (rw (first-is s k, sym et ∙ not-false t n, sym ew ∙ e))
+    unfolding placedNumber unless noSettings
+    info-20 e = sym (by-places s k ∙ rw (sym et ∙ not-false t n, sym ew ∙ e))
 
     pub info-1 : w ≡ NoKnownHash → Refused 1 ≡ infoAnswer s k
-    unfolding infoAnswer unless noSettings unknownHash
-    info-1 e = sym (rw (first-is s k, sym et ∙ not-false t n, sym ew ∙ e))
+    unfolding placedNumber unless noSettings unknownHash
+    info-1 e = sym (by-places s k ∙ rw (sym et ∙ not-false t n, sym ew ∙ e))
 
     pub info-judged : {c : Card} {r : CardAnswer} → w ≡ SettingsAre c → r ≡ judgedAnswer c → r ≡ infoAnswer s k
-    unfolding infoAnswer judgedAnswer noSettings unknownHash recordOf
-    info-judged ec er = er ∙ sym (rw (first-is s k, sym et ∙ not-false t n, sym ew ∙ ec))
+    unfolding placedNumber judgedAnswer noSettings unknownHash recordOf
+    info-judged ec er = er ∙ sym (by-places s k ∙ rw (sym et ∙ not-false t n, sym ew ∙ ec))
 
 pub ruleset answers = (info-19, info-20, info-1, info-judged, judged-refused, judged-says, needs)

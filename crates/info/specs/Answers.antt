@@ -12,7 +12,9 @@ use Rattle.card.specs.declared.CardAnswer.{CardAnswer}
 use Rattle.card.specs.declared.CardAnswer.the-variants.{Says, Refused}
 use Rattle.info.specs.declared.scale.Settings.{Settings}
 use Rattle.info.specs.declared.scale.Settings.the-variants.{Are, UnknownHash, Wrong}
-use Rattle.info.specs.Settings.{settingsOf}
+use Rattle.info.specs.document.Document.{Document}
+use Rattle.info.specs.document.Places.{documentFound}
+use Rattle.info.specs.document.Said.{settingsIn}
 
 -- what is answered of a record
 unfoldable pub judgedAnswer : Card → CardAnswer
@@ -43,13 +45,17 @@ recordOf (Are c) = c
 recordOf UnknownHash = anyRecord
 recordOf Wrong = anyRecord
 
--- of settings: "20 [..] before 1, which also answers an unknown hash name, then 2 and 3 as for a card" (RULES I8)
+-- "19 before 20, both before 1, which also answers an unknown hash name, then 2 and 3 as for a card": all but 19 (RULES I8)
 unfoldable pub settingsChecks : Settings → List Check
 settingsChecks w = check 20 (noSettings w) ∷ check 1 (unknownHash w) ∷ recordChecks (recordOf w)
 
--- "19 before 20" (RULES I8)
+-- what a JSON text gets for scale k whose document this is
+unfoldable pub saidAnswer : ℕ → Document deepest → CardAnswer
+saidAnswer k d = answered Refused (settingsChecks (settingsIn k d)) (Says (recordOf (settingsIn k d)))
+
+-- 19 speaks of the whole text and comes first (RULES I8)
 unfoldable pub infoChecks : List ℕ → ℕ → List Check
-infoChecks s k = check 19 (not (isJson deepest s)) ∷ settingsChecks (settingsOf s k)
+infoChecks s k = check 19 (not (isJson deepest s)) ∷ settingsChecks (settingsIn k (documentFound s))
 
 unfoldable pub infoAnswer : List ℕ → ℕ → CardAnswer
-infoAnswer s k = answered Refused (infoChecks s k) (Says (recordOf (settingsOf s k)))
+infoAnswer s k = answered Refused (infoChecks s k) (Says (recordOf (settingsIn k (documentFound s))))

@@ -13,7 +13,7 @@ use Rattle.info.specs.declared.sharding_members.ShardingIn.the-variants.
 use Rattle.info.specs.declared.scale.Settings.the-variants.{Wrong as NoSettings}
 use Rattle.info.specs.sharding_members.Words.{scalesName, shardingName, typeName}
 use Rattle.info.specs.document.Document.{Entry, DocumentOf, Times, times, valuesNamed, memberOf, elementsOf, whenOnce, nth}
-use Rattle.info.specs.document.Document.DocumentOf.{object}
+use Rattle.info.specs.document.Document.DocumentOf.{array, object}
 use Rattle.info.specs.document.Document.Times.{never, once, twice}
 use Rattle.info.specs.document.Said.{saidSize, chunkOf, volumeOf, typeSaid, numberOf, shardingOn, settingsOn, settingsIn}
 use Rattle.info.specs.document.Used.{BothBy, SameSharding, SameScale, SameUsed}
@@ -80,7 +80,7 @@ module _ {D : Type 0} (name : List ℕ) where
 
 -- ---- nor does another scale
 
-pub nth-other : {D : Type 0} (k : ℕ) (xs ys : List D) (a b : D) → (length xs ≡ k → ⊥) → nth k (xs ++ (a ∷ ys)) ≡ nth k (xs ++ (b ∷ ys))
+nth-other : {D : Type 0} (k : ℕ) (xs ys : List D) (a b : D) → (length xs ≡ k → ⊥) → nth k (xs ++ (a ∷ ys)) ≡ nth k (xs ++ (b ∷ ys))
 unfolding nth
 nth-other zero [] ys a b h = absurd (h refl)
 nth-other (suc k) [] ys a b h = refl
@@ -126,6 +126,12 @@ scales-itself k t = both-itself (λ a. both-itself scale-itself (nth k (elements
 
 pub used-itself : {D : Type 0} (k : ℕ) (v : DocumentOf (DocumentOf (DocumentOf (DocumentOf D)))) → SameUsed k v v
 used-itself k v = scales-itself k (memberOf scalesName v)
+
+-- scales that differ in another one
+pub used-scales : {D : Type 0} (k : ℕ) (v w : DocumentOf (DocumentOf (DocumentOf (DocumentOf D)))) (xs ys : List (DocumentOf (DocumentOf D))) (a b : DocumentOf (DocumentOf D))
+    → (length xs ≡ k → ⊥) → memberOf scalesName v ≡ once (array (xs ++ (a ∷ ys))) → memberOf scalesName w ≡ once (array (xs ++ (b ∷ ys))) → SameUsed k v w
+unfolding elementsOf
+used-scales k v w xs ys a b h p q = rw (p, q) (there {a = array (xs ++ (a ∷ ys))} {b = array (xs ++ (b ∷ ys))} (rw (nth-other k xs ys a b h) (both-itself scale-itself (nth k (xs ++ (b ∷ ys))))))
 
 -- a member of the outermost object by another name than scales
 pub used-outermost : {D : Type 0} (k : ℕ) (xs ys : List (Entry (DocumentOf (DocumentOf (DocumentOf D))))) (a : Entry (DocumentOf (DocumentOf (DocumentOf D)))) → (a .name ≡ scalesName → ⊥)

@@ -1,4 +1,4 @@
--- The settings by places in the text are those that its document says.
+-- The settings by places in the text are those that the document by places says.
 use Prim.Native.Nat.{ℕ, zero, suc, _+_}
 use mathlib.Core.Path.{_≡_, refl, sym, ap, _∙_}
 use mathlib.Core.Bool.{Bool, true, false, _&&_}
@@ -26,9 +26,10 @@ use Rattle.info.specs.sharding_members.Words.{scalesName, sizeName, chun
 use Rattle.info.specs.scale.Scale.{whenAt, whenThree, extentsOf, extentsAt, offsetOf, offsetAt, sizeIn, chunkIn, offsetBy, offsetIn, volumeIn, typed, formed, hashIn, numberIn, numbersIn, shardingAt, shardingIn, settingsAt}
 use Rattle.info.specs.sharding_members.Values.{rawBy, hashAt}
 use Rattle.info.specs.Settings.{scaleAt, settingsOf}
-use Rattle.info.specs.document.Document.{Entry, DocumentOf, Document, saidNumberAt, documentAt, document, times, valuesNamed, memberOf, elementsOf, saysText, whenOnce, whenTriple, nth}
+use Rattle.info.specs.document.Document.{Entry, DocumentOf, Document, times, valuesNamed, memberOf, elementsOf, saysText, whenOnce, whenTriple, nth}
 use Rattle.info.specs.document.Document.DocumentOf.{word, number, string, array, object}
 use Rattle.info.specs.document.Document.Times.{never}
+use Rattle.info.specs.document.Places.{saidNumberAt, documentAt, documentFound}
 use Rattle.info.specs.document.Said.{naturalOf, coordinateOf, extentsOn, offsetOn, saidSize, chunkOf, offsetGiven, volumeOf, typeSaid, rawGiven, hashOf, numberOf, shardingOn, settingsOn, settingsIn}
 
 -- ---- a value, by its first byte
@@ -48,23 +49,23 @@ first b = go (eqb b 0x22) (eqb b 0x5B) (eqb b 0x7B) refl refl refl
     go false false true p q r = curly (eqb-true b 0x7B r)
     go false false false p q r = plain (eqb-false b 0x22 p) (eqb-false b 0x5B q) (eqb-false b 0x7B r)
 
-entry : (d : ℕ) → List ℕ → ℕ → Entry (Document d)
+unfoldable pub entry : (d : ℕ) → List ℕ → ℕ → Entry (Document d)
 entry d s m = record { name = textAt s m; value = documentAt d s (valueOf s m) }
 
 module _ (d : ℕ) (s : List ℕ) (p : ℕ) where
-  at-quote : getD s p 0 ≡ 0x22 → documentAt (suc d) s p ≡ string (textAt s p)
+  pub at-quote : getD s p 0 ≡ 0x22 → documentAt (suc d) s p ≡ string (textAt s p)
   unfolding documentAt
   at-quote e = rw (eq-eqb (getD s p 0) 0x22 e)
 
-  at-square : getD s p 0 ≡ 0x5B → documentAt (suc d) s p ≡ array (map (documentAt d s) (elements s p))
+  pub at-square : getD s p 0 ≡ 0x5B → documentAt (suc d) s p ≡ array (map (documentAt d s) (elements s p))
   unfolding documentAt
   at-square e = rw (ne-eqb (getD s p 0) 0x22 (omega arith), eq-eqb (getD s p 0) 0x5B e)
 
-  at-curly : getD s p 0 ≡ 0x7B → documentAt (suc d) s p ≡ object (map (entry d s) (members s p))
+  pub at-curly : getD s p 0 ≡ 0x7B → documentAt (suc d) s p ≡ object (map (entry d s) (members s p))
   unfolding documentAt entry
   at-curly e = rw (ne-eqb (getD s p 0) 0x22 (omega arith), ne-eqb (getD s p 0) 0x5B (omega arith), eq-eqb (getD s p 0) 0x7B e)
 
-  at-plain : (getD s p 0 ≡ 0x22 → ⊥) → (getD s p 0 ≡ 0x5B → ⊥) → (getD s p 0 ≡ 0x7B → ⊥) → documentAt (suc d) s p ≡ saidNumberAt s p
+  pub at-plain : (getD s p 0 ≡ 0x22 → ⊥) → (getD s p 0 ≡ 0x5B → ⊥) → (getD s p 0 ≡ 0x7B → ⊥) → documentAt (suc d) s p ≡ saidNumberAt s p
   unfolding documentAt
   at-plain x y z = rw (ne-eqb (getD s p 0) 0x22 x, ne-eqb (getD s p 0) 0x5B y, ne-eqb (getD s p 0) 0x7B z)
 
@@ -151,7 +152,7 @@ when-same Nothing none f g h = refl
 
 -- ---- leaves
 
-digit-no : (b c : ℕ) → b ≡ c → isDigit c ≡ false → isDigit b ≡ false
+pub digit-no : (b c : ℕ) → b ≡ c → isDigit c ≡ false → isDigit b ≡ false
 digit-no b c e t = rw e t
 
 whole-no : (s : List ℕ) (p : ℕ) → isDigit (getD s p 0) ≡ false → wholeFrom s p ≡ Wrong
@@ -349,7 +350,6 @@ when-twice : {A : Type 0} (q : Found) (none : A) (g : ℕ → Found) (f : ℕ �
 when-twice (At v) none g f = refl
 when-twice Nothing none g f = refl
 
--- the settings of scale k are those that the document of the text says
-pub settings-by-document : (s : List ℕ) (k : ℕ) → settingsOf s k ≡ settingsIn k (document s)
-unfolding settingsOf scaleAt element document
-settings-by-document s k = when-twice (needed scalesName s (ws s 0)) NoSettings (λ v. pickNth k (elements s v)) (settingsAt s) ∙ sym (scale-said 26 s k (ws s 0))
+pub settings-by-places : (s : List ℕ) (k : ℕ) → settingsOf s k ≡ settingsIn k (documentFound s)
+unfolding settingsOf scaleAt element documentFound
+settings-by-places s k = when-twice (needed scalesName s (ws s 0)) NoSettings (λ v. pickNth k (elements s v)) (settingsAt s) ∙ sym (scale-said 26 s k (ws s 0))

@@ -4,12 +4,8 @@ use mathlib.Core.Bool.{Bool, true, false, _&&_}
 use mathlib.Core.List.{List}
 use lib.Dec.{eqb}
 use Rattle.refusal.specs.Choice.{pick}
-use Rattle.refusal.specs.Checks.{answered}
 use Rattle.json.specs.strings.Names.{eqList}
-use Rattle.json.specs.Grammar.{deepest}
 use Rattle.card.specs.Reading.{zeros}
-use Rattle.card.specs.declared.CardAnswer.{CardAnswer}
-use Rattle.card.specs.declared.CardAnswer.the-variants.{Says, Refused}
 use Rattle.info.specs.numbers.Numbers.{whenIs, aboveOf, belowOf}
 use Rattle.info.specs.declared.numbers.Number.{Number}
 use Rattle.info.specs.declared.numbers.Number.the-variants.{Is, Wrong}
@@ -26,9 +22,8 @@ use Rattle.info.specs.declared.sharding_members.ShardingIn.the-variants.
 use Rattle.info.specs.declared.scale.Settings.{Settings}
 use Rattle.info.specs.declared.scale.Settings.the-variants.{Wrong as NoSettings}
 use Rattle.info.specs.sharding_members.Words.{scalesName, sizeName, chunksName, offsetName, shardingName, typeName, preshiftName, hashName, minishardBitsName, shardBitsName, indexName, dataName, typeText, rawText, identityText, murmurText}
-use Rattle.info.specs.Answers.{recordOf, settingsChecks}
 use Rattle.info.specs.scale.Scale.{whenExtents, whenOffset, whenVolume, extentsOf, offsetOf, numbersOf, settingsBy}
-use Rattle.info.specs.document.Document.{DocumentOf, Document, Times, times, memberOf, elementsOf, saysText, whenOnce, whenTriple, nth}
+use Rattle.info.specs.document.Document.{DocumentOf, Times, times, memberOf, elementsOf, saysText, whenOnce, whenTriple, nth}
 use Rattle.info.specs.document.Document.DocumentOf.{word, number, string, array, object}
 use Rattle.info.specs.document.Document.Times.{never, once, twice}
 
@@ -106,8 +101,3 @@ settingsOn scale =
 -- of scale k, from 0, of the outermost value's scales (RULES I5)
 unfoldable pub settingsIn : {D : Type 0} → ℕ → DocumentOf (DocumentOf (DocumentOf (DocumentOf (DocumentOf (DocumentOf D))))) → Settings
 settingsIn k doc = whenOnce (memberOf scalesName doc) NoSettings (λ v. whenOnce (nth k (elementsOf v)) NoSettings settingsOn)
-
--- ---- what a text whose document this is gets for scale k: "20 no scale k, a needed member missing, a used one doubled or of the wrong kind,
--- another @type or a refused encoding", then 1, "which also answers an unknown hash name", 2 and 3 as for a card, else the record
-unfoldable pub saidAnswer : ℕ → Document deepest → CardAnswer
-saidAnswer k d = answered Refused (settingsChecks (settingsIn k d)) (Says (recordOf (settingsIn k d)))
