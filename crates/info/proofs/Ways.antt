@@ -10,17 +10,19 @@ use Rattle.refusal.specs.Checks.{firstNumber, unless}
 use Rattle.json.specs.tokens.Parts.{ws}
 use Rattle.json.specs.Grammar.{deepest, isJson}
 use Rattle.card.specs.declared.Card.{Card}
+use Rattle.card.specs.declared.CardAnswer.{CardAnswer}
 use Rattle.card.specs.declared.CardAnswer.the-variants.{Says, Refused}
 use Rattle.card.specs.Answers.{fault}
 use Rattle.json.specs.declared.tokens.Found.{Found}
 use Rattle.json.specs.declared.tokens.Found.the-variants.{At, Nothing}
 use Rattle.info.specs.declared.scale.Settings.{Settings}
-use Rattle.info.specs.declared.scale.Settings.the-variants.{Are as SettingsAre, Wrong as NoSettings}
+use Rattle.info.specs.declared.scale.Settings.the-variants.{Are as SettingsAre, UnknownHash as NoKnownHash, Wrong as NoSettings}
 use Rattle.json.specs.members.Places.{needed, element}
 use Rattle.info.specs.sharding_members.Words.{scalesName}
 use Rattle.info.specs.scale.Scale.{settingsAt}
 use Rattle.info.specs.Settings.{scaleAt, settingsOf}
-use Rattle.info.specs.Answers.{noSettings, recordOf, infoChecks, infoAnswer}
+use Rattle.info.proofs.document.Reading.{settings-by-places}
+use Rattle.info.specs.Answers.{judgedAnswer, noSettings, unknownHash, recordOf, settingsChecks, infoChecks, infoAnswer}
 
 -- ---- the scale
 
@@ -47,10 +49,6 @@ pub ruleset scales = (scale-none, scale-some, no-scale, of-scale, needs)
 
 -- ---- the answer
 
-pub first-is : (s : List ℕ) (k : ℕ) → firstNumber (infoChecks s k) ≡ pick (not (isJson deepest s)) 19 (pick (noSettings (settingsOf s k)) 20 (fault (recordOf (settingsOf s k))))
-unfolding infoChecks firstNumber
-first-is s k = refl
-
 unless-none : {A : Type 0} (r : ℕ → A) (n : ℕ) (a : A) → n ≡ 0 → unless r n a ≡ a
 unfolding unless
 unless-none r n a e = rw e
@@ -60,25 +58,43 @@ unfolding unless
 unless-some r zero a h = absurd (h refl)
 unless-some r (suc n) a h = refl
 
+module _ (c : Card) {f : ℕ} (ef : f ≡ fault c) where
+  pub judged-refused : (f ≡ 0 → ⊥) → Refused f ≡ judgedAnswer c
+  unfolding judgedAnswer
+  judged-refused z = sym (rw (← ef) (unless-some Refused f (Says c) z))
+
+  pub judged-says : f ≡ 0 → Says c ≡ judgedAnswer c
+  unfolding judgedAnswer
+  judged-says z = sym (rw (← ef) (unless-none Refused f (Says c) z))
+
+-- the answer by places in the text
+unfoldable pub placedNumber : List ℕ → ℕ → ℕ
+placedNumber s k = pick (not (isJson deepest s)) 19 (pick (noSettings (settingsOf s k)) 20 (pick (unknownHash (settingsOf s k)) 1 (fault (recordOf (settingsOf s k)))))
+
+pub first-is : (s : List ℕ) (k : ℕ) → firstNumber (infoChecks s k) ≡ placedNumber s k
+unfolding infoChecks settingsChecks firstNumber placedNumber
+first-is s k = rw (settings-by-places s k)
+
+pub by-places : (s : List ℕ) (k : ℕ) → infoAnswer s k ≡ unless Refused (placedNumber s k) (Says (recordOf (settingsOf s k)))
+unfolding infoAnswer
+by-places s k = rw (first-is s k, settings-by-places s k)
+
 module _ (s : List ℕ) (k : ℕ) {t : Bool} (et : t ≡ isJson deepest s) where
   pub info-19 : not t ≡ true → Refused 19 ≡ infoAnswer s k
-  unfolding infoAnswer unless
-  info-19 n = sym (rw (first-is s k, sym et ∙ not-true t n))
+  unfolding placedNumber unless
+  info-19 n = sym (by-places s k ∙ rw (sym et ∙ not-true t n))
 
   module _ (n : not t ≡ false) {w : Settings} (ew : w ≡ settingsOf s k) where
     pub info-20 : w ≡ NoSettings → Refused 20 ≡ infoAnswer s k
-    unfolding infoAnswer unless noSettings
-    info-20 e = sym (rw (first-is s k, sym et ∙ not-false t n, sym ew ∙ e))
+    unfolding placedNumber unless noSettings
+    info-20 e = sym (by-places s k ∙ rw (sym et ∙ not-false t n, sym ew ∙ e))
 
-    module _ {c : Card} (ec : w ≡ SettingsAre c) {f : ℕ} (ef : f ≡ fault c) where
-      by-fault : infoAnswer s k ≡ unless Refused f (Says c)
-      unfolding infoAnswer noSettings recordOf
-      by-fault = rw (first-is s k, sym et ∙ not-false t n, sym ew ∙ ec, ← ef)
+    pub info-1 : w ≡ NoKnownHash → Refused 1 ≡ infoAnswer s k
+    unfolding placedNumber unless noSettings unknownHash
+    info-1 e = sym (by-places s k ∙ rw (sym et ∙ not-false t n, sym ew ∙ e))
 
-      pub info-refused : (f ≡ 0 → ⊥) → Refused f ≡ infoAnswer s k
-      info-refused z = sym (by-fault ∙ unless-some Refused f (Says c) z)
+    pub info-judged : {c : Card} {r : CardAnswer} → w ≡ SettingsAre c → r ≡ judgedAnswer c → r ≡ infoAnswer s k
+    unfolding placedNumber judgedAnswer noSettings unknownHash recordOf
+    info-judged ec er = er ∙ sym (by-places s k ∙ rw (sym et ∙ not-false t n, sym ew ∙ ec))
 
-      pub info-says : f ≡ 0 → Says c ≡ infoAnswer s k
-      info-says z = sym (by-fault ∙ unless-none Refused f (Says c) z)
-
-pub ruleset answers = (info-19, info-20, info-refused, info-says, needs)
+pub ruleset answers = (info-19, info-20, info-1, info-judged, judged-refused, judged-says, needs)

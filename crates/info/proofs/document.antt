@@ -1,4 +1,5 @@
 pub mod Reading
+pub mod Derived
 pub mod Order
 pub mod Held
 pub mod Meaning

@@ -4,6 +4,7 @@ ghost use mathlib.Core.Path.{_≡_};
 ghost use Rattle.info.specs.scale.Scale.{extentsOf, extentsAt, offsetOf, offsetAt, offsetBy, formed, numbersOf, numbersIn, shardingAt, settingsAt};
 ghost use Rattle.info.specs.scale.Parts.{sizeBy, chunkBy, volumeBy, typedBy, hashBy, numberBy, shardingBy};
 use crate::numbers::Number;
+use crate::sharding_members::HashIn;
 use crate::sharding_members::ShardingIn;
 use crate::sharding_members::hash_at;
 use crate::sharding_members::raw;
@@ -34,6 +35,7 @@ pub enum VolumeIn {
 
 pub enum Settings {
     Are(Card),
+    UnknownHash,
     Wrong,
 }
 
@@ -177,11 +179,11 @@ fn formed(s: &[u8], p: usize) -> bool
     typed(s, named) & (raw(s, index) & raw(s, data))
 }
 
-fn hash_by(s: &[u8], given: Given) -> Number
+fn hash_by(s: &[u8], given: Given) -> HashIn
     ensures { λ r. ⌜ r ≡ hashBy (now (s .entry)) given ⌝ }
 {
     let Found::At(v) = json::members::once(given) else {
-        return Number::Wrong;
+        return HashIn::Wrong;
     };
     hash_at(s, v)
 }
@@ -196,13 +198,10 @@ fn number_by(s: &[u8], given: Given) -> Number
     crate::numbers::natural(s, v)
 }
 
-fn numbers_of(p: Number, q: Number, r: Number, t: Number) -> ShardingIn
-    ensures { λ o. ⌜ o ≡ numbersOf p q r t ⌝ }
+fn numbers_of(p: Number, h: HashIn, r: Number, t: Number) -> ShardingIn
+    ensures { λ o. ⌜ o ≡ numbersOf p h r t ⌝ }
 {
     let Number::Is(a) = p else {
-        return ShardingIn::Wrong;
-    };
-    let Number::Is(h) = q else {
         return ShardingIn::Wrong;
     };
     let Number::Is(m) = r else {
@@ -271,11 +270,12 @@ pub fn settings_at(s: &[u8], p: usize) -> Settings
     let chunk = found.b;
     let offset = found.c;
     let given = found.d;
-    let ShardingIn::Is(sharding) = sharding_by(s, given) else {
-        return Settings::Wrong;
-    };
     let VolumeIn::Is(volume) = volume_by(s, size, chunk, offset) else {
         return Settings::Wrong;
     };
-    Settings::Are(Card { sharding, volume })
+    match sharding_by(s, given) {
+        ShardingIn::Is(sharding) => Settings::Are(Card { sharding, volume }),
+        ShardingIn::UnknownHash => Settings::UnknownHash,
+        ShardingIn::Wrong => Settings::Wrong,
+    }
 }

@@ -14,6 +14,7 @@ use Rattle.json.specs.tokens.Numbers.{someDigits, intAt, unsignedAt, num
 use Rattle.json.specs.declared.tokens.Found.{Found}
 use Rattle.json.specs.declared.tokens.Found.the-variants.{At, Nothing}
 use Rattle.json.proofs.tokens.Laws.{if-no, if-eq, if-ne, if-case, then-at, then-case, follow-case, nowhere, is-same, not-same, to-same, to-not-same, span-on, span-stop, in-text, ws-zero}
+use Rattle.json.proofs.tokens.Numerals.{numeral-sound, numeral-complete}
 use Rattle.json.proofs.strings.Characters.{string-sound, string-complete, string-first}
 use Rattle.json.specs.Grammar.{scalarAt, itemsAt, listAt, memberAt, valueAt, endsAt, isJson}
 use Rattle.json.specs.Rfc.{Ws, Items, Listed, Member, ValueOf, Value, JsonText}
@@ -88,15 +89,15 @@ value-sound (suc d) s i e q =
     (λ x y. if-case _ _ _ _ _ y (λ x y. ValueOf.is-true y)
     (λ x y. if-case _ _ _ _ _ y (λ x y. ValueOf.is-null y)
     (λ x y. if-case _ _ _ _ _ y (λ x y. ValueOf.is-false (is-same _ _ x) y)
-    (λ x y. ValueOf.is-number y))))))
+    (λ x y. ValueOf.is-number (numeral-sound s i e y)))))))
 
 -- ---- the first byte of a value: no white space, and it closes nothing
 
-word-first : (s : List ℕ) (i a b c d e : ℕ) → wordAt s i a b c d ≡ At e → byteAt s i ≡ a
+pub word-first : (s : List ℕ) (i a b c d e : ℕ) → wordAt s i a b c d ≡ At e → byteAt s i ≡ a
 unfolding wordAt
 word-first s i a b c d e q = if-case _ _ _ _ _ q (λ t p. is-same _ _ (both (same (byteAt s i) a) _ t .0)) (λ t p. nowhere _ e p)
 
-number-first : (s : List ℕ) (i e : ℕ) → numberAt s i ≡ At e → (0x2C < byteAt s i) × (byteAt s i < 0x3A)
+pub number-first : (s : List ℕ) (i e : ℕ) → numberAt s i ≡ At e → (0x2C < byteAt s i) × (byteAt s i < 0x3A)
 unfolding numberAt unsignedAt intAt someDigits isDigit inside
 number-first s i e q =
     if-case _ _ _ _ _ q (λ t p. omega (arith, is-same _ _ t))
@@ -135,7 +136,7 @@ value-opens zero s i e v = absurd v
 value-opens (suc d) s i e (ValueOf.is-true t) = opens-at _ 0x74 (word-first s i _ _ _ _ e t) refl
 value-opens (suc d) s i e (ValueOf.is-null t) = opens-at _ 0x6E (word-first s i _ _ _ _ e t) refl
 value-opens (suc d) s i e (ValueOf.is-false b t) = opens-at _ 0x66 b refl
-value-opens (suc d) s i e (ValueOf.is-number t) = let p = number-first s i e t in opens-number (byteAt s i) (p .0) (p .1)
+value-opens (suc d) s i e (ValueOf.is-number t) = let p = number-first s i e (numeral-complete s i e t) in opens-number (byteAt s i) (p .0) (p .1)
 value-opens (suc d) s i e (ValueOf.is-string t) = opens-at _ 0x22 (string-first s i e t) refl
 value-opens (suc d) s i e (ValueOf.array b r) = opens-at _ 0x5B b refl
 value-opens (suc d) s i e (ValueOf.object b r) = opens-at _ 0x7B b refl
@@ -247,8 +248,9 @@ value-complete (suc d) s i e (ValueOf.is-null t) =
 value-complete (suc d) s i e (ValueOf.is-false b t) =
     if-no _ _ _ (other _ _ _ b tt) ∙ if-no _ _ _ (other _ _ _ b tt) ∙ if-no _ _ _ (other _ _ _ b tt) ∙ if-no _ _ _ (other _ _ _ b tt) ∙ if-no _ _ _ (other _ _ _ b tt) ∙ if-eq _ _ _ _ b ∙ t
 value-complete (suc d) s i e (ValueOf.is-number t) =
-    let b = number-first s i e t in
-    if-ne (byteAt s i) 0x7B _ _ (omega arith) ∙ if-ne (byteAt s i) 0x5B _ _ (omega arith) ∙ if-ne (byteAt s i) 0x22 _ _ (omega arith) ∙ if-ne (byteAt s i) 0x74 _ _ (omega arith) ∙ if-ne (byteAt s i) 0x6E _ _ (omega arith) ∙ if-ne (byteAt s i) 0x66 _ _ (omega arith) ∙ t
+    let n = numeral-complete s i e t in
+    let b = number-first s i e n in
+    if-ne (byteAt s i) 0x7B _ _ (omega arith) ∙ if-ne (byteAt s i) 0x5B _ _ (omega arith) ∙ if-ne (byteAt s i) 0x22 _ _ (omega arith) ∙ if-ne (byteAt s i) 0x74 _ _ (omega arith) ∙ if-ne (byteAt s i) 0x6E _ _ (omega arith) ∙ if-ne (byteAt s i) 0x66 _ _ (omega arith) ∙ n
 
 pub member-found : (d : ℕ) (s : List ℕ) (i e : ℕ) → Member s (Value s d) i e → memberAt (valueAt d s) s i ≡ At e
 member-found d s = member-complete s (valueAt d s) (Value s d) (value-complete d s) (value-opens d s)

@@ -14,6 +14,7 @@ use Rattle.json.specs.tokens.Numbers.{isSign, isE, someDigits, intAt, fr
 use Rattle.json.specs.declared.tokens.Found.{Found}
 use Rattle.json.specs.declared.tokens.Found.the-variants.{At, Nothing}
 use Rattle.json.proofs.tokens.Laws.{if-yes, if-no, if-case, then-case, nowhere, is-same, in-text, span-on, span-stop, digit-zero}
+use Rattle.json.proofs.tokens.Numerals.{numeral-complete}
 use Rattle.json.specs.characters.Chars.{Utf8}
 use Rattle.json.proofs.strings.Encoded.{encoded-both, encoded-low, encoded-step, or-case, same-low, inside-low, string-encoded}
 use Rattle.json.specs.Rfc.{Ws, Items, Listed, Member, ValueOf, Value, JsonText}
@@ -126,7 +127,7 @@ value-encoded zero s i e v = absurd v
 value-encoded (suc d) s i e (ValueOf.is-true t) = word-encoded s i 0x74 0x72 0x75 0x65 e (omega arith) (omega arith) (omega arith) (omega arith) t
 value-encoded (suc d) s i e (ValueOf.is-null t) = word-encoded s i 0x6E 0x75 0x6C 0x6C e (omega arith) (omega arith) (omega arith) (omega arith) t
 value-encoded (suc d) s i e (ValueOf.is-false b t) = encoded-low s i e (omega arith) (word-encoded s (i + 1) 0x61 0x6C 0x73 0x65 e (omega arith) (omega arith) (omega arith) (omega arith) t)
-value-encoded (suc d) s i e (ValueOf.is-number t) = number-encoded s i e t
+value-encoded (suc d) s i e (ValueOf.is-number t) = number-encoded s i e (numeral-complete s i e t)
 value-encoded (suc d) s i e (ValueOf.is-string t) = string-encoded s i e t
 value-encoded (suc d) s i e (ValueOf.array b r) = encoded-low s i e (omega arith) (listed-encoded s (Value s d) (value-encoded d s) 0x5D (i + 1) e (omega arith) r)
 value-encoded (suc d) s i e (ValueOf.object b r) =

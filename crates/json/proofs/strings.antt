@@ -1,4 +1,5 @@
 pub mod Characters
 pub mod Naming
+pub mod Unescaping
 pub mod Encoded
 pub mod Steps

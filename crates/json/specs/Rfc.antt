@@ -1,13 +1,13 @@
 -- The grammar of RFC 8259 by its rules: `Value s d i e` derives that the bytes of s from i up to e are a JSON value, nested at most d deep.
--- There is no order of tests and no bound on steps here, and white space is any run of it. A number and a character are read as far as they go.
+-- There is no order of tests and no bound on steps here, and white space is any run of it. A number is read as far as it goes.
 use Prim.Native.Nat.{ℕ, zero, suc, _+_}
 use mathlib.Core.Path.{_≡_}
 use mathlib.Core.Bool.{true}
-use mathlib.Core.List.{List, [], _∷_}
+use mathlib.Core.List.{List}
 use lib.ListN.{length}
 use Rattle.json.specs.tokens.Bytes.{byteAt, isWs}
 use Rattle.json.specs.tokens.Parts.{wordAt}
-use Rattle.json.specs.tokens.Numbers.{numberAt}
+use Rattle.json.specs.tokens.Numbers.{Numeral}
 use Rattle.json.specs.declared.tokens.Found.the-variants.{At}
 use Rattle.json.specs.strings.Chars.{String}
 
@@ -35,7 +35,7 @@ pub data ValueOf (s : List ℕ) (Inner : ℕ → ℕ → Type 0) : ℕ → ℕ �
   is-true : {i e : ℕ} → wordAt s i 0x74 0x72 0x75 0x65 ≡ At e → ValueOf s Inner i e
   is-null : {i e : ℕ} → wordAt s i 0x6E 0x75 0x6C 0x6C ≡ At e → ValueOf s Inner i e
   is-false : {i e : ℕ} → byteAt s i ≡ 0x66 → wordAt s (i + 1) 0x61 0x6C 0x73 0x65 ≡ At e → ValueOf s Inner i e
-  is-number : {i e : ℕ} → numberAt s i ≡ At e → ValueOf s Inner i e
+  is-number : {i e : ℕ} → Numeral s i e → ValueOf s Inner i e
   is-string : {i e : ℕ} → String s i e → ValueOf s Inner i e
   array : {i e : ℕ} → byteAt s i ≡ 0x5B → Listed s Inner 0x5D (i + 1) e → ValueOf s Inner i e
   object : {i e : ℕ} → byteAt s i ≡ 0x7B → Listed s (Member s Inner) 0x7D (i + 1) e → ValueOf s Inner i e
@@ -48,17 +48,3 @@ Value s (suc d) i e = ValueOf s (Value s d) i e
 -- JSON-text = ws value ws (RULES I1)
 pub data JsonText (d : ℕ) (s : List ℕ) : Type 0 where
   text : (i e : ℕ) → Ws s 0 i → Value s d i e → Ws s e (length s) → JsonText d s
-
--- ---- where the items of a list begin
-
-unfoldable pub itemPlaces : {s : List ℕ} {Item : ℕ → ℕ → Type 0} {close i e : ℕ} → Items s Item close i e → List ℕ
-itemPlaces (Items.last {i = i} v w b) = i ∷ []
-itemPlaces (Items.next {i = i} v w b x r) = i ∷ itemPlaces r
-
-unfoldable pub places : {s : List ℕ} {Item : ℕ → ℕ → Type 0} {close i e : ℕ} → Listed s Item close i e → List ℕ
-places (Listed.empty w b) = []
-places (Listed.some w r) = itemPlaces r
-
--- where a member's value begins
-unfoldable pub valuePlace : {s : List ℕ} {Inner : ℕ → ℕ → Type 0} {i e : ℕ} → Member s Inner i e → ℕ
-valuePlace (Member.member {m = m} t w b x v) = m

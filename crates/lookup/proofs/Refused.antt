@@ -5,11 +5,10 @@ use mathlib.Core.Path.{refl}
 use mathlib.Core.Bool.{not, _||_}
 use native.Mathlib.Omega.{arith}
 use lib.Dec.{eqb}
-use Rattle.refusal.specs.Checks.{RefusesAt}
 use Rattle.refusal.specs.Result.{DecidedBy}
 use Rattle.refusal.proofs.Results.{decided-at}
 use Rattle.refusal.proofs.Picks.{AllIn, all-in-both}
-use Rattle.refusal.proofs.Positions.{refusing-at}
+use Rattle.refusal.proofs.Positions.{RefusesAt, refusing-at}
 use Rattle.sharding.specs.declared.Sharding.{Sharding}
 use Rattle.sharding.specs.Specification.{noSuchShard}
 use Rattle.sharding.specs.placement.Place.{shardOf, minishardOf}

@@ -2,12 +2,13 @@
 use Prim.Native.Nat.{ℕ, zero, suc, _≤_}
 use mathlib.Core.Path.{_≡_, refl, sym, ap, _∙_}
 use mathlib.Core.Bool.{Bool, true, false}
+use mathlib.Core.Logic.{_↔_}
 use mathlib.Core.List.{List, [], _∷_, _++_}
 use mathlib.Core.Option.{Option, none, some}
 use native.Mathlib.Omega.{arith}
 use Rattle.refusal.specs.Choice.{pick}
 use Rattle.refusal.specs.Table.{last, InTable}
-use Rattle.refusal.specs.Checks.{Check, firstNumber, firstPosition, unless, answered, left, refusal, answeredAt, RefusesAt}
+use Rattle.refusal.specs.Checks.{Check, firstNumber, firstPosition, unless, answered, left, refusal, answeredAt}
 use Rattle.refusal.proofs.Picks.{AllIn}
 use Rattle.refusal.proofs.Refusing.{first-most}
 
@@ -28,6 +29,11 @@ no-position [] t = refl
 no-position (c ∷ cs) t = pick-same (c .holds) (c .position) (firstPosition cs) none (t .0) (no-position cs (t .1))
 
 -- ---- answers
+
+-- the answer a is the refusal with the number k and the position p, or with none, exactly when these are the number and the position of the first
+-- check that holds; and k is in the table
+pub record RefusesAt {A : Type 0} (a : A) (refused : ℕ → A) (refusedAt : ℕ → ℕ → A) (checks : List Check) : Type 0 where
+  pub decided : (k : ℕ) (p : Option ℕ) → (a ≡ refusal refused refusedAt k p) ↔ ((firstNumber checks ≡ k) × (firstPosition checks ≡ p) × InTable k)
 
 module _ {A : Type 0} (r : ℕ → A) (at : ℕ → ℕ → A) where
   -- one check

@@ -2,11 +2,12 @@
 use Prim.Native.Nat.{ℕ, zero, suc, _≤_, _<_}
 use mathlib.Core.Path.{_≡_, refl, sym, ap, _∙_}
 use mathlib.Core.Bool.{Bool, true, false}
+use mathlib.Core.Logic.{_↔_}
 use mathlib.Core.List.{List, [], _∷_, _++_}
 use native.Mathlib.Omega.{arith}
 use Rattle.refusal.specs.Choice.{pick}
 use Rattle.refusal.specs.Table.{last, InTable}
-use Rattle.refusal.specs.Checks.{Check, firstNumber, unless, answered, left, Refuses}
+use Rattle.refusal.specs.Checks.{Check, firstNumber, unless, answered, left}
 use Rattle.refusal.proofs.Picks.{allIn, AllIn, all-in}
 
 -- ---- numbers
@@ -70,6 +71,10 @@ by-number r checks a k e h = rw e (unless-some r k a h)
 pub by-none : {A : Type 0} (r : ℕ → A) (checks : List Check) (a : A) → firstNumber checks ≡ 0 → answered r checks a ≡ a
 unfolding unless
 by-none r checks a e = rw e
+
+-- the answer a is the refusal with the number k exactly when k is the number of the first check that holds; and k is in the table
+pub record Refuses {A : Type 0} (a : A) (refused : ℕ → A) (checks : List Check) : Type 0 where
+  pub decided : (k : ℕ) → (a ≡ refused k) ↔ ((firstNumber checks ≡ k) × InTable k)
 
 unless-refuses : {A : Type 0} (r : ℕ → A) → ((j k : ℕ) → r j ≡ r k → j ≡ k) → (n : ℕ) (a : A) (checks : List Check)
     → n ≤ last → firstNumber checks ≡ n → ((k : ℕ) → a ≡ r k → _≡_ {A = ℕ} 0 1) → Refuses (unless r n a) r checks

@@ -1,12 +1,9 @@
 -- One way to refuse: the checks of a call stand as a list in their fixed order, and the first that holds decides (RULES R2).
 use Prim.Native.Nat.{ℕ, zero, suc}
-use mathlib.Core.Path.{_≡_}
 use mathlib.Core.Bool.{Bool}
-use mathlib.Core.Logic.{_↔_}
 use mathlib.Core.Option.{Option, none, some}
 use mathlib.Core.List.{List, [], _∷_}
 use Rattle.refusal.specs.Choice.{pick}
-use Rattle.refusal.specs.Table.{InTable}
 
 -- a number of the table, whether the call is to be refused with it, and the byte position that this refusal carries, if it carries one (RULES R3)
 pub record Check : Type 0 where
@@ -43,10 +40,6 @@ answered refused checks answer = unless refused (firstNumber checks) answer
 abbrev pub left : {A : Type 0} → List Check → A → A → A
 left checks after before = answered (λ k. before) checks after
 
--- the answer a is the refusal with the number k exactly when k is the number of the first check that holds; and k is in the table (RULES R1)
-pub record Refuses {A : Type 0} (a : A) (refused : ℕ → A) (checks : List Check) : Type 0 where
-  pub decided : (k : ℕ) → (a ≡ refused k) ↔ ((firstNumber checks ≡ k) × InTable k)
-
 -- ---- calls whose refusals may carry a position (RULES R3)
 
 -- the refusal with a number and, where there is one, a position
@@ -57,8 +50,3 @@ refusal refused refusedAt k (some p) = refusedAt k p
 -- the answer of such a call (RULES R3)
 abbrev pub answeredAt : {A : Type 0} → (ℕ → A) → (ℕ → ℕ → A) → List Check → A → A
 answeredAt refused refusedAt checks answer = unless (λ k. refusal refused refusedAt k (firstPosition checks)) (firstNumber checks) answer
-
--- the answer a is the refusal with the number k and the position p, or with none, exactly when these are the number and the position of the first
--- check that holds; and k is in the table (RULES R3)
-pub record RefusesAt {A : Type 0} (a : A) (refused : ℕ → A) (refusedAt : ℕ → ℕ → A) (checks : List Check) : Type 0 where
-  pub decided : (k : ℕ) (p : Option ℕ) → (a ≡ refusal refused refusedAt k p) ↔ ((firstNumber checks ≡ k) × (firstPosition checks ≡ p) × InTable k)

@@ -5,11 +5,11 @@ use mathlib.Core.Bool.{Bool}
 use mathlib.Core.List.{List}
 use mathlib.Core.Option.{Option}
 use native.Mathlib.Omega.{arith}
-use Rattle.refusal.specs.Checks.{refusal, RefusesAt}
+use Rattle.refusal.specs.Checks.{refusal}
 use Rattle.refusal.specs.Result.{countResult, DecidedBy}
 use Rattle.refusal.proofs.Results.{decided-at}
 use Rattle.refusal.proofs.Picks.{AllIn, all-in-both}
-use Rattle.refusal.proofs.Positions.{refusing-at, keeping-at}
+use Rattle.refusal.proofs.Positions.{RefusesAt, refusing-at, keeping-at}
 use Rattle.sharding.specs.declared.Sharding.{Sharding}
 use Rattle.shard.specs.File.{shardChecks}
 use Rattle.shard.proofs.Numbers.{shard-in}

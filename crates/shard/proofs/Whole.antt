@@ -7,10 +7,10 @@ use mathlib.Core.Option.{some}
 use native.Mathlib.Nat.{eq-or-lt-of-le}
 use native.Mathlib.Omega.{arith}
 use borrow.Author.Tests.{leb-false, lt-leb, eq-eqb, ne-eqb}
-use Rattle.refusal.specs.Checks.{firstNumber, unless, Refuses}
+use Rattle.refusal.specs.Checks.{firstNumber, unless}
 use Rattle.refusal.specs.Result.{DecidedBy}
 use Rattle.refusal.proofs.Results.{decided-at}
-use Rattle.refusal.proofs.Refusing.{refuses}
+use Rattle.refusal.proofs.Refusing.{Refuses, refuses}
 use Rattle.sharding.specs.declared.Sharding.{Sharding}
 use Rattle.sharding.specs.Specification.{minishardCount, shardCount, noSuchShard}
 use Rattle.shard.specs.declared.index.Fault.{Fault}

@@ -31,7 +31,7 @@ use Rattle.names.specs.declared.FileKind.{FileKind}
 use Rattle.card.specs.declared.Card.{Card}
 use Rattle.card.specs.declared.CardAnswer.the-variants as D
 use Rattle.card.specs.Answers.{recordChecks, readChecks, readAnswer, writeChecks, writeAnswer, writeLeft, cardResult}
-use Rattle.info.specs.Answers.{infoChecks, infoAnswer}
+use Rattle.info.specs.Answers.{settingsChecks, infoChecks, infoAnswer}
 use Rattle.mesh_manifest.specs.declared.sound.ManifestAnswer.the-variants as M
 use Rattle.mesh_manifest.specs.declared.HeaderAnswer.the-variants as H
 use Rattle.mesh_manifest.specs.declared.Field.the-variants as F
@@ -123,7 +123,7 @@ unfolding readAnswer readChecks recordChecks
 card-read-decided s = decided cardResult D.Refused (λ k. refl) (readChecks s) _ refl refl refl
 
 pub info-decided : (s : List ℕ) (scale : ℕ) → DecidedBy (infoChecks s scale) (cardResult (infoAnswer s scale))
-unfolding infoAnswer infoChecks recordChecks
+unfolding infoAnswer infoChecks settingsChecks recordChecks
 info-decided s scale = decided cardResult D.Refused (λ k. refl) (infoChecks s scale) _ refl refl refl
 
 module _ (c : Card) (out : List ℕ) where

@@ -239,7 +239,7 @@ pub record Demand2 : Type 0 where
   pub levelled : (s : List ℕ) (l i : ℕ) (past : List ℕ) → i < countOf s l → Holds (nodesOf s l ++ past) (5 * i) (numbersOf (nodeAt s l i))
   -- One meaning has one card.
   pub card : OneCard
-  -- (order 1) The settings read from an info file are those that its document says, and the card written of them reads back.
+  -- (order 1) The settings read from an info file are those that its document says, by the members that the rules name alone, and the card written of them reads back.
   pub info : InfoMeaning
 
 -- ---- Demand 3

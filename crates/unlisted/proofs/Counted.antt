@@ -7,11 +7,10 @@ use native.Mathlib.Omega.{arith}
 use borrow.Author.Needs.{needs}
 use lib.ListN.{length, take, length-drop}
 use lib.Seq.{length-take-le}
-use Rattle.refusal.specs.Checks.{RefusesAt}
 use Rattle.refusal.specs.Result.{countResult, DecidedBy}
 use Rattle.refusal.proofs.Results.{decided-at}
 use Rattle.refusal.proofs.Tests.{told-yes}
-use Rattle.refusal.proofs.Positions.{refusing-at}
+use Rattle.refusal.proofs.Positions.{RefusesAt, refusing-at}
 use Rattle.bitmap.specs.Positions.{after, misses}
 use Rattle.bitmap.proofs.Counts.{misses-all, misses-same, misses-after, after-at}
 use Rattle.sharding.specs.declared.Sharding.{Sharding}

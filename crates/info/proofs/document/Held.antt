@@ -1,14 +1,14 @@
 -- What settings give fits a card: each number has its field's width, and the kind is volume.
 use Prim.Native.Nat.{ℕ, zero, suc, _+_, _^_, _≤_, _<_}
 use mathlib.Core.Path.{_≡_, refl}
-use mathlib.Core.Bool.{Bool, true, false, _&&_}
+use mathlib.Core.Bool.{Bool, true, false, _||_}
 use mathlib.Core.List.{List}
 use native.Mathlib.Omega.{arith}
-use borrow.Author.Tests.{ltb-true, ltb-false}
-use lib.Dec.{ltb, eqb}
+use borrow.Author.Tests.{ltb-true, ltb-false, leb-false}
+use lib.Dec.{ltb, leb, eqb}
 use lib.ListN.{getD}
 use Rattle.refusal.specs.Choice.{pick}
-use Rattle.refusal.proofs.Tests.{both}
+use Rattle.refusal.proofs.Tests.{neither}
 use Rattle.json.specs.tokens.Bytes.{isDigit}
 use Rattle.json.specs.tokens.Parts.{digits}
 use Rattle.morton.specs.grid.Grid.{InU32}
@@ -31,15 +31,17 @@ use Rattle.info.specs.declared.scale.OffsetIn.{OffsetIn}
 use Rattle.info.specs.declared.scale.OffsetIn.the-variants.{Is as OffsetIs, Wrong as NoOffset}
 use Rattle.info.specs.declared.scale.VolumeIn.{VolumeIn}
 use Rattle.info.specs.declared.scale.VolumeIn.the-variants.{Is as VolumeIs, Wrong as NoVolume}
+use Rattle.info.specs.declared.sharding_members.HashIn.{HashIn}
+use Rattle.info.specs.declared.sharding_members.HashIn.the-variants.{Known, Unknown, Wrong as NoHash}
 use Rattle.info.specs.declared.sharding_members.ShardingIn.{ShardingIn}
-use Rattle.info.specs.declared.sharding_members.ShardingIn.the-variants.{Is as ShardingIs, Wrong as NoSharding}
+use Rattle.info.specs.declared.sharding_members.ShardingIn.the-variants.{Is as ShardingIs, UnknownHash, Wrong as NoSharding}
 use Rattle.info.specs.declared.scale.Settings.{Settings}
-use Rattle.info.specs.declared.scale.Settings.the-variants.{Are as SettingsAre, Wrong as NoSettings}
-use Rattle.json.specs.members.Places.{elements, member, needed, threeOf, loneOf}
+use Rattle.info.specs.declared.scale.Settings.the-variants.{Are as SettingsAre, UnknownHash as NoKnownHash, Wrong as NoSettings}
+use Rattle.json.specs.members.Places.{elements, isText, member, needed, threeOf, loneOf}
 use Rattle.info.specs.numbers.Numbers.{decimalAt, goesOn, in32, digitsFrom, wholeFrom, whenIs, naturalAt, negative, aboveOf, belowOf, coordinateAt}
-use Rattle.info.specs.sharding_members.Words.{sizeName, chunksName, offsetName, shardingName, preshiftName, minishardBitsName, shardBitsName}
-use Rattle.info.specs.scale.Scale.{whenAt, whenThree, whenExtents, whenOffset, whenVolume, whenSharding, extentsOf, extentsAt, offsetOf, offsetAt, sizeIn, chunkIn, offsetBy, offsetIn, volumeIn, formed, hashIn, numberIn, numbersOf, numbersIn, shardingAt, shardingIn, settingsAt}
-use Rattle.info.specs.sharding_members.Values.{shardingOf}
+use Rattle.info.specs.sharding_members.Words.{sizeName, chunksName, offsetName, shardingName, preshiftName, hashName, minishardBitsName, shardBitsName, identityText, murmurText}
+use Rattle.info.specs.scale.Scale.{whenAt, whenThree, whenExtents, whenOffset, whenVolume, extentsOf, extentsAt, offsetOf, offsetAt, sizeIn, chunkIn, offsetBy, offsetIn, volumeIn, formed, hashIn, numberIn, numbersOf, numbersIn, shardingAt, shardingIn, settingsBy, settingsAt}
+use Rattle.info.specs.sharding_members.Values.{hashAt, hashedBy, shardingOf}
 use Rattle.info.specs.Settings.{scaleAt, settingsOf}
 
 -- ---- numbers are of 32 bits
@@ -177,32 +179,48 @@ module _ (s : List ℕ) where
 
 abbrev ShardingHeld : ShardingIn → Type 0
 ShardingHeld (ShardingIs g) = (g .preshift < 256) × (g .hash < 256) × (g .«minishard_bits» < 256) × (g .«shard_bits» < 256) × (g .kind ≡ volume)
+ShardingHeld UnknownHash = Unit {0}
 ShardingHeld NoSharding = Unit {0}
 
-sharding-of-held : (a h m n : ℕ) → ShardingHeld (shardingOf a h m n)
-unfolding shardingOf
-sharding-of-held a h m n = go (ltb a 256 && (ltb h 256 && (ltb m 256 && ltb n 256))) refl
-  where
-    go : (b : Bool) → ltb a 256 && (ltb h 256 && (ltb m 256 && ltb n 256)) ≡ b
-        → ShardingHeld (pick b (ShardingIs (record { preshift = a; hash = h; «minishard_bits» = m; «shard_bits» = n; kind = volume })) NoSharding)
-    go true e =
-        let q = both (ltb a 256) (ltb h 256 && (ltb m 256 && ltb n 256)) e in
-        let r = both (ltb h 256) (ltb m 256 && ltb n 256) (q .1) in
-        let t = both (ltb m 256) (ltb n 256) (r .1) in
-        (ltb-true a 256 (q .0), ltb-true h 256 (r .0), ltb-true m 256 (t .0), ltb-true n 256 (t .1), refl)
-    go false e = tt
+abbrev HashHeld : HashIn → Type 0
+HashHeld (Known h) = h < 256
+HashHeld Unknown = Unit {0}
+HashHeld NoHash = Unit {0}
 
-numbers-held : (p q r t : Number) → ShardingHeld (numbersOf p q r t)
+hash-held-by : (x y z : Bool) → HashHeld (pick x (pick y (Known 0) (pick z (Known 1) Unknown)) NoHash)
+hash-held-by true true z = omega arith
+hash-held-by true false true = omega arith
+hash-held-by true false false = tt
+hash-held-by false y z = tt
+
+hash-held : (s : List ℕ) (q : Found) → HashHeld (whenAt q NoHash (hashAt s))
+unfolding hashAt
+hash-held s (At v) = hash-held-by (eqb (getD s v 0) 0x22) (isText identityText s v) (isText murmurText s v)
+hash-held s Nothing = tt
+
+sharding-of-held : (a : ℕ) (h : HashIn) (m n : ℕ) → HashHeld h → ShardingHeld (shardingOf a h m n)
+unfolding shardingOf hashedBy
+sharding-of-held a h m n hh = go (leb 256 a || (leb 256 m || leb 256 n)) refl h hh
+  where
+    go : (b : Bool) → leb 256 a || (leb 256 m || leb 256 n) ≡ b → (h : HashIn) → HashHeld h → ShardingHeld (pick b NoSharding (hashedBy a h m n))
+    go true e h hh = tt
+    go false e (Known h) hh =
+        let q = neither (leb 256 a) (leb 256 m || leb 256 n) e in
+        let r = neither (leb 256 m) (leb 256 n) (q .1) in
+        (leb-false 256 a (q .0), hh, leb-false 256 m (r .0), leb-false 256 n (r .1), refl)
+    go false e Unknown hh = tt
+    go false e NoHash hh = tt
+
+numbers-held : (p : Number) (h : HashIn) (r t : Number) → HashHeld h → ShardingHeld (numbersOf p h r t)
 unfolding numbersOf
-numbers-held (Is a) (Is h) (Is m) (Is n) = sharding-of-held a h m n
-numbers-held (Is a) (Is h) (Is m) Wrong = tt
-numbers-held (Is a) (Is h) Wrong t = tt
-numbers-held (Is a) Wrong r t = tt
-numbers-held Wrong q r t = tt
+numbers-held (Is a) h (Is m) (Is n) hh = sharding-of-held a h m n hh
+numbers-held (Is a) h (Is m) Wrong hh = tt
+numbers-held (Is a) h Wrong t hh = tt
+numbers-held Wrong h r t hh = tt
 
 formed-held : (s : List ℕ) (p : ℕ) (b : Bool) → ShardingHeld (pick b (numbersIn s p) NoSharding)
-unfolding numbersIn
-formed-held s p true = numbers-held (numberIn preshiftName s p) (hashIn s p) (numberIn minishardBitsName s p) (numberIn shardBitsName s p)
+unfolding numbersIn hashIn
+formed-held s p true = numbers-held (numberIn preshiftName s p) (hashIn s p) (numberIn minishardBitsName s p) (numberIn shardBitsName s p) (hash-held s (needed hashName s p))
 formed-held s p false = tt
 
 named-held : (s : List ℕ) (q : Found) → ShardingHeld (whenAt q NoSharding (shardingAt s))
@@ -218,6 +236,7 @@ sharding-held s p = named-held s (needed shardingName s p)
 
 abbrev pub SettingsHeld : Settings → Type 0
 SettingsHeld (SettingsAre c) = Ranged c × (c .sharding .kind ≡ volume)
+SettingsHeld NoKnownHash = Unit {0}
 SettingsHeld NoSettings = Unit {0}
 
 abbrev volumeBy : ExtentsIn → ExtentsIn → OffsetIn → VolumeIn
@@ -225,11 +244,13 @@ volumeBy a b d =
     whenExtents a NoVolume (λ e. whenExtents b NoVolume (λ f. whenOffset d NoVolume (λ o. VolumeIs (record { size = e; chunk = f; offset = o }))))
 
 settings-by : (g : ShardingIn) (a b : ExtentsIn) (d : OffsetIn) → ShardingHeld g → ExtentsHeld a → ExtentsHeld b → OffsetHeld d
-    → SettingsHeld (whenSharding g NoSettings (λ h. whenVolume (volumeBy a b d) NoSettings (λ v. SettingsAre (record { sharding = h; volume = v }))))
-settings-by NoSharding a b d h i j k = tt
-settings-by (ShardingIs g) NoExtents b d h i j k = tt
-settings-by (ShardingIs g) (ExtentsAre a) NoExtents d h i j k = tt
-settings-by (ShardingIs g) (ExtentsAre a) (ExtentsAre b) NoOffset h i j k = tt
+    → SettingsHeld (whenVolume (volumeBy a b d) NoSettings (λ v. settingsBy v g))
+unfolding settingsBy
+settings-by g NoExtents b d h i j k = tt
+settings-by g (ExtentsAre a) NoExtents d h i j k = tt
+settings-by g (ExtentsAre a) (ExtentsAre b) NoOffset h i j k = tt
+settings-by NoSharding (ExtentsAre a) (ExtentsAre b) (OffsetIs o) h i j k = tt
+settings-by UnknownHash (ExtentsAre a) (ExtentsAre b) (OffsetIs o) h i j k = tt
 settings-by (ShardingIs g) (ExtentsAre a) (ExtentsAre b) (OffsetIs o) h i j k = (
   record {
     preshift = h .0;

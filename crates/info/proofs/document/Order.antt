@@ -1,37 +1,57 @@
--- The order of members and members that are not used never change what a document says: each setting is a function of the used members' values.
-use Prim.Native.Nat.{ℕ}
-use mathlib.Core.Path.{_≡_, refl, ap}
+-- Members that are not used, their order, other scales and the outermost @type never change what a document says.
+use Prim.Native.Nat.{ℕ, zero, suc}
+use mathlib.Core.Path.{_≡_, refl, sym, ap, _∙_}
 use mathlib.Core.Bool.{Bool, true, false}
 use mathlib.Core.List.{List, [], _∷_, _++_}
+use native.Mathlib.Omega.{arith}
+use lib.ListN.{length, getD}
 use Rattle.refusal.specs.Choice.{pick}
+use Rattle.json.specs.tokens.Bytes.{choose, same}
 use Rattle.json.specs.strings.Names.{eqList}
-use Rattle.info.specs.sharding_members.Words.{scalesName, sizeName, chunksName, offsetName, shardingName, typeName, preshiftName, hashName, minishardBitsName, shardBitsName, indexName, dataName}
-use Rattle.info.specs.document.Document.{Entry, DocumentOf, times, valuesNamed, memberOf}
-use Rattle.info.specs.document.Document.DocumentOf.{object}
+use Rattle.json.proofs.tokens.Laws.{if-yes, if-no, is-same}
+use Rattle.info.specs.declared.sharding_members.ShardingIn.the-variants.{Wrong as NoSharding}
+use Rattle.info.specs.declared.scale.Settings.the-variants.{Wrong as NoSettings}
+use Rattle.info.specs.sharding_members.Words.{scalesName, shardingName, typeName}
+use Rattle.info.specs.document.Document.{Entry, DocumentOf, Times, times, valuesNamed, memberOf, elementsOf, whenOnce, nth}
+use Rattle.info.specs.document.Document.DocumentOf.{array, object}
+use Rattle.info.specs.document.Document.Times.{never, once, twice}
 use Rattle.info.specs.document.Said.{saidSize, chunkOf, volumeOf, typeSaid, numberOf, shardingOn, settingsOn, settingsIn}
+use Rattle.info.specs.document.Used.{BothBy, SameSharding, SameScale, SameUsed}
+use Rattle.info.specs.document.Used.BothBy.{missing, there, doubled}
 
 -- ---- one member
 
 -- two neighbours of a list exchanged, or none
 data Exchanged {D : Type 0} : List D → List D → Type 0 where
-  same : {l : List D} → Exchanged l l
+  kept : {l : List D} → Exchanged l l
   here : {x y : D} {l : List D} → Exchanged (x ∷ y ∷ l) (y ∷ x ∷ l)
   later : {x : D} {l m : List D} → Exchanged l m → Exchanged (x ∷ l) (x ∷ m)
 
 times-exchanged : {D : Type 0} {l m : List D} → Exchanged l m → times l ≡ times m
 unfolding times
-times-exchanged same = refl
+times-exchanged kept = refl
 times-exchanged here = refl
-times-exchanged (later same) = refl
+times-exchanged (later kept) = refl
 times-exchanged (later here) = refl
 times-exchanged (later (later r)) = refl
+
+lists-apart : (a b : List ℕ) → (a ≡ b → ⊥) → eqList a b ≡ false
+unfolding eqList
+lists-apart [] [] h = absurd (h refl)
+lists-apart [] (y ∷ ys) h = refl
+lists-apart (x ∷ xs) [] h = refl
+lists-apart (x ∷ xs) (y ∷ ys) h = go (same x y) refl (λ e. lists-apart xs ys (λ r. h (λ i. is-same x y e i ∷ r i)))
+  where
+    go : (t : Bool) → same x y ≡ t → (same x y ≡ true → eqList xs ys ≡ false) → choose (same x y) (eqList xs ys) false ≡ false
+    go true e f = if-yes _ _ _ e ∙ f e
+    go false e f = if-no _ _ _ e
 
 module _ {D : Type 0} (name : List ℕ) where
   two-exchanged : (x y : Bool) (a b : D) (l : List D) → Exchanged (pick x (a ∷ pick y (b ∷ l) l) (pick y (b ∷ l) l)) (pick y (b ∷ pick x (a ∷ l) l) (pick x (a ∷ l) l))
   two-exchanged true true a b l = here
-  two-exchanged true false a b l = same
-  two-exchanged false true a b l = same
-  two-exchanged false false a b l = same
+  two-exchanged true false a b l = kept
+  two-exchanged false true a b l = kept
+  two-exchanged false false a b l = kept
 
   more-exchanged : (x : Bool) (v : D) (l m : List D) → Exchanged l m → Exchanged (pick x (v ∷ l) l) (pick x (v ∷ m) m)
   more-exchanged true v l m r = later r
@@ -54,97 +74,69 @@ module _ {D : Type 0} (name : List ℕ) where
   values-unused (e ∷ xs) ys a h = ap (λ (l : List D). pick (eqList (e .name) name) (e .value ∷ l) l) (values-unused xs ys a h)
 
   -- a member of another name does not matter
-  pub member-unused : (xs ys : List (Entry D)) (a : Entry D) → eqList (a .name) name ≡ false → memberOf name (object (xs ++ (a ∷ ys))) ≡ memberOf name (object (xs ++ ys))
+  pub member-unused : (xs ys : List (Entry D)) (a : Entry D) → (a .name ≡ name → ⊥) → memberOf name (object (xs ++ (a ∷ ys))) ≡ memberOf name (object (xs ++ ys))
   unfolding memberOf
-  member-unused xs ys a h = ap times (values-unused xs ys a h)
+  member-unused xs ys a h = ap times (values-unused xs ys a (lists-apart (a .name) name h))
 
--- ---- the settings are functions of the used members
+-- ---- nor does another scale
 
-pub record SameScale {D : Type 0} (u v : DocumentOf D) : Type 0 where
-  pub size : memberOf sizeName u ≡ memberOf sizeName v
-  pub chunks : memberOf chunksName u ≡ memberOf chunksName v
-  pub offset : memberOf offsetName u ≡ memberOf offsetName v
-  pub sharding : memberOf shardingName u ≡ memberOf shardingName v
+nth-other : {D : Type 0} (k : ℕ) (xs ys : List D) (a b : D) → (length xs ≡ k → ⊥) → nth k (xs ++ (a ∷ ys)) ≡ nth k (xs ++ (b ∷ ys))
+unfolding nth
+nth-other zero [] ys a b h = absurd (h refl)
+nth-other (suc k) [] ys a b h = refl
+nth-other zero (x ∷ xs) ys a b h = refl
+nth-other (suc k) (x ∷ xs) ys a b h = nth-other k xs ys a b (λ e. h (ap suc e))
 
-pub scale-same : {D : Type 0} (u v : DocumentOf (DocumentOf (DocumentOf (DocumentOf D)))) → SameScale u v → settingsOn u ≡ settingsOn v
-unfolding settingsOn volumeOf saidSize chunkOf
-scale-same u v h = rw (h .sharding, h .size, h .chunks, h .offset)
+-- ---- documents that agree say the same settings
 
-pub record SameSharding {D : Type 0} (u v : DocumentOf D) : Type 0 where
-  pub type : memberOf typeName u ≡ memberOf typeName v
-  pub preshift : memberOf preshiftName u ≡ memberOf preshiftName v
-  pub hash : memberOf hashName u ≡ memberOf hashName v
-  pub minishard : memberOf minishardBitsName u ≡ memberOf minishardBitsName v
-  pub shard : memberOf shardBitsName u ≡ memberOf shardBitsName v
-  pub index : memberOf indexName u ≡ memberOf indexName v
-  pub bytes : memberOf dataName u ≡ memberOf dataName v
+both-same : {A D : Type 0} {Same : D → D → Type 0} (none : A) (f : D → A) → ((a b : D) → Same a b → f a ≡ f b) → (t u : Times D) → BothBy Same t u → whenOnce t none f ≡ whenOnce u none f
+both-same none f h t u missing = refl
+both-same none f h t u (there {a = a} {b = b} r) = h a b r
+both-same none f h t u doubled = refl
 
-pub sharding-same : {D : Type 0} (u v : DocumentOf (DocumentOf D)) → SameSharding u v → shardingOn u ≡ shardingOn v
+sharding-same : {D : Type 0} (u v : DocumentOf (DocumentOf D)) → SameSharding u v → shardingOn u ≡ shardingOn v
 unfolding shardingOn typeSaid numberOf
 sharding-same u v h = rw (h .type, h .preshift, h .hash, h .minishard, h .shard, h .index, h .bytes)
 
-pub outer-same : {D : Type 0} (k : ℕ) (u v : DocumentOf (DocumentOf (DocumentOf (DocumentOf (DocumentOf (DocumentOf D))))))
-    → memberOf scalesName u ≡ memberOf scalesName v → settingsIn k u ≡ settingsIn k v
+scale-same : {D : Type 0} (u v : DocumentOf (DocumentOf (DocumentOf (DocumentOf D)))) → SameScale u v → settingsOn u ≡ settingsOn v
+unfolding settingsOn volumeOf saidSize chunkOf
+scale-same u v h = rw (h .size, h .chunks, h .offset, both-same NoSharding shardingOn sharding-same (memberOf shardingName u) (memberOf shardingName v) (h .sharding))
+
+pub used-same : {D : Type 0} (k : ℕ) (u v : DocumentOf (DocumentOf (DocumentOf (DocumentOf (DocumentOf (DocumentOf D)))))) → SameUsed k u v → settingsIn k u ≡ settingsIn k v
 unfolding settingsIn
-outer-same k u v h = rw h
+used-same k u v h =
+    both-same NoSettings (λ a. whenOnce (nth k (elementsOf a)) NoSettings settingsOn)
+    (λ a b r. both-same NoSettings settingsOn scale-same (nth k (elementsOf a)) (nth k (elementsOf b)) r) (memberOf scalesName u) (memberOf scalesName v) h
 
--- ---- so two members of a scale, of its sharding or of the whole may change places
+-- ---- a document agrees with itself
 
-pub scale-order : {D : Type 0} (xs ys : List (Entry (DocumentOf (DocumentOf (DocumentOf D))))) (a b : Entry (DocumentOf (DocumentOf (DocumentOf D))))
-    → settingsOn (object (xs ++ (a ∷ b ∷ ys))) ≡ settingsOn (object (xs ++ (b ∷ a ∷ ys)))
-scale-order xs ys a b =
-    scale-same _ _ (record {
-      size = member-order sizeName xs ys a b;
-      chunks = member-order chunksName xs ys a b;
-      offset = member-order offsetName xs ys a b;
-      sharding = member-order shardingName xs ys a b;
-    })
+both-itself : {D : Type 0} {Same : D → D → Type 0} → ((a : D) → Same a a) → (t : Times D) → BothBy Same t t
+both-itself h never = missing
+both-itself h (once a) = there (h a)
+both-itself h twice = doubled
 
-pub sharding-order : {D : Type 0} (xs ys : List (Entry (DocumentOf D))) (a b : Entry (DocumentOf D))
-    → shardingOn (object (xs ++ (a ∷ b ∷ ys))) ≡ shardingOn (object (xs ++ (b ∷ a ∷ ys)))
-sharding-order xs ys a b =
-    sharding-same _ _ (record {
-      type = member-order typeName xs ys a b;
-      preshift = member-order preshiftName xs ys a b;
-      hash = member-order hashName xs ys a b;
-      minishard = member-order minishardBitsName xs ys a b;
-      shard = member-order shardBitsName xs ys a b;
-      index = member-order indexName xs ys a b;
-      bytes = member-order dataName xs ys a b;
-    })
+sharding-itself : {D : Type 0} (v : DocumentOf D) → SameSharding v v
+sharding-itself v = record { type = refl; preshift = refl; hash = refl; minishard = refl; shard = refl; index = refl; bytes = refl }
 
-pub outer-order : {D : Type 0} (k : ℕ) (xs ys : List (Entry (DocumentOf (DocumentOf (DocumentOf (DocumentOf (DocumentOf D))))))) (a b : Entry (DocumentOf (DocumentOf (DocumentOf (DocumentOf (DocumentOf D))))))
-    → settingsIn k (object (xs ++ (a ∷ b ∷ ys))) ≡ settingsIn k (object (xs ++ (b ∷ a ∷ ys)))
-outer-order k xs ys a b = outer-same k _ _ (member-order scalesName xs ys a b)
+scale-itself : {D : Type 0} (v : DocumentOf (DocumentOf D)) → SameScale v v
+scale-itself v = record { size = refl; chunks = refl; offset = refl; sharding = both-itself sharding-itself (memberOf shardingName v) }
 
--- ---- and a member of a name that is not used may be there or not
+scales-itself : {D : Type 0} (k : ℕ) (t : Times (DocumentOf (DocumentOf (DocumentOf D)))) → BothBy (λ a b. BothBy SameScale (nth k (elementsOf a)) (nth k (elementsOf b))) t t
+scales-itself k t = both-itself (λ a. both-itself scale-itself (nth k (elementsOf a))) t
 
-pub scale-unused : {D : Type 0} (xs ys : List (Entry (DocumentOf (DocumentOf (DocumentOf D))))) (a : Entry (DocumentOf (DocumentOf (DocumentOf D))))
-    → eqList (a .name) sizeName ≡ false → eqList (a .name) chunksName ≡ false → eqList (a .name) offsetName ≡ false → eqList (a .name) shardingName ≡ false
-    → settingsOn (object (xs ++ (a ∷ ys))) ≡ settingsOn (object (xs ++ ys))
-scale-unused xs ys a p q r t =
-    scale-same _ _ (record {
-      size = member-unused sizeName xs ys a p;
-      chunks = member-unused chunksName xs ys a q;
-      offset = member-unused offsetName xs ys a r;
-      sharding = member-unused shardingName xs ys a t;
-    })
+pub used-itself : {D : Type 0} (k : ℕ) (v : DocumentOf (DocumentOf (DocumentOf (DocumentOf D)))) → SameUsed k v v
+used-itself k v = scales-itself k (memberOf scalesName v)
 
-pub sharding-unused : {D : Type 0} (xs ys : List (Entry (DocumentOf D))) (a : Entry (DocumentOf D))
-    → eqList (a .name) typeName ≡ false → eqList (a .name) preshiftName ≡ false → eqList (a .name) hashName ≡ false → eqList (a .name) minishardBitsName ≡ false
-    → eqList (a .name) shardBitsName ≡ false → eqList (a .name) indexName ≡ false → eqList (a .name) dataName ≡ false
-    → shardingOn (object (xs ++ (a ∷ ys))) ≡ shardingOn (object (xs ++ ys))
-sharding-unused xs ys a p q r t u v w =
-    sharding-same _ _ (record {
-      type = member-unused typeName xs ys a p;
-      preshift = member-unused preshiftName xs ys a q;
-      hash = member-unused hashName xs ys a r;
-      minishard = member-unused minishardBitsName xs ys a t;
-      shard = member-unused shardBitsName xs ys a u;
-      index = member-unused indexName xs ys a v;
-      bytes = member-unused dataName xs ys a w;
-    })
+-- scales that differ in another one
+pub used-scales : {D : Type 0} (k : ℕ) (v w : DocumentOf (DocumentOf (DocumentOf (DocumentOf D)))) (xs ys : List (DocumentOf (DocumentOf D))) (a b : DocumentOf (DocumentOf D))
+    → (length xs ≡ k → ⊥) → memberOf scalesName v ≡ once (array (xs ++ (a ∷ ys))) → memberOf scalesName w ≡ once (array (xs ++ (b ∷ ys))) → SameUsed k v w
+unfolding elementsOf
+used-scales k v w xs ys a b h p q = rw (p, q) (there {a = array (xs ++ (a ∷ ys))} {b = array (xs ++ (b ∷ ys))} (rw (nth-other k xs ys a b h) (both-itself scale-itself (nth k (xs ++ (b ∷ ys))))))
 
-pub outer-unused : {D : Type 0} (k : ℕ) (xs ys : List (Entry (DocumentOf (DocumentOf (DocumentOf (DocumentOf (DocumentOf D))))))) (a : Entry (DocumentOf (DocumentOf (DocumentOf (DocumentOf (DocumentOf D))))))
-    → eqList (a .name) scalesName ≡ false → settingsIn k (object (xs ++ (a ∷ ys))) ≡ settingsIn k (object (xs ++ ys))
-outer-unused k xs ys a h = outer-same k _ _ (member-unused scalesName xs ys a h)
+-- a member of the outermost object by another name than scales
+pub used-outermost : {D : Type 0} (k : ℕ) (xs ys : List (Entry (DocumentOf (DocumentOf (DocumentOf D))))) (a : Entry (DocumentOf (DocumentOf (DocumentOf D)))) → (a .name ≡ scalesName → ⊥)
+    → SameUsed k (object (xs ++ (a ∷ ys))) (object (xs ++ ys))
+used-outermost k xs ys a h = rw (member-unused scalesName xs ys a h) (scales-itself k (memberOf scalesName (object (xs ++ ys))))
+
+pub type-no-scales : (n : List ℕ) → n ≡ typeName → n ≡ scalesName → ⊥
+type-no-scales n p q = let z : _≡_ {A = ℕ} 64 115 = ap (λ (l : List ℕ). getD l 0 0) (sym p ∙ q) in omega (arith, z)

@@ -1,4 +1,4 @@
--- The settings by places in the text are those that its document says.
+-- The settings by places in the text are those that the document by places says.
 use Prim.Native.Nat.{ℕ, zero, suc, _+_}
 use mathlib.Core.Path.{_≡_, refl, sym, ap, _∙_}
 use mathlib.Core.Bool.{Bool, true, false, _&&_}
@@ -19,15 +19,17 @@ use Rattle.info.specs.declared.numbers.Number.{Number}
 use Rattle.info.specs.declared.numbers.Number.the-variants.{Is, Wrong}
 use Rattle.info.specs.declared.scale.ExtentsIn.the-variants.{Wrong as NoExtents}
 use Rattle.info.specs.declared.scale.OffsetIn.the-variants.{Wrong as NoOffset}
+use Rattle.info.specs.declared.sharding_members.HashIn.the-variants.{Wrong as NoHash}
 use Rattle.info.specs.declared.sharding_members.ShardingIn.the-variants.{Wrong as NoSharding}
 use Rattle.info.specs.declared.scale.Settings.the-variants.{Wrong as NoSettings}
 use Rattle.info.specs.sharding_members.Words.{scalesName, sizeName, chunksName, offsetName, shardingName, typeName, preshiftName, hashName, minishardBitsName, shardBitsName, indexName, dataName, typeText, rawText}
 use Rattle.info.specs.scale.Scale.{whenAt, whenThree, extentsOf, extentsAt, offsetOf, offsetAt, sizeIn, chunkIn, offsetBy, offsetIn, volumeIn, typed, formed, hashIn, numberIn, numbersIn, shardingAt, shardingIn, settingsAt}
 use Rattle.info.specs.sharding_members.Values.{rawBy, hashAt}
 use Rattle.info.specs.Settings.{scaleAt, settingsOf}
-use Rattle.info.specs.document.Document.{Entry, DocumentOf, Document, saidNumberAt, documentAt, document, times, valuesNamed, memberOf, elementsOf, saysText, whenOnce, whenTriple, whenNth}
+use Rattle.info.specs.document.Document.{Entry, DocumentOf, Document, times, valuesNamed, memberOf, elementsOf, saysText, whenOnce, whenTriple, nth}
 use Rattle.info.specs.document.Document.DocumentOf.{word, number, string, array, object}
 use Rattle.info.specs.document.Document.Times.{never}
+use Rattle.info.specs.document.Places.{saidNumberAt, documentAt, documentFound}
 use Rattle.info.specs.document.Said.{naturalOf, coordinateOf, extentsOn, offsetOn, saidSize, chunkOf, offsetGiven, volumeOf, typeSaid, rawGiven, hashOf, numberOf, shardingOn, settingsOn, settingsIn}
 
 -- ---- a value, by its first byte
@@ -47,23 +49,23 @@ first b = go (eqb b 0x22) (eqb b 0x5B) (eqb b 0x7B) refl refl refl
     go false false true p q r = curly (eqb-true b 0x7B r)
     go false false false p q r = plain (eqb-false b 0x22 p) (eqb-false b 0x5B q) (eqb-false b 0x7B r)
 
-entry : (d : ℕ) → List ℕ → ℕ → Entry (Document d)
+unfoldable pub entry : (d : ℕ) → List ℕ → ℕ → Entry (Document d)
 entry d s m = record { name = textAt s m; value = documentAt d s (valueOf s m) }
 
 module _ (d : ℕ) (s : List ℕ) (p : ℕ) where
-  at-quote : getD s p 0 ≡ 0x22 → documentAt (suc d) s p ≡ string (textAt s p)
+  pub at-quote : getD s p 0 ≡ 0x22 → documentAt (suc d) s p ≡ string (textAt s p)
   unfolding documentAt
   at-quote e = rw (eq-eqb (getD s p 0) 0x22 e)
 
-  at-square : getD s p 0 ≡ 0x5B → documentAt (suc d) s p ≡ array (map (documentAt d s) (elements s p))
+  pub at-square : getD s p 0 ≡ 0x5B → documentAt (suc d) s p ≡ array (map (documentAt d s) (elements s p))
   unfolding documentAt
   at-square e = rw (ne-eqb (getD s p 0) 0x22 (omega arith), eq-eqb (getD s p 0) 0x5B e)
 
-  at-curly : getD s p 0 ≡ 0x7B → documentAt (suc d) s p ≡ object (map (entry d s) (members s p))
+  pub at-curly : getD s p 0 ≡ 0x7B → documentAt (suc d) s p ≡ object (map (entry d s) (members s p))
   unfolding documentAt entry
   at-curly e = rw (ne-eqb (getD s p 0) 0x22 (omega arith), ne-eqb (getD s p 0) 0x5B (omega arith), eq-eqb (getD s p 0) 0x7B e)
 
-  at-plain : (getD s p 0 ≡ 0x22 → ⊥) → (getD s p 0 ≡ 0x5B → ⊥) → (getD s p 0 ≡ 0x7B → ⊥) → documentAt (suc d) s p ≡ saidNumberAt s p
+  pub at-plain : (getD s p 0 ≡ 0x22 → ⊥) → (getD s p 0 ≡ 0x5B → ⊥) → (getD s p 0 ≡ 0x7B → ⊥) → documentAt (suc d) s p ≡ saidNumberAt s p
   unfolding documentAt
   at-plain x y z = rw (ne-eqb (getD s p 0) 0x22 x, ne-eqb (getD s p 0) 0x5B y, ne-eqb (getD s p 0) 0x7B z)
 
@@ -150,7 +152,7 @@ when-same Nothing none f g h = refl
 
 -- ---- leaves
 
-digit-no : (b c : ℕ) → b ≡ c → isDigit c ≡ false → isDigit b ≡ false
+pub digit-no : (b c : ℕ) → b ≡ c → isDigit c ≡ false → isDigit b ≡ false
 digit-no b c e t = rw e t
 
 whole-no : (s : List ℕ) (p : ℕ) → isDigit (getD s p 0) ≡ false → wholeFrom s p ≡ Wrong
@@ -225,7 +227,7 @@ hash-said : (d : ℕ) (s : List ℕ) (p : ℕ) → hashOf (documentAt (suc d) s 
 unfolding hashOf hashAt isText
 hash-said d s p = go (first (getD s p 0))
   where
-    none : (getD s p 0 ≡ 0x22 → ⊥) → Wrong ≡ hashAt s p
+    none : (getD s p 0 ≡ 0x22 → ⊥) → NoHash ≡ hashAt s p
     none n = rw (ne-eqb (getD s p 0) 0x22 n)
 
     go : First (getD s p 0) → hashOf (documentAt (suc d) s p) ≡ hashAt s p
@@ -306,9 +308,9 @@ module _ (d : ℕ) (s : List ℕ) where
       go (m ∷ []) = text-said d rawText s (valueOf s m)
       go (m ∷ n ∷ l) = refl
 
-  hashed-said : (p : ℕ) → whenOnce (memberOf hashName (documentAt (suc (suc d)) s p)) Wrong hashOf ≡ hashIn s p
+  hashed-said : (p : ℕ) → whenOnce (memberOf hashName (documentAt (suc (suc d)) s p)) NoHash hashOf ≡ hashIn s p
   unfolding hashIn
-  hashed-said p = needed-said (suc d) hashName s p Wrong hashOf ∙ when-same (needed hashName s p) Wrong _ _ (hash-said d s)
+  hashed-said p = needed-said (suc d) hashName s p NoHash hashOf ∙ when-same (needed hashName s p) NoHash _ _ (hash-said d s)
 
   number-said : (name : List ℕ) (p : ℕ) → numberOf name (documentAt (suc (suc d)) s p) ≡ numberIn name s p
   unfolding numberOf numberIn
@@ -326,13 +328,13 @@ module _ (d : ℕ) (s : List ℕ) where
   unfolding settingsOn settingsAt shardingIn
   settings-said p =
       rw (
+        volume-said d s p,
         needed-said (suc (suc (suc d))) shardingName s p NoSharding shardingOn
             ∙ when-same (needed shardingName s p) NoSharding _ _ (sharding-said (suc d) s),
-        volume-said d s p,
       )
 
-  nth-said : (k : ℕ) (l : List ℕ) → whenNth k (map (documentAt (suc (suc (suc (suc d)))) s) l) NoSettings settingsOn ≡ whenAt (pickNth k l) NoSettings (settingsAt s)
-  unfolding pickNth
+  nth-said : (k : ℕ) (l : List ℕ) → whenOnce (nth k (map (documentAt (suc (suc (suc (suc d)))) s) l)) NoSettings settingsOn ≡ whenAt (pickNth k l) NoSettings (settingsAt s)
+  unfolding pickNth nth
   nth-said zero [] = refl
   nth-said (suc k) [] = refl
   nth-said zero (x ∷ l) = settings-said x
@@ -341,14 +343,13 @@ module _ (d : ℕ) (s : List ℕ) where
   scale-said : (k p : ℕ) → settingsIn k (documentAt (suc (suc (suc (suc (suc (suc d)))))) s p) ≡ whenAt (needed scalesName s p) NoSettings (λ v. whenAt (pickNth k (elements s v)) NoSettings (settingsAt s))
   unfolding settingsIn
   scale-said k p =
-      needed-said (suc (suc (suc (suc (suc d))))) scalesName s p NoSettings (λ v. whenNth k (elementsOf v) NoSettings settingsOn)
+      needed-said (suc (suc (suc (suc (suc d))))) scalesName s p NoSettings (λ v. whenOnce (nth k (elementsOf v)) NoSettings settingsOn)
       ∙ when-same (needed scalesName s p) NoSettings _ _ (λ v. rw (elements-said (suc (suc (suc (suc d)))) s v) (nth-said k (elements s v)))
 
 when-twice : {A : Type 0} (q : Found) (none : A) (g : ℕ → Found) (f : ℕ → A) → whenAt (whenAt q Nothing g) none f ≡ whenAt q none (λ v. whenAt (g v) none f)
 when-twice (At v) none g f = refl
 when-twice Nothing none g f = refl
 
--- the settings of scale k are those that the document of the text says
-pub settings-by-document : (s : List ℕ) (k : ℕ) → settingsOf s k ≡ settingsIn k (document s)
-unfolding settingsOf scaleAt element document
-settings-by-document s k = when-twice (needed scalesName s (ws s 0)) NoSettings (λ v. pickNth k (elements s v)) (settingsAt s) ∙ sym (scale-said 26 s k (ws s 0))
+pub settings-by-places : (s : List ℕ) (k : ℕ) → settingsOf s k ≡ settingsIn k (documentFound s)
+unfolding settingsOf scaleAt element documentFound
+settings-by-places s k = when-twice (needed scalesName s (ws s 0)) NoSettings (λ v. pickNth k (elements s v)) (settingsAt s) ∙ sym (scale-said 26 s k (ws s 0))

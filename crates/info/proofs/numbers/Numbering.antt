@@ -32,11 +32,11 @@ digit-range b e = let q = both (leb 0x30 b) (leb b 0x39) e in (leb-true 0x30 b (
 pub digit-here : (s : List ℕ) (i : ℕ) → isDigit (getD s i 0) ≡ true → i < length s
 digit-here s i e = in-text isDigit s i digit-zero e
 
-decimal-on : (s : List ℕ) (i v : ℕ) → isDigit (getD s i 0) ≡ true → decimalOn v (drop i s) ≡ decimalOn (v * 10 + (getD s i 0 - 48)) (drop (i + 1) s)
+pub decimal-on : (s : List ℕ) (i v : ℕ) → isDigit (getD s i 0) ≡ true → decimalOn v (drop i s) ≡ decimalOn (v * 10 + (getD s i 0 - 48)) (drop (i + 1) s)
 unfolding decimalOn
 decimal-on s i v e = let h : i < length s = digit-here s i e in rw (drop-cons s i 0, e, add-one i)
 
-decimal-stop : (s : List ℕ) (i v : ℕ) → isDigit (getD s i 0) ≡ false → decimalOn v (drop i s) ≡ v
+pub decimal-stop : (s : List ℕ) (i v : ℕ) → isDigit (getD s i 0) ≡ false → decimalOn v (drop i s) ≡ v
 unfolding decimalOn
 decimal-stop s i v e = go (ltb i (length s)) refl
   where

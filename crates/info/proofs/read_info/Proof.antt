@@ -1,4 +1,3 @@
-use borrow.Author.Needs.{needs}
 use Rattle.info.proofs.Ways.{info-19, answers}
 use Rattle.info.proofs.read_info.Statement.{statement}
 use Rattle.info.proofs.read_info.Tie as tie
@@ -7,4 +6,16 @@ returns : tie.Need-returns
 returns c = info-19 _ _ (c .before .is-json .ensures) (c .if1 .taken)
 
 pub read-info-spec : {M : Type 1} → statement M
-read-info-spec = tie.close (tie.spec (λ c κs. search needs) returns (λ c κs. search answers) (λ c. search answers) (λ c. search answers) (λ c. search answers) (λ c κs. search answers) (λ c. search answers) (λ c. search answers))
+read-info-spec =
+    tie.close
+    (tie.spec
+    (λ c κs. search answers)
+    returns
+    (λ c κs. search answers)
+    (λ c. search answers)
+    (λ c κs. search answers)
+    (λ c. search answers)
+    (λ c. search answers)
+    (λ c. search answers)
+    (λ c. search answers)
+    (λ c. search answers))

@@ -29,13 +29,15 @@ use Rattle.info.specs.declared.scale.OffsetIn.{OffsetIn}
 use Rattle.info.specs.declared.scale.OffsetIn.the-variants.{Is as OffsetIs, Wrong as NoOffset}
 use Rattle.info.specs.declared.scale.VolumeIn.{VolumeIn}
 use Rattle.info.specs.declared.scale.VolumeIn.the-variants.{Is as VolumeIs, Wrong as NoVolume}
+use Rattle.info.specs.declared.sharding_members.HashIn.{HashIn}
+use Rattle.info.specs.declared.sharding_members.HashIn.the-variants.{Wrong as NoHash}
 use Rattle.info.specs.declared.sharding_members.ShardingIn.{ShardingIn}
-use Rattle.info.specs.declared.sharding_members.ShardingIn.the-variants.{Is as ShardingIs, Wrong as NoSharding}
-use Rattle.info.specs.declared.scale.Settings.the-variants.{Are as SettingsAre, Wrong as NoSettings}
+use Rattle.info.specs.declared.sharding_members.ShardingIn.the-variants.{Is as ShardingIs, UnknownHash, Wrong as NoSharding}
+use Rattle.info.specs.declared.scale.Settings.the-variants.{Are as SettingsAre, UnknownHash as NoKnownHash, Wrong as NoSettings}
 use Rattle.json.specs.members.Places.{elements, isText, onceOf, needed, threeOf, loneOf, fourOf}
 use Rattle.info.specs.numbers.Numbers.{naturalAt, coordinateAt}
 use Rattle.info.specs.sharding_members.Words.{sizeName, chunksName, offsetName, shardingName, typeName, preshiftName, hashName, minishardBitsName, shardBitsName, indexName, dataName, typeText}
-use Rattle.info.specs.scale.Scale.{extentsOf, extentsAt, offsetOf, offsetAt, sizeIn, chunkIn, offsetBy, offsetIn, volumeIn, typed, formed, hashIn, numberIn, numbersOf, numbersIn, shardingAt, shardingIn, settingsAt}
+use Rattle.info.specs.scale.Scale.{extentsOf, extentsAt, offsetOf, offsetAt, sizeIn, chunkIn, offsetBy, offsetIn, volumeIn, typed, formed, hashIn, numberIn, numbersOf, numbersIn, shardingAt, shardingIn, settingsBy, settingsAt}
 use Rattle.info.specs.sharding_members.Values.{rawBy, hashAt, shardingOf}
 use Rattle.info.specs.scale.Parts.{sizeBy, chunkBy, volumeBy, typedBy, hashBy, numberBy, shardingBy}
 
@@ -168,11 +170,11 @@ module _ (s : List ℕ) where
     unfolding typedBy
     typed-some e f = rw (sym eq ∙ e) f
 
-    pub hashed-none : q ≡ Nothing → Wrong ≡ hashBy s g
+    pub hashed-none : q ≡ Nothing → NoHash ≡ hashBy s g
     unfolding hashBy
     hashed-none e = rw (sym eq ∙ e)
 
-    pub hashed-some : {v : ℕ} {r : Number} → q ≡ At v → r ≡ hashAt s v → r ≡ hashBy s g
+    pub hashed-some : {v : ℕ} {r : HashIn} → q ≡ At v → r ≡ hashAt s v → r ≡ hashBy s g
     unfolding hashBy
     hashed-some e f = rw (sym eq ∙ e) f
 
@@ -198,7 +200,7 @@ module _ (s : List ℕ) where
     unfolding formed typed typedBy needed
     formed-is ew ea eb ed = rw (ea, eb, ed, ew)
 
-    pub numbers-are : {w : Four} {a b d e : Number} {r : ShardingIn} → w ≡ fourOf preshiftName hashName minishardBitsName shardBitsName s p
+    pub numbers-are : {w : Four} {a d e : Number} {b : HashIn} {r : ShardingIn} → w ≡ fourOf preshiftName hashName minishardBitsName shardBitsName s p
         → a ≡ numberBy s (w .a) → b ≡ hashBy s (w .b) → d ≡ numberBy s (w .c) → e ≡ numberBy s (w .d) → r ≡ numbersOf a b d e → r ≡ numbersIn s p
     unfolding numbersIn numberIn numberBy hashIn hashBy needed
     numbers-are ew ea eb ed ee f = f ∙ rw (ea, eb, ed, ee, ew)
@@ -212,56 +214,55 @@ module _ (s : List ℕ) where
       unfolding shardingAt
       well-formed e f = rw (sym et ∙ e) f
 
-module _ (p q r t : Number) where
-  pub numbers-1 : p ≡ Wrong → NoSharding ≡ numbersOf p q r t
+module _ (p : Number) (h : HashIn) (r t : Number) where
+  pub numbers-1 : p ≡ Wrong → NoSharding ≡ numbersOf p h r t
   unfolding numbersOf
   numbers-1 e = rw e
 
   module _ {a : ℕ} (ea : p ≡ Is a) where
-    pub numbers-2 : q ≡ Wrong → NoSharding ≡ numbersOf p q r t
+    pub numbers-2 : r ≡ Wrong → NoSharding ≡ numbersOf p h r t
     unfolding numbersOf
     numbers-2 e = rw (ea, e)
 
-    module _ {h : ℕ} (eh : q ≡ Is h) where
-      pub numbers-3 : r ≡ Wrong → NoSharding ≡ numbersOf p q r t
+    module _ {m : ℕ} (em : r ≡ Is m) where
+      pub numbers-3 : t ≡ Wrong → NoSharding ≡ numbersOf p h r t
       unfolding numbersOf
-      numbers-3 e = rw (ea, eh, e)
+      numbers-3 e = rw (ea, em, e)
 
-      module _ {m : ℕ} (em : r ≡ Is m) where
-        pub numbers-4 : t ≡ Wrong → NoSharding ≡ numbersOf p q r t
-        unfolding numbersOf
-        numbers-4 e = rw (ea, eh, em, e)
-
-        pub numbers-all : {n : ℕ} {o : ShardingIn} → t ≡ Is n → o ≡ shardingOf a h m n → o ≡ numbersOf p q r t
-        unfolding numbersOf
-        numbers-all e f = rw (ea, eh, em, e) f
+      pub numbers-all : {n : ℕ} {o : ShardingIn} → t ≡ Is n → o ≡ shardingOf a h m n → o ≡ numbersOf p h r t
+      unfolding numbersOf
+      numbers-all e f = rw (ea, em, e) f
 
 -- ---- the whole
 
-module _ (s : List ℕ) (p : ℕ) {w : Four} (ew : w ≡ fourOf sizeName chunksName offsetName shardingName s p) {a : ShardingIn} (ea : a ≡ shardingBy s (w .d)) where
-  as-sharding : a ≡ shardingIn s p
-  unfolding shardingIn shardingBy needed
-  as-sharding = ea ∙ ap (λ (x : Four). shardingBy s (x .d)) ew
+module _ (s : List ℕ) (p : ℕ) {w : Four} (ew : w ≡ fourOf sizeName chunksName offsetName shardingName s p) {b : VolumeIn} (eb : b ≡ volumeBy s (w .a) (w .b) (w .c)) where
+  as-volume : b ≡ volumeIn s p
+  unfolding volumeIn volumeBy sizeIn sizeBy chunkIn chunkBy offsetIn needed
+  as-volume = eb ∙ ap (λ (x : Four). volumeBy s (x .a) (x .b) (x .c)) ew
 
-  pub settings-sharding : a ≡ NoSharding → NoSettings ≡ settingsAt s p
+  pub settings-volume : b ≡ NoVolume → NoSettings ≡ settingsAt s p
   unfolding settingsAt
-  settings-sharding e = rw (sym as-sharding ∙ e)
+  settings-volume e = rw (sym as-volume ∙ e)
 
-  module _ {g : Sharding} (eg : a ≡ ShardingIs g) {b : VolumeIn} (eb : b ≡ volumeBy s (w .a) (w .b) (w .c)) where
-    as-volume : b ≡ volumeIn s p
-    unfolding volumeIn volumeBy sizeIn sizeBy chunkIn chunkBy offsetIn needed
-    as-volume = eb ∙ ap (λ (x : Four). volumeBy s (x .a) (x .b) (x .c)) ew
+  module _ {v : Volume} (ev : b ≡ VolumeIs v) {a : ShardingIn} (ea : a ≡ shardingBy s (w .d)) where
+    by-sharding : settingsAt s p ≡ settingsBy v a
+    unfolding settingsAt shardingIn shardingBy needed
+    by-sharding = rw (sym as-volume ∙ ev, ea ∙ ap (λ (x : Four). shardingBy s (x .d)) ew)
 
-    pub settings-volume : b ≡ NoVolume → NoSettings ≡ settingsAt s p
-    unfolding settingsAt
-    settings-volume e = rw (sym as-sharding ∙ eg, sym as-volume ∙ e)
+    pub settings-are : {g : Sharding} → a ≡ ShardingIs g → SettingsAre (record { sharding = g; volume = v }) ≡ settingsAt s p
+    unfolding settingsBy
+    settings-are e = sym (by-sharding ∙ rw e)
 
-    pub settings-are : {v : Volume} → b ≡ VolumeIs v → SettingsAre (record { sharding = g; volume = v }) ≡ settingsAt s p
-    unfolding settingsAt
-    settings-are e = rw (sym as-sharding ∙ eg, sym as-volume ∙ e)
+    pub settings-unknown : a ≡ UnknownHash → NoKnownHash ≡ settingsAt s p
+    unfolding settingsBy
+    settings-unknown e = sym (by-sharding ∙ rw e)
+
+    pub settings-sharding : a ≡ NoSharding → NoSettings ≡ settingsAt s p
+    unfolding settingsBy
+    settings-sharding e = sym (by-sharding ∙ rw e)
 
 pub ruleset volumes = (extents-x, extents-y, extents-z, extents-are, extents-none, extents-at, offset-x, offset-y, offset-z, offset-is, offset-none, offset-at, size-none, size-some, chunk-none, chunk-many, chunk-some, offset-once, offset-never, offset-twice, volume-size, volume-chunk, volume-offset, volume-is, needs)
 
-pub ruleset shardings = (typed-none, typed-some, formed-is, hashed-none, hashed-some, number-none, number-some, numbers-are, unformed, well-formed, sharding-none, sharding-some, numbers-1, numbers-2, numbers-3, numbers-4, numbers-all, needs)
+pub ruleset shardings = (typed-none, typed-some, formed-is, hashed-none, hashed-some, number-none, number-some, numbers-are, unformed, well-formed, sharding-none, sharding-some, numbers-1, numbers-2, numbers-3, numbers-all, needs)
 
-pub ruleset answers = (settings-sharding, settings-volume, settings-are, needs)
+pub ruleset answers = (settings-volume, settings-are, settings-unknown, settings-sharding, needs)

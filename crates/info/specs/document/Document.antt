@@ -1,16 +1,16 @@
 -- What a JSON text says, apart from how it is written: no white space, escapes undone, and a number as far as the settings use it.
-use Prim.Native.Nat.{ℕ, zero, suc, _+_}
+use Prim.Native.Nat.{ℕ, zero, suc}
 use mathlib.Core.Bool.{Bool, true, false}
-use mathlib.Core.List.{List, [], _∷_, map}
-use lib.Dec.{eqb}
+use mathlib.Core.List.{List, [], _∷_}
 use Rattle.refusal.specs.Choice.{pick}
-use Rattle.json.specs.tokens.Bytes.{byteAt, isDigit}
-use Rattle.json.specs.tokens.Parts.{ws}
-use Rattle.json.specs.strings.Names.{textAt, eqList}
+use Rattle.json.specs.tokens.Numbers.{FracPart, ExpPart, Numeral, intValue}
+use Rattle.json.specs.strings.Names.{eqList}
+use Rattle.json.specs.strings.Unescaped.{stringText}
 use Rattle.json.specs.Grammar.{deepest}
-use Rattle.json.specs.members.Places.{elements, members, valueOf}
-use Rattle.info.specs.numbers.Numbers.{wholeFrom}
+use Rattle.json.specs.Rfc.{Items, Listed, Member, ValueOf, Value, JsonText}
+use Rattle.info.specs.numbers.Numbers.{in32}
 use Rattle.info.specs.declared.numbers.Number.{Number}
+use Rattle.info.specs.declared.numbers.Number.the-variants.{Wrong}
 
 -- a member
 pub record Entry (D : Type 0) : Type 0 where
@@ -29,23 +29,43 @@ abbrev pub Document : ℕ → Type 0
 Document zero = Unit {0}
 Document (suc d) = DocumentOf (Document d)
 
-unfoldable pub saidNumberAt : {D : Type 0} → List ℕ → ℕ → DocumentOf D
-saidNumberAt s p =
-    pick (eqb (byteAt s p) 0x2D) (number true (wholeFrom s (p + 1)))
-    (pick (isDigit (byteAt s p)) (number false (wholeFrom s p)) word)
+-- ---- what a text says, by the rules of RFC 8259 that derive it
 
--- what the value at p says, to a depth of d
-unfoldable pub documentAt : (d : ℕ) → List ℕ → ℕ → Document d
-documentAt zero s p = tt
-documentAt (suc d) s p =
-    pick (eqb (byteAt s p) 0x22) (string (textAt s p))
-    (pick (eqb (byteAt s p) 0x5B) (array (map (documentAt d s) (elements s p)))
-    (pick (eqb (byteAt s p) 0x7B) (object (map (λ m. record { name = textAt s m; value = documentAt d s (valueOf s m) }) (members s p)))
-    (saidNumberAt s p)))
+-- a number written without fraction and exponent (RULES I6)
+unfoldable pub wholeBy : {s : List ℕ} {j k e : ℕ} → FracPart s j k → ExpPart s k e → ℕ → Number
+wholeBy (FracPart.none a) (ExpPart.none b) n = in32 n
+wholeBy (FracPart.none a) (ExpPart.exp b r) n = Wrong
+wholeBy (FracPart.frac a r) x n = Wrong
 
--- what the whole text says
-unfoldable pub document : List ℕ → Document deepest
-document s = documentAt deepest s (ws s 0)
+unfoldable pub numeralSays : {D : Type 0} {s : List ℕ} {i e : ℕ} → Numeral s i e → DocumentOf D
+numeralSays (Numeral.plain a n f x) = number false (wholeBy f x (intValue n))
+numeralSays (Numeral.minus a n f x) = number true (wholeBy f x (intValue n))
+
+-- the items of a list, where f is what an item says
+unfoldable pub itemsSay : {A : Type 0} {s : List ℕ} {Item : ℕ → ℕ → Type 0} {close i e : ℕ} → ((i e : ℕ) → Item i e → A) → Items s Item close i e → List A
+itemsSay f (Items.last {i = i} {j = j} v w b) = f i j v ∷ []
+itemsSay f (Items.next {i = i} {j = j} v w b x r) = f i j v ∷ itemsSay f r
+
+unfoldable pub listSays : {A : Type 0} {s : List ℕ} {Item : ℕ → ℕ → Type 0} {close i e : ℕ} → ((i e : ℕ) → Item i e → A) → Listed s Item close i e → List A
+listSays f (Listed.empty w b) = []
+listSays f (Listed.some w r) = itemsSay f r
+
+unfoldable pub memberSays : {D : Type 0} {s : List ℕ} {Inner : ℕ → ℕ → Type 0} → ((i e : ℕ) → Inner i e → D) → (i e : ℕ) → Member s Inner i e → Entry D
+memberSays f i e (Member.member {m = m} t w b x v) = record { name = stringText t; value = f m e v }
+
+unfoldable pub valueSays : (d : ℕ) (s : List ℕ) (i e : ℕ) → Value s d i e → Document d
+valueSays zero s i e v = tt
+valueSays (suc d) s i e (ValueOf.is-true t) = word
+valueSays (suc d) s i e (ValueOf.is-null t) = word
+valueSays (suc d) s i e (ValueOf.is-false b t) = word
+valueSays (suc d) s i e (ValueOf.is-number t) = numeralSays t
+valueSays (suc d) s i e (ValueOf.is-string t) = string (stringText t)
+valueSays (suc d) s i e (ValueOf.array b r) = array (listSays (valueSays d s) r)
+valueSays (suc d) s i e (ValueOf.object b r) = object (listSays (memberSays (valueSays d s)) r)
+
+-- what the whole text says: nothing of white space
+unfoldable pub document : {s : List ℕ} → JsonText deepest s → Document deepest
+document {s = s} (JsonText.text i e w v x) = valueSays deepest s i e v
 
 -- ---- asking a document
 
@@ -101,8 +121,8 @@ whenTriple (a ∷ b ∷ []) none f = none
 whenTriple (a ∷ b ∷ c ∷ []) none f = f a b c
 whenTriple (a ∷ b ∷ c ∷ d ∷ l) none f = none
 
--- what follows of the k-th, from 0
-abbrev pub whenNth : {A D : Type 0} → ℕ → List D → A → (D → A) → A
-whenNth k [] none f = none
-whenNth zero (x ∷ l) none f = f x
-whenNth (suc k) (x ∷ l) none f = whenNth k l none f
+-- the k-th of a list, from 0
+unfoldable pub nth : {D : Type 0} → ℕ → List D → Times D
+nth k [] = never
+nth zero (x ∷ l) = once x
+nth (suc k) (x ∷ l) = nth k l

@@ -1,16 +1,11 @@
 -- The settings that a document says: what a reader believes of an info file (order 1; sources 000 and 002).
 use Prim.Native.Nat.{ℕ}
 use mathlib.Core.Bool.{Bool, true, false, _&&_}
-use mathlib.Core.List.{List, _∷_}
+use mathlib.Core.List.{List}
 use lib.Dec.{eqb}
 use Rattle.refusal.specs.Choice.{pick}
-use Rattle.refusal.specs.Checks.{Check, check, answered}
 use Rattle.json.specs.strings.Names.{eqList}
-use Rattle.json.specs.Grammar.{deepest}
 use Rattle.card.specs.Reading.{zeros}
-use Rattle.card.specs.Answers.{recordChecks}
-use Rattle.card.specs.declared.CardAnswer.{CardAnswer}
-use Rattle.card.specs.declared.CardAnswer.the-variants.{Says, Refused}
 use Rattle.info.specs.numbers.Numbers.{whenIs, aboveOf, belowOf}
 use Rattle.info.specs.declared.numbers.Number.{Number}
 use Rattle.info.specs.declared.numbers.Number.the-variants.{Is, Wrong}
@@ -20,14 +15,15 @@ use Rattle.info.specs.declared.scale.OffsetIn.{OffsetIn}
 use Rattle.info.specs.declared.scale.OffsetIn.the-variants.{Is as OffsetIs, Wrong as NoOffset}
 use Rattle.info.specs.declared.scale.VolumeIn.{VolumeIn}
 use Rattle.info.specs.declared.scale.VolumeIn.the-variants.{Is as VolumeIs, Wrong as NoVolume}
+use Rattle.info.specs.declared.sharding_members.HashIn.{HashIn}
+use Rattle.info.specs.declared.sharding_members.HashIn.the-variants.{Known, Unknown, Wrong as NoHash}
 use Rattle.info.specs.declared.sharding_members.ShardingIn.{ShardingIn}
 use Rattle.info.specs.declared.sharding_members.ShardingIn.the-variants.{Wrong as NoSharding}
 use Rattle.info.specs.declared.scale.Settings.{Settings}
-use Rattle.info.specs.declared.scale.Settings.the-variants.{Are as SettingsAre, Wrong as NoSettings}
+use Rattle.info.specs.declared.scale.Settings.the-variants.{Wrong as NoSettings}
 use Rattle.info.specs.sharding_members.Words.{scalesName, sizeName, chunksName, offsetName, shardingName, typeName, preshiftName, hashName, minishardBitsName, shardBitsName, indexName, dataName, typeText, rawText, identityText, murmurText}
-use Rattle.info.specs.Answers.{noSettings, recordOf}
-use Rattle.info.specs.scale.Scale.{whenExtents, whenOffset, whenVolume, whenSharding, extentsOf, offsetOf, numbersOf}
-use Rattle.info.specs.document.Document.{DocumentOf, Document, Times, times, memberOf, elementsOf, saysText, whenOnce, whenTriple, whenNth}
+use Rattle.info.specs.scale.Scale.{whenExtents, whenOffset, whenVolume, extentsOf, offsetOf, numbersOf, settingsBy}
+use Rattle.info.specs.document.Document.{DocumentOf, Times, times, memberOf, elementsOf, saysText, whenOnce, whenTriple, nth}
 use Rattle.info.specs.document.Document.DocumentOf.{word, number, string, array, object}
 use Rattle.info.specs.document.Document.Times.{never, once, twice}
 
@@ -81,13 +77,13 @@ rawGiven never = true
 rawGiven (once v) = saysText rawText v
 rawGiven twice = false
 
--- the number of a hash, by its name: 2, which no specification may have, "answers an unknown hash name" with 1 (RULES I7)
-unfoldable pub hashOf : {D : Type 0} → DocumentOf D → Number
-hashOf word = Wrong
-hashOf (number m n) = Wrong
-hashOf (string t) = pick (eqList t identityText) (Is 0) (pick (eqList t murmurText) (Is 1) (Is 2))
-hashOf (array l) = Wrong
-hashOf (object l) = Wrong
+-- the hash by its name; a name that is not known is a case of its own (RULES I7)
+unfoldable pub hashOf : {D : Type 0} → DocumentOf D → HashIn
+hashOf word = NoHash
+hashOf (number m n) = NoHash
+hashOf (string t) = pick (eqList t identityText) (Known 0) (pick (eqList t murmurText) (Known 1) Unknown)
+hashOf (array l) = NoHash
+hashOf (object l) = NoHash
 
 unfoldable pub numberOf : {D : Type 0} → List ℕ → DocumentOf (DocumentOf D) → Number
 numberOf name g = whenOnce (memberOf name g) Wrong naturalOf
@@ -95,23 +91,13 @@ numberOf name g = whenOnce (memberOf name g) Wrong naturalOf
 unfoldable pub shardingOn : {D : Type 0} → DocumentOf (DocumentOf D) → ShardingIn
 shardingOn g =
     pick (typeSaid g && (rawGiven (memberOf indexName g) && rawGiven (memberOf dataName g)))
-    (numbersOf (numberOf preshiftName g) (whenOnce (memberOf hashName g) Wrong hashOf) (numberOf minishardBitsName g) (numberOf shardBitsName g)) NoSharding
+    (numbersOf (numberOf preshiftName g) (whenOnce (memberOf hashName g) NoHash hashOf) (numberOf minishardBitsName g) (numberOf shardBitsName g)) NoSharding
 
 -- the settings of a scale
 unfoldable pub settingsOn : {D : Type 0} → DocumentOf (DocumentOf (DocumentOf (DocumentOf D))) → Settings
 settingsOn scale =
-    whenSharding (whenOnce (memberOf shardingName scale) NoSharding shardingOn) NoSettings
-    (λ a. whenVolume (volumeOf scale) NoSettings (λ v. SettingsAre (record { sharding = a; volume = v })))
+    whenVolume (volumeOf scale) NoSettings (λ v. settingsBy v (whenOnce (memberOf shardingName scale) NoSharding shardingOn))
 
 -- of scale k, from 0, of the outermost value's scales (RULES I5)
 unfoldable pub settingsIn : {D : Type 0} → ℕ → DocumentOf (DocumentOf (DocumentOf (DocumentOf (DocumentOf (DocumentOf D))))) → Settings
-settingsIn k doc = whenOnce (memberOf scalesName doc) NoSettings (λ v. whenNth k (elementsOf v) NoSettings settingsOn)
-
--- ---- what a text whose document this is gets for scale k: "20 no scale k, a needed member missing, a used one doubled or of the wrong kind,
--- another @type or a refused encoding", then 1, 2 and 3 as for a card, else the record
-
-unfoldable pub saidChecks : ℕ → Document deepest → List Check
-saidChecks k d = check 20 (noSettings (settingsIn k d)) ∷ recordChecks (recordOf (settingsIn k d))
-
-unfoldable pub saidAnswer : ℕ → Document deepest → CardAnswer
-saidAnswer k d = answered Refused (saidChecks k d) (Says (recordOf (settingsIn k d)))
+settingsIn k doc = whenOnce (memberOf scalesName doc) NoSettings (λ v. whenOnce (nth k (elementsOf v)) NoSettings settingsOn)

@@ -11,6 +11,8 @@ use Rattle.info.specs.declared.scale.ExtentsIn.{ExtentsIn}
 use Rattle.info.specs.declared.scale.ExtentsIn.the-variants.{Wrong as NoExtents}
 use Rattle.info.specs.declared.scale.VolumeIn.{VolumeIn}
 use Rattle.info.specs.declared.scale.VolumeIn.the-variants.{Is as VolumeIs, Wrong as NoVolume}
+use Rattle.info.specs.declared.sharding_members.HashIn.{HashIn}
+use Rattle.info.specs.declared.sharding_members.HashIn.the-variants.{Wrong as NoHash}
 use Rattle.info.specs.declared.sharding_members.ShardingIn.{ShardingIn}
 use Rattle.info.specs.declared.sharding_members.ShardingIn.the-variants.{Wrong as NoSharding}
 use Rattle.info.specs.sharding_members.Words.{typeText}
@@ -31,8 +33,8 @@ volumeBy s f g h =
 unfoldable pub typedBy : List ℕ → Given → Bool
 typedBy s g = whenAt (onceOf g) false (isText typeText s)
 
-unfoldable pub hashBy : List ℕ → Given → Number
-hashBy s g = whenAt (onceOf g) Wrong (hashAt s)
+unfoldable pub hashBy : List ℕ → Given → HashIn
+hashBy s g = whenAt (onceOf g) NoHash (hashAt s)
 
 unfoldable pub numberBy : List ℕ → Given → Number
 numberBy s g = whenAt (onceOf g) Wrong (naturalAt s)

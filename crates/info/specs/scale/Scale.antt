@@ -6,7 +6,6 @@ use Rattle.refusal.specs.Choice.{pick}
 use Rattle.morton.specs.declared.grid.Extents.{Extents}
 use Rattle.morton.specs.declared.grid.Offset.{Offset}
 use Rattle.morton.specs.declared.grid.Volume.{Volume}
-use Rattle.sharding.specs.declared.Sharding.{Sharding}
 use Rattle.card.specs.fields.Twos.{signed32}
 use Rattle.card.specs.Reading.{zeros}
 use Rattle.json.specs.declared.tokens.Found.{Found}
@@ -24,10 +23,12 @@ use Rattle.info.specs.declared.scale.OffsetIn.{OffsetIn}
 use Rattle.info.specs.declared.scale.OffsetIn.the-variants.{Is as OffsetIs, Wrong as NoOffset}
 use Rattle.info.specs.declared.scale.VolumeIn.{VolumeIn}
 use Rattle.info.specs.declared.scale.VolumeIn.the-variants.{Is as VolumeIs, Wrong as NoVolume}
+use Rattle.info.specs.declared.sharding_members.HashIn.{HashIn}
+use Rattle.info.specs.declared.sharding_members.HashIn.the-variants.{Wrong as NoHash}
 use Rattle.info.specs.declared.sharding_members.ShardingIn.{ShardingIn}
-use Rattle.info.specs.declared.sharding_members.ShardingIn.the-variants.{Is as ShardingIs, Wrong as NoSharding}
+use Rattle.info.specs.declared.sharding_members.ShardingIn.the-variants.{Is as ShardingIs, UnknownHash, Wrong as NoSharding}
 use Rattle.info.specs.declared.scale.Settings.{Settings}
-use Rattle.info.specs.declared.scale.Settings.the-variants.{Are as SettingsAre, Wrong as NoSettings}
+use Rattle.info.specs.declared.scale.Settings.the-variants.{Are as SettingsAre, UnknownHash as NoKnownHash, Wrong as NoSettings}
 use Rattle.json.specs.members.Places.{elements, isText, member, needed, threeOf, loneOf}
 use Rattle.info.specs.numbers.Numbers.{whenIs, naturalAt, coordinateAt}
 use Rattle.info.specs.sharding_members.Words.{sizeName, chunksName, offsetName, shardingName, typeName, preshiftName, hashName, minishardBitsName, shardBitsName, indexName, dataName, typeText}
@@ -54,10 +55,6 @@ whenOffset NoOffset none f = none
 abbrev pub whenVolume : {A : Type 0} → VolumeIn → A → (Volume → A) → A
 whenVolume (VolumeIs v) none f = f v
 whenVolume NoVolume none f = none
-
-abbrev pub whenSharding : {A : Type 0} → ShardingIn → A → (Sharding → A) → A
-whenSharding (ShardingIs s) none f = f s
-whenSharding NoSharding none f = none
 
 -- ---- the volume
 
@@ -108,15 +105,14 @@ typed s p = whenAt (needed typeName s p) false (isText typeText s)
 unfoldable pub formed : List ℕ → ℕ → Bool
 formed s p = typed s p && (rawBy s (member indexName s p) && rawBy s (member dataName s p))
 
-unfoldable pub hashIn : List ℕ → ℕ → Number
-hashIn s p = whenAt (needed hashName s p) Wrong (hashAt s)
+unfoldable pub hashIn : List ℕ → ℕ → HashIn
+hashIn s p = whenAt (needed hashName s p) NoHash (hashAt s)
 
 unfoldable pub numberIn : List ℕ → List ℕ → ℕ → Number
 numberIn name s p = whenAt (needed name s p) Wrong (naturalAt s)
 
-unfoldable pub numbersOf : Number → Number → Number → Number → ShardingIn
-numbersOf p q r t =
-    whenIs p NoSharding (λ a. whenIs q NoSharding (λ h. whenIs r NoSharding (λ m. whenIs t NoSharding (λ n. shardingOf a h m n))))
+unfoldable pub numbersOf : Number → HashIn → Number → Number → ShardingIn
+numbersOf p h r t = whenIs p NoSharding (λ a. whenIs r NoSharding (λ m. whenIs t NoSharding (λ n. shardingOf a h m n)))
 
 unfoldable pub numbersIn : List ℕ → ℕ → ShardingIn
 numbersIn s p = numbersOf (numberIn preshiftName s p) (hashIn s p) (numberIn minishardBitsName s p) (numberIn shardBitsName s p)
@@ -129,7 +125,12 @@ shardingIn s p = whenAt (needed shardingName s p) NoSharding (shardingAt s)
 
 -- ---- the whole
 
+-- "1, which also answers an unknown hash name": no record says such a hash
+unfoldable pub settingsBy : Volume → ShardingIn → Settings
+settingsBy v (ShardingIs g) = SettingsAre (record { sharding = g; volume = v })
+settingsBy v UnknownHash = NoKnownHash
+settingsBy v NoSharding = NoSettings
+
 -- the settings of the scale at p
 unfoldable pub settingsAt : List ℕ → ℕ → Settings
-settingsAt s p =
-    whenSharding (shardingIn s p) NoSettings (λ a. whenVolume (volumeIn s p) NoSettings (λ v. SettingsAre (record { sharding = a; volume = v })))
+settingsAt s p = whenVolume (volumeIn s p) NoSettings (λ v. settingsBy v (shardingIn s p))

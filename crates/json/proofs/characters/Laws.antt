@@ -5,7 +5,7 @@ use mathlib.Core.List.{List}
 use mathlib.Core.Bool.{Bool, true, false}
 use native.Mathlib.Omega.{arith}
 use lib.ListN.{length, getD}
-use borrow.Author.Tests.{ltb-true, ltb-false}
+use borrow.Author.Tests.{ltb-true, ltb-false, le-ltb}
 use Rattle.json.specs.tokens.Bytes.{choose, under}
 use Rattle.json.proofs.tokens.Laws.{if-yes, within}
 use Rattle.json.specs.characters.Chars.{charLen, escapeLen, utf8Len}
@@ -18,6 +18,10 @@ pub not-under : (c k : ℕ) → under c k ≡ false → k ≤ c
 unfolding under
 not-under c k e = ltb-false c k e
 
+pub to-not-under : (c k : ℕ) → k ≤ c → under c k ≡ false
+unfolding under
+to-not-under c k h = le-ltb c k h
+
 -- where a character is, the text is
 pub char-here : (s : List ℕ) (i k : ℕ) → k ≡ charLen s i → (k ≡ 0 → ⊥) → i < length s
 unfolding charLen
@@ -27,7 +31,7 @@ char-here s i k e h = go (under (getD s i 0) 0x20) refl
     go true q = absurd (h (e ∙ if-yes _ _ _ q))
     go false q = within s i (omega (arith, not-under (getD s i 0) 0x20 q))
 
-if-le : (k : ℕ) (t : Bool) (a b : ℕ) → a ≤ k → b ≤ k → choose t a b ≤ k
+pub if-le : (k : ℕ) (t : Bool) (a b : ℕ) → a ≤ k → b ≤ k → choose t a b ≤ k
 unfolding choose
 if-le k true a b p q = p
 if-le k false a b p q = q

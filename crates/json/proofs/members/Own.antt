@@ -12,11 +12,25 @@ use Rattle.json.specs.declared.tokens.Found.the-variants.{At, Nothing}
 use Rattle.json.proofs.tokens.Laws.{then-at}
 use Rattle.json.proofs.strings.Characters.{string-complete}
 use Rattle.json.specs.Grammar.{deepest, endOf}
-use Rattle.json.specs.Rfc.{Items, Listed, Member, Value, itemPlaces, places, valuePlace}
+use Rattle.json.specs.Rfc.{Items, Listed, Member, Value}
 use Rattle.json.proofs.Agree.{opens, opens-ws, opens-not, no-ws, ws-max, Closes, square, curly, value-opens, member-opens, mark-complete, mark-other, comma-solid, colon-solid, value-complete, member-found}
 use Rattle.json.proofs.Deeper.{value-deeper, member-map}
 use Rattle.json.specs.members.Places.{nextElement, nextMember, valueOf, firstIn, itemsBy, itemsFrom, elements, members}
 use Rattle.json.proofs.members.Items.{Onward, element-onward, member-onward, first-onward, first-empty, first-some, items-cons, items-last}
+
+-- where the items of a list begin
+
+unfoldable pub itemPlaces : {s : List ℕ} {Item : ℕ → ℕ → Type 0} {close i e : ℕ} → Items s Item close i e → List ℕ
+itemPlaces (Items.last {i = i} v w b) = i ∷ []
+itemPlaces (Items.next {i = i} v w b x r) = i ∷ itemPlaces r
+
+unfoldable pub places : {s : List ℕ} {Item : ℕ → ℕ → Type 0} {close i e : ℕ} → Listed s Item close i e → List ℕ
+places (Listed.empty w b) = []
+places (Listed.some w r) = itemPlaces r
+
+-- where a member's value begins
+unfoldable pub valuePlace : {s : List ℕ} {Inner : ℕ → ℕ → Type 0} {i e : ℕ} → Member s Inner i e → ℕ
+valuePlace (Member.member {m = m} t w b x v) = m
 
 none-from : (next : ℕ → Found) (s : List ℕ) → itemsFrom next s Nothing ≡ []
 unfolding itemsBy

@@ -10,8 +10,8 @@ use lib.ListN.{length, getD}
 use Rattle.refusal.proofs.Tests.{both}
 use Rattle.json.specs.tokens.Bytes.{choose, same, under, inside, byteAt}
 use Rattle.json.proofs.tokens.Laws.{if-yes, is-same, to-same}
-use Rattle.json.specs.characters.Chars.{isHex, isShort, utf8Len, escapeLen, charLen, utf8At, Utf8}
-use Rattle.json.specs.strings.Chars.{Chars, String}
+use Rattle.json.specs.characters.Chars.{isHex, isShort, utf8Len, utf8At, Utf8}
+use Rattle.json.specs.strings.Chars.{Char, Chars, String}
 
 pub encoded-both : (s : List ℕ) (i j e : ℕ) → Utf8 s i j → Utf8 s j e → Utf8 s i e
 encoded-both s i j e Utf8.done r = r
@@ -38,16 +38,6 @@ encoded-step s i j e q h r = encoded-low s i e h (subst⁻¹ (λ (n : ℕ). Utf8
 pub or-case : (C : Type 0) (x y : Bool) → (x || y) ≡ true → (x ≡ true → C) → (y ≡ true → C) → C
 or-case C true y e f g = f refl
 or-case C false y e f g = g e
-
-if-none : (C : Type 0) (t : Bool) (a b : ℕ) → (choose t a b ≡ 0 → ⊥) → (t ≡ true → (a ≡ 0 → ⊥) → C) → (t ≡ false → (b ≡ 0 → ⊥) → C) → C
-unfolding choose
-if-none C true a b h f g = f refl h
-if-none C false a b h f g = g refl h
-
-if-is : (C : Type 0) (t : Bool) (a b n : ℕ) → choose t a b ≡ n → (t ≡ true → a ≡ n → C) → (t ≡ false → b ≡ n → C) → C
-unfolding choose
-if-is C true a b n h f g = f refl h
-if-is C false a b n h f g = g refl h
 
 pub same-low : (b c : ℕ) → same b c ≡ true → c < 128 → b < 128
 same-low b c e h = omega (arith, is-same b c e)
@@ -83,34 +73,14 @@ module _ (s : List ℕ) (i e : ℕ) where
       encoded-low s i e a (encoded-step s (i + 1) (i + 2) e (omega arith) b (encoded-step s (i + 2) (i + 3) e (omega arith) c
       (encoded-step s (i + 3) (i + 4) e (omega arith) d (encoded-step s (i + 4) (i + 5) e (omega arith) f (encoded-step s (i + 5) (i + 6) e (omega arith) g r)))))
 
-  escape-encoded : (n : ℕ) → same (byteAt s i) 0x5C ≡ true
-      → escapeLen (byteAt s (i + 1)) (byteAt s (i + 2)) (byteAt s (i + 3)) (byteAt s (i + 4)) (byteAt s (i + 5)) ≡ n → (n ≡ 0 → ⊥) → Utf8 s (i + n) e → Utf8 s i e
-  unfolding escapeLen
-  escape-encoded n t q z r =
-      let a : byteAt s i < 128 = same-low (byteAt s i) 0x5C t (omega arith) in
-      if-is _ _ _ _ n q
-      (λ x p. short-encoded a (short-low _ x) (subst⁻¹ (λ (m : ℕ). Utf8 s (i + m) e) p r))
-      (λ x p. if-is _ _ _ _ n p
-      (λ y w.
-      let c = both (same (byteAt s (i + 1)) 0x75) _ y in
-      let d = both (isHex (byteAt s (i + 2))) _ (c .1) in
-      let f = both (isHex (byteAt s (i + 3))) _ (d .1) in
-      let g = both (isHex (byteAt s (i + 4))) (isHex (byteAt s (i + 5))) (f .1) in
-      unit-encoded a (same-low (byteAt s (i + 1)) 0x75 (c .0) (omega arith)) (hex-low _ (d .0)) (hex-low _ (f .0)) (hex-low _ (g .0)) (hex-low _ (g .1))
-      (subst⁻¹ (λ (m : ℕ). Utf8 s (i + m) e) w r))
-      (λ y w. absurd (z (sym w))))
-
-  char-encoded : (n : ℕ) → charLen s i ≡ n → (n ≡ 0 → ⊥) → Utf8 s (i + n) e → Utf8 s i e
-  unfolding charLen utf8At
-  char-encoded n q z r =
-      if-is _ _ _ _ n q (λ t p. absurd (z (sym p)))
-      (λ t p. if-is _ _ _ _ n p (λ u w. absurd (z (sym w)))
-      (λ u w. if-is _ _ _ _ n w (λ v x. escape-encoded n v x z r)
-      (λ v x. Utf8.one {i = i} (λ y. z (sym x ∙ y)) (subst⁻¹ (λ (m : ℕ). Utf8 s (i + m) e) x r))))
+  char-encoded : (j : ℕ) → Char s i j → Utf8 s j e → Utf8 s i e
+  char-encoded j (Char.plain a b c d) r = Utf8.one {i = i} d r
+  char-encoded j (Char.short a b) r = short-encoded (omega arith) (short-low _ b) r
+  char-encoded j (Char.unit a b c d f g) r = unit-encoded (omega arith) (omega arith) (hex-low _ c) (hex-low _ d) (hex-low _ f) (hex-low _ g) r
 
 chars-encoded : (s : List ℕ) (i e : ℕ) → Chars s i e → Utf8 s i e
 chars-encoded s i e Chars.none = Utf8.done
-chars-encoded s i e (Chars.more h r) = char-encoded s i e (charLen s i) refl h (chars-encoded s (i + charLen s i) e r)
+chars-encoded s i e (Chars.more {j = j} c r) = char-encoded s i e j c (chars-encoded s j e r)
 
 pub string-encoded : (s : List ℕ) (i e : ℕ) → String s i e → Utf8 s i e
 string-encoded s i e (String.string {j = j} a r b) =

@@ -10,7 +10,7 @@ use lib.Seq.{drop-cons}
 use borrow.Author.Tests.{ltb-true, ltb-false, leb-true, eq-eqb, ne-eqb}
 use Rattle.json.specs.tokens.Bytes.{choose, byteAt, same, under, inside}
 use Rattle.json.specs.characters.Chars.{charLen, utf8Len}
-use Rattle.json.specs.strings.Names.{unitAt, utf8, isPair, unitBytes, charBytes, unescaped, eqList, asciiOf, asciiAt}
+use Rattle.json.specs.strings.Names.{unitAt, utf8, loneUnit, isPair, unitBytes, charBytes, unescaped, eqList, asciiOf, asciiAt}
 use lib.Dec.{leb, ltb, eqb}
 use Rattle.json.proofs.tokens.Laws.{if-yes, if-no, if-eq, if-ne, to-not-same}
 use Rattle.json.proofs.characters.Laws.{is-under, not-under, char-here}
@@ -73,7 +73,7 @@ pair-unit s i e =
     (q .0, q .1, omega arith)
 
 unit-head : (s : List ℕ) (i : ℕ) → Head (asciiOf (unitAt s (i + 2))) (unitBytes s i)
-unfolding unitBytes
+unfolding unitBytes loneUnit
 unit-head s i =
     if-list _ _ _ _ (λ t. big _ _ (ascii-big _ (pair-unit s i t .2)) (omega arith))
     (λ t. if-list _ _ _ _ (λ u. high (ascii-big _ (omega (arith, from 0xD800 0xDFFF (unitAt s (i + 2)) u))) (omega arith)) (λ u. utf8-head _))

@@ -31,17 +31,23 @@ shortByte b =
     choose (same b 0x62) 0x08 (choose (same b 0x66) 0x0C (choose (same b 0x6E) 0x0A
     (choose (same b 0x72) 0x0D (choose (same b 0x74) 0x09 b))))
 
+-- the code point of a high and a low surrogate
+abbrev pub paired : ℕ → ℕ → ℕ
+paired u v = 0x10000 + (u - 0xD800) * 1024 + (v - 0xDC00)
+
+-- the bytes of a unit by itself; half a pair alone is 256, which is no byte, so that no name has it
+unfoldable pub loneUnit : ℕ → List ℕ
+loneUnit u = choose (inside 0xD800 0xDFFF u) (256 ∷ []) (utf8 u)
+
 -- at i stands \uXXXX of a high surrogate, with the \uXXXX of a low one behind it
 unfoldable pub isPair : List ℕ → ℕ → Bool
 isPair s i =
     (same (byteAt s i) 0x5C && same (byteAt s (i + 1)) 0x75) && (inside 0xD800 0xDBFF (unitAt s (i + 2))
     && (same (charLen s (i + 6)) 6 && inside 0xDC00 0xDFFF (unitAt s (i + 8))))
 
--- the bytes that \uXXXX at i stands for; half a pair alone is 256, which is no byte, so that no name has it
+-- the bytes that \uXXXX at i stands for, with the \uXXXX behind it where the two are a pair
 unfoldable pub unitBytes : List ℕ → ℕ → List ℕ
-unitBytes s i =
-    choose (isPair s i) (utf8 (0x10000 + (unitAt s (i + 2) - 0xD800) * 1024 + (unitAt s (i + 8) - 0xDC00)))
-    (choose (inside 0xD800 0xDFFF (unitAt s (i + 2))) (256 ∷ []) (utf8 (unitAt s (i + 2))))
+unitBytes s i = choose (isPair s i) (utf8 (paired (unitAt s (i + 2)) (unitAt s (i + 8)))) (loneUnit (unitAt s (i + 2)))
 
 -- what the character at i stands for
 unfoldable pub charBytes : List ℕ → ℕ → List ℕ

@@ -3,11 +3,10 @@ use Prim.Native.Nat.{ℕ}
 use mathlib.Core.List.{List}
 use mathlib.Core.Path.{refl}
 use native.Mathlib.Omega.{arith}
-use Rattle.refusal.specs.Checks.{RefusesAt}
 use Rattle.refusal.specs.Result.{DecidedBy}
 use Rattle.refusal.proofs.Results.{decided-at}
 use Rattle.refusal.proofs.Picks.{AllIn, all-in-both}
-use Rattle.refusal.proofs.Positions.{refusing-at}
+use Rattle.refusal.proofs.Positions.{RefusesAt, refusing-at}
 use Rattle.sharding.specs.declared.Sharding.{Sharding}
 use Rattle.lookup.specs.declared.id_search.LookupAnswer.the-variants.{Refused, Faulty}
 use Rattle.lookup.specs.Find.{lookupChecks, lookupResult}

@@ -7,13 +7,13 @@ use native.Mathlib.Omega.{arith}
 use lib.Dec.{ltb}
 use lib.ListN.{length}
 use Rattle.refusal.specs.Choice.{pick}
-use Rattle.refusal.specs.Checks.{check, firstNumber, firstPosition, unless, left, refusal, answeredAt, RefusesAt}
+use Rattle.refusal.specs.Checks.{check, firstNumber, firstPosition, unless, left, refusal, answeredAt}
 use Rattle.refusal.specs.Result.{countResult, DecidedBy}
 use Rattle.refusal.proofs.Results.{decided-at}
 use Rattle.refusal.specs.Buffer.{room, over}
 use Rattle.refusal.proofs.Picks.{AllIn, all-in, all-in-both, by-picks}
 use Rattle.refusal.proofs.Refusing.{answered-both}
-use Rattle.refusal.proofs.Positions.{at-both, at-plain, refusing-at, keeping-at}
+use Rattle.refusal.proofs.Positions.{RefusesAt, at-both, at-plain, refusing-at, keeping-at}
 use Rattle.sharding.specs.declared.Sharding.{Sharding}
 use Rattle.shard.specs.Checks.{minishardChecks}
 use Rattle.shard.specs.File.{indexPart, dataPart, badFileLength}

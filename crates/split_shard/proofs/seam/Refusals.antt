@@ -7,9 +7,10 @@ use mathlib.Core.Option.{Option, none}
 use native.Mathlib.Omega.{arith}
 use lib.ListN.{length}
 use borrow.Author.Tests.{eq-eqb}
-use Rattle.refusal.specs.Checks.{Check, check, firstNumber, firstPosition, unless, answered, left, refusal, Refuses, RefusesAt}
+use Rattle.refusal.specs.Checks.{Check, check, firstNumber, firstPosition, unless, answered, left, refusal}
+use Rattle.refusal.proofs.Positions.{RefusesAt}
 use Rattle.refusal.proofs.Picks.{AllIn}
-use Rattle.refusal.proofs.Refusing.{answered-both}
+use Rattle.refusal.proofs.Refusing.{Refuses, answered-both}
 use Rattle.sharding.specs.declared.Sharding.{Sharding}
 use Rattle.sharding.specs.Specification.{allowed}
 use Rattle.shard.specs.File.{indexLength}

@@ -3,4 +3,16 @@ use Rattle.info.proofs.sharding_members.sharding_of.Statement.{statemen
 use Rattle.info.proofs.sharding_members.sharding_of.Tie as tie
 
 pub sharding-of-spec : {M : Type 1} → statement M
-sharding-of-spec = tie.close (tie.spec (λ c. search shardings) (λ c. search shardings) (λ c. search shardings) (λ c. search shardings) (λ c. search shardings) (λ c. search shardings))
+sharding-of-spec =
+    tie.close
+    (tie.spec
+    (λ c. search shardings)
+    (λ c. search shardings)
+    (λ c. search shardings)
+    (λ c. search shardings)
+    (λ c. search shardings)
+    (λ c. search shardings)
+    (λ c. search shardings)
+    (λ c. search shardings)
+    (λ c. search shardings)
+    (λ c. search shardings))
