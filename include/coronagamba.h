@@ -68,8 +68,8 @@
  * Pairs. A shard of the earlier edition is an index file and a data file. The
  * calls on a pair answer as those on one file would for the two joined, and no
  * call joins them: positions and starts count from the index file's first byte.
- * The seam is where the index file ends; 23 is given right after 5 where it is
- * not where the shard index ends.
+ * The seam is where the index file ends; 23 is given right after 5, in a listing
+ * after 33, where it is not where the shard index ends.
  *
  * Intake. A new volume shard is opened, each chunk announced and handed over in
  * parts of any lengths, and the shard closed. The state between two calls is
@@ -130,9 +130,9 @@
  * number, the library that is linked or loaded belongs to another header:
  * structs and answers may differ. */
 #define CORONAGAMBA_VERSION_MAJOR 0
-#define CORONAGAMBA_VERSION_MINOR 5
-#define CORONAGAMBA_VERSION_PATCH 1
-#define CORONAGAMBA_VERSION_STRING "0.5.1"
+#define CORONAGAMBA_VERSION_MINOR 6
+#define CORONAGAMBA_VERSION_PATCH 0
+#define CORONAGAMBA_VERSION_STRING "0.6.0"
 #define CORONAGAMBA_VERSION                      \
   ((uint64_t)CORONAGAMBA_VERSION_PATCH +         \
    ((uint64_t)CORONAGAMBA_VERSION_MINOR << 16) + \
@@ -164,16 +164,15 @@
  * else, where the label width is neither 32 nor 64 bits */
 #define CORONAGAMBA_REFUSED_NO_SUCH_CELL 2
 
-/* a key is made or decoded, or a card read or written, or an info file read,
- * and the grid needs more than 64 key bits */
+/* a key is made or decoded, keys are listed for a box, a card is read or
+ * written, or an info file is read, and the grid needs more than 64 key bits */
 #define CORONAGAMBA_REFUSED_TOO_MANY_KEY_BITS 3
 
 /* a key is no cell of the grid */
 #define CORONAGAMBA_REFUSED_KEY_OF_NO_CELL 4
 
 /* a shard number is not below 2^shard_bits, or the id asked for belongs to
- * another shard; beyond the table, in a listing, also where a minishard
- * number is not below 2^minishard_bits */
+ * another shard */
 #define CORONAGAMBA_REFUSED_NO_SUCH_SHARD 5
 
 /* the shard is shorter than its shard index or longer than 1,073,741,824
@@ -248,7 +247,7 @@
 #define CORONAGAMBA_REFUSED_UNLISTED_BYTES 22
 
 /* of a shard of the earlier two-file edition, the index file is not exactly
- * as long as the shard index; right after 5 */
+ * as long as the shard index; right after 5, in a listing after 33 */
 #define CORONAGAMBA_REFUSED_INDEX_FILE_LENGTH 23
 
 /* a range crosses the seam, is reversed or passes the end */
@@ -285,6 +284,10 @@
 
 /* at an intake, after opening, a lent buffer has another length than then */
 #define CORONAGAMBA_REFUSED_INTAKE_BUFFERS 30
+
+/* a number of this library's own, beyond the papers' table: in a listing or
+ * its count, a minishard number is not below 2^minishard_bits */
+#define CORONAGAMBA_REFUSED_NO_SUCH_MINISHARD 33
 
 /* ---- other numbers ------------------------------------------------------- */
 
@@ -496,8 +499,8 @@ uint64_t coronagamba_check(coronagamba_sharding sharding, uint64_t shard,
                            const uint8_t *file, size_t count);
 
 /* How many chunks a minishard lists. Writes the number to `chunks`.
- * Refusals: 1, 5 (also for a minishard that is not there), 6, 7 to 11, 15 to
- * 17 (mesh), 21 (mesh) of that minishard with the position */
+ * Refusals: 1, 5, 33 for a minishard that is not there, 6, 7 to 11, 15 to 17
+ * (mesh), 21 (mesh) of that minishard with the position */
 uint64_t coronagamba_listed_count(coronagamba_sharding sharding, uint64_t shard,
                                   const uint8_t *file, size_t count,
                                   uint64_t minishard, uint64_t *chunks);
@@ -505,8 +508,8 @@ uint64_t coronagamba_listed_count(coronagamba_sharding sharding, uint64_t shard,
 /* The chunks that a minishard lists, in stored order. Writes three numbers
  * for each to the front of `out`: id, start counted from the file's first
  * byte, length in bytes. Writes how many numbers these are, three times what
- * coronagamba_listed_count gives, to `length`. Refusals: 1, 5 (also for a
- * minishard that is not there), 6, 7 to 11, 15 to 17 (mesh), 21 (mesh) of
+ * coronagamba_listed_count gives, to `length`. Refusals: 1, 5, 33 for a
+ * minishard that is not there, 6, 7 to 11, 15 to 17 (mesh), 21 (mesh) of
  * that minishard with the position, 13 where `out` has room for fewer */
 uint64_t coronagamba_listing(coronagamba_sharding sharding, uint64_t shard,
                              const uint8_t *file, size_t count,
@@ -581,9 +584,9 @@ uint64_t coronagamba_pair_fragment(coronagamba_sharding sharding,
                                    uint64_t *start, uint64_t *length);
 
 /* coronagamba_listed_count of a pair: how many chunks a minishard lists.
- * Writes the number to `chunks`. Refusals: 1, 5 (also for a minishard that
- * is not there), 23, 6, 7 to 11, 15 to 17 (mesh), 21 (mesh) of that
- * minishard with the position */
+ * Writes the number to `chunks`. Refusals: 1, 5, 33 for a minishard that is
+ * not there, 23, 6, 7 to 11, 15 to 17 (mesh), 21 (mesh) of that minishard
+ * with the position */
 uint64_t coronagamba_pair_listed_count(coronagamba_sharding sharding,
                                        uint64_t shard, const uint8_t *index,
                                        size_t count, const uint8_t *data,
@@ -594,9 +597,9 @@ uint64_t coronagamba_pair_listed_count(coronagamba_sharding sharding,
  * stored order. Writes three numbers for each to the front of `out`: id,
  * start counted from the index file's first byte, length in bytes. Writes
  * how many numbers these are, three times what coronagamba_pair_listed_count
- * gives, to `length`. Refusals: 1, 5 (also for a minishard that is not
- * there), 23, 6, 7 to 11, 15 to 17 (mesh), 21 (mesh) of that minishard with
- * the position, 13 where `out` has room for fewer */
+ * gives, to `length`. Refusals: 1, 5, 33 for a minishard that is not there,
+ * 23, 6, 7 to 11, 15 to 17 (mesh), 21 (mesh) of that minishard with the
+ * position, 13 where `out` has room for fewer */
 uint64_t coronagamba_pair_listing(coronagamba_sharding sharding, uint64_t shard,
                                   const uint8_t *index, size_t count,
                                   const uint8_t *data, size_t data_count,
@@ -678,14 +681,15 @@ uint64_t coronagamba_intake_open(coronagamba_sharding sharding, uint64_t shard,
 
 /* Announces the next chunk, by rising minishard and then rising id, and its
  * number of bytes, which are owed from then on. Where it is the first of its
- * minishard, writes the minishard index of the one before to `out`. Writes
- * its id and size to `waiting`, and the new state to `state`. Refusals: 30
- * where a buffer has another length than on opening, 10 where the id belongs
- * to another shard, 25 out of order or after the close or where the state
- * contradicts itself or the last pair of `waiting` or any pair of a
- * minishard that the call ends, 26 while bytes are owed, 13 where the
- * settled form of all announced so far and this chunk would pass `out` or 1
- * GiB or `waiting` has no 16 bytes left for it */
+ * minishard, writes the minishard index of the one before, and that one's
+ * entry in the shard index, to `out`. Writes its id and size to `waiting`,
+ * and the new state to `state`. Refusals: 30 where a buffer has another
+ * length than on opening, 10 where the id belongs to another shard, 25 out
+ * of order or after the close or where the state contradicts itself or the
+ * last pair of `waiting` or any pair of a minishard that the call ends, 26
+ * while bytes are owed, 13 where the settled form of all announced so far
+ * and this chunk would pass `out` or 1 GiB or `waiting` has no 16 bytes left
+ * for it */
 uint64_t coronagamba_intake_announce(uint64_t state[15], uint64_t id,
                                      uint64_t size, uint8_t *out, size_t count,
                                      uint8_t *waiting, size_t waiting_count);

@@ -9,8 +9,8 @@ import ctypes
 from ctypes import POINTER
 from typing import Any, Dict, Tuple
 
-VERSION = (0, 5, 1)
-__version__ = "0.5.1"
+VERSION = (0, 6, 0)
+__version__ = "0.6.0"
 
 # a sharding's hash that leaves an id as it is
 HASH_IDENTITY = 0
@@ -340,8 +340,8 @@ FUNCTIONS: Dict[str, Tuple[Any, Tuple[Any, ...]]] = {
         ),
     ),
     # How many chunks a minishard lists. Writes the number to `chunks`.
-    # Refusals: 1, 5 (also for a minishard that is not there), 6, 7 to 11, 15
-    # to 17 (mesh), 21 (mesh) of that minishard with the position
+    # Refusals: 1, 5, 33 for a minishard that is not there, 6, 7 to 11, 15 to
+    # 17 (mesh), 21 (mesh) of that minishard with the position
     "coronagamba_listed_count": (
         ctypes.c_uint64,
         (
@@ -357,9 +357,9 @@ FUNCTIONS: Dict[str, Tuple[Any, Tuple[Any, ...]]] = {
     # for each to the front of `out`: id, start counted from the file's first
     # byte, length in bytes. Writes how many numbers these are, three times
     # what coronagamba_listed_count gives, to `length`.
-    # Refusals: 1, 5 (also for a minishard that is not there), 6, 7 to 11, 15
-    # to 17 (mesh), 21 (mesh) of that minishard with the position, 13 where
-    # `out` has room for fewer
+    # Refusals: 1, 5, 33 for a minishard that is not there, 6, 7 to 11, 15 to
+    # 17 (mesh), 21 (mesh) of that minishard with the position, 13 where `out`
+    # has room for fewer
     "coronagamba_listing": (
         ctypes.c_uint64,
         (
@@ -487,8 +487,8 @@ FUNCTIONS: Dict[str, Tuple[Any, Tuple[Any, ...]]] = {
     ),
     # coronagamba_listed_count of a pair: how many chunks a minishard lists.
     # Writes the number to `chunks`.
-    # Refusals: 1, 5 (also for a minishard that is not there), 23, 6, 7 to 11,
-    # 15 to 17 (mesh), 21 (mesh) of that minishard with the position
+    # Refusals: 1, 5, 33 for a minishard that is not there, 23, 6, 7 to 11, 15
+    # to 17 (mesh), 21 (mesh) of that minishard with the position
     "coronagamba_pair_listed_count": (
         ctypes.c_uint64,
         (
@@ -507,8 +507,8 @@ FUNCTIONS: Dict[str, Tuple[Any, Tuple[Any, ...]]] = {
     # start counted from the index file's first byte, length in bytes. Writes
     # how many numbers these are, three times what
     # coronagamba_pair_listed_count gives, to `length`.
-    # Refusals: 1, 5 (also for a minishard that is not there), 23, 6, 7 to 11,
-    # 15 to 17 (mesh), 21 (mesh) of that minishard with the position, 13 where
+    # Refusals: 1, 5, 33 for a minishard that is not there, 23, 6, 7 to 11, 15
+    # to 17 (mesh), 21 (mesh) of that minishard with the position, 13 where
     # `out` has room for fewer
     "coronagamba_pair_listing": (
         ctypes.c_uint64,
@@ -655,8 +655,9 @@ FUNCTIONS: Dict[str, Tuple[Any, Tuple[Any, ...]]] = {
     ),
     # Announces the next chunk, by rising minishard and then rising id, and its
     # number of bytes, which are owed from then on. Where it is the first of
-    # its minishard, writes the minishard index of the one before to `out`.
-    # Writes its id and size to `waiting`, and the new state to `state`.
+    # its minishard, writes the minishard index of the one before, and that
+    # one's entry in the shard index, to `out`. Writes its id and size to
+    # `waiting`, and the new state to `state`.
     # Refusals: 30 where a buffer has another length than on opening, 10 where
     # the id belongs to another shard, 25 out of order or after the close or
     # where the state contradicts itself or the last pair of `waiting` or any

@@ -22,16 +22,16 @@ class Numbers:
     # else, where the label width is neither 32 nor 64 bits
     NO_SUCH_CELL = 2
 
-    # a key is made or decoded, or a card read or written, or an info file
-    # read, and the grid needs more than 64 key bits
+    # a key is made or decoded, keys are listed for a box, a card is read or
+    # written, or an info file is read, and the grid needs more than 64 key
+    # bits
     TOO_MANY_KEY_BITS = 3
 
     # a key is no cell of the grid
     KEY_OF_NO_CELL = 4
 
     # a shard number is not below 2^shard_bits, or the id asked for belongs to
-    # another shard; beyond the table, in a listing, also where a minishard
-    # number is not below 2^minishard_bits
+    # another shard
     NO_SUCH_SHARD = 5
 
     # the shard is shorter than its shard index or longer than 1,073,741,824
@@ -106,7 +106,7 @@ class Numbers:
     UNLISTED_BYTES = 22
 
     # of a shard of the earlier two-file edition, the index file is not exactly
-    # as long as the shard index; right after 5
+    # as long as the shard index; right after 5, in a listing after 33
     INDEX_FILE_LENGTH = 23
 
     # a range crosses the seam, is reversed or passes the end
@@ -144,6 +144,10 @@ class Numbers:
     # at an intake, after opening, a lent buffer has another length than then
     INTAKE_BUFFERS = 30
 
+    # a number of this library's own, beyond the papers' table: in a listing or
+    # its count, a minishard number is not below 2^minishard_bits
+    NO_SUCH_MINISHARD = 33
+
 
 # Each number with its sentence, rising.
 SENTENCES: Dict[int, str] = {
@@ -151,10 +155,7 @@ SENTENCES: Dict[int, str] = {
     2: "An extent is zero, or the cell is outside the grid.",
     3: "The grid needs more than 64 key bits.",
     4: "The key is no cell of the grid.",
-    5: (
-        "There is no such shard or minishard, or the id belongs to another "
-        "shard."
-    ),
+    5: "There is no such shard, or the id belongs to another shard.",
     6: "The shard is shorter than its index or longer than 1 GiB.",
     7: "An entry of the shard index is reversed or ends past the file.",
     8: "A minishard index has a length that is no multiple of 24.",
@@ -198,4 +199,5 @@ SENTENCES: Dict[int, str] = {
         "bits."
     ),
     30: "A buffer has another length than when the shard was opened.",
+    33: "There is no such minishard.",
 }

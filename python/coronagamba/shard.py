@@ -132,9 +132,9 @@ class Stored(Releasing):
             self._ask("check", loan)
 
     def listed_count(self, minishard: int) -> int:
-        """How many chunks a minishard lists. Refusals 1, 5 (also for a
-        minishard that is not there), of a pair 23, 6, 7 to 11 and, in a mesh,
-        15 to 17 and 21 of that minishard with a position."""
+        """How many chunks a minishard lists. Refusals 1, 5, 33 for a minishard
+        that is not there, of a pair 23, 6, 7 to 11 and, in a mesh, 15 to 17
+        and 21 of that minishard with a position."""
         chunks = c_uint64()
         with self._lent() as loan:
             self._ask(

@@ -110,7 +110,7 @@ CALLS = {
         lambda: Pair(ONE, 1, b"", b"").check(),
         lambda: Intake(ONE, 1, 99, 16),
         lambda: shard(bytes(16), Sharding(0, 0, 0, 1, 0)).lookup(1),
-        lambda: shard(bytes(16)).listing(1),
+        lambda: shard(bytes(16), ONE, 1).listing(1),
     ],
     6: [
         lambda: shard(b"").check(),
@@ -274,6 +274,11 @@ CALLS = {
         lambda: labels(1, 255 << 24, 0).unpack(bytearray()),
     ],
     30: [other_length],
+    33: [
+        lambda: shard(bytes(16)).listing(1),
+        lambda: shard(b"").listed_count(2**64 - 1),
+        lambda: Pair(ONE, 0, bytes(17), b"").listing(1),
+    ],
 }
 
 

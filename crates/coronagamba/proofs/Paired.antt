@@ -25,12 +25,12 @@ use Rattle.split_shard.specs.declared.held_range.RangeAnswer.the-variants as R
 use Rattle.split_shard.specs.seam.Pair.{pairChecks}
 use Rattle.split_shard.specs.seam.Range.{rangeAnswer}
 use Rattle.split_shard.specs.Answers.{otherShard, pairCheck, pairLookup, pairFragment}
-use Rattle.split_shard.specs.form.Answers.{noMinishard, pairCount, pairListing, pairUnlisted, pairLength, pairSettle}
+use Rattle.split_shard.specs.form.Answers.{pairAskedChecks, pairCount, pairListing, pairUnlisted, pairLength, pairSettle}
 use Rattle.coronagamba.specs.Pairs.{rangeWord, fileAfter, placeAfter, rangeAfter}
 use Rattle.coronagamba.proofs.Told.{told, after}
 use Rattle.coronagamba.proofs.Checked.{minishard-fits, check-fits, lookup-fits, fragment-fits, count-fits, listing-fits, unlisted-fits, length-fits, settle-fits}
 
--- what is no refusal by 1, 5 or 23 is the joined file's answer
+-- what is no refusal by 1, 5, 33 or 23 is the joined file's answer
 joined : {A : Type 0} (n : ℕ) (r : ℕ → A) {f x : A} → ((k : ℕ) → r k ≡ f → ⊥) → unless r n x ≡ f → x ≡ f
 unfolding unless
 joined zero r other e = e
@@ -65,15 +65,15 @@ module _ (spec : Sharding) (shard : ℕ) (index d : List ℕ) where
 
   module _ (m : ℕ) {a : CountAnswer} {k p : ℕ} where
     pub pair-count-fits : a ≡ pairCount spec shard index d m → a ≡ N.Faulty k p → p + 1 < 4294967296
-    unfolding pairCount first
+    unfolding pairCount
     pair-count-fits e h =
-        count-fits spec shard (index ++ d) m refl (joined (first (noMinishard spec shard m)) N.Refused (λ j q. let z : _≡_ {A = ℕ} 0 1 = cc in omega arith) (sym e ∙ h))
+        count-fits spec shard (index ++ d) m refl (joined (firstNumber (pairAskedChecks spec shard m index)) N.Refused (λ j q. let z : _≡_ {A = ℕ} 0 1 = cc in omega arith) (sym e ∙ h))
 
     pub pair-listing-fits : (out : List ℕ) → a ≡ pairListing spec shard index d m out → a ≡ N.Faulty k p → p + 1 < 4294967296
-    unfolding pairListing first
+    unfolding pairListing
     pair-listing-fits out e h =
         listing-fits spec shard (index ++ d) m out refl
-        (joined (first (noMinishard spec shard m)) N.Refused (λ j q. let z : _≡_ {A = ℕ} 0 1 = cc in omega arith) (sym e ∙ h))
+        (joined (firstNumber (pairAskedChecks spec shard m index)) N.Refused (λ j q. let z : _≡_ {A = ℕ} 0 1 = cc in omega arith) (sym e ∙ h))
 
   pub pair-unlisted-fits : {a : UnlistedAnswer} {k p : ℕ} → a ≡ pairUnlisted spec shard index d → a ≡ U.Faulty k p → p + 1 < 4294967296
   unfolding pairUnlisted first

@@ -5,10 +5,10 @@ abbrev pub major : ℕ
 major = 0
 
 abbrev pub minor : ℕ
-minor = 5
+minor = 6
 
 abbrev pub patch : ℕ
-patch = 1
+patch = 0
 
 -- one number: patch + 2^16 × minor + 2^32 × major
 abbrev pub version : ℕ

@@ -50,7 +50,8 @@ pub extern "C" fn coronagamba_intake_open(
 
 // Announces the next chunk, by rising minishard and then rising id, and its number of bytes, which
 // are owed from then on. Where it is the first of its minishard, writes the minishard index of the one
-// before to `out`. Writes its id and size to `waiting`, and the new state to `state`.
+// before, and that one's entry in the shard index, to `out`. Writes its id and size to `waiting`, and
+// the new state to `state`.
 // Refusals: 30 where a buffer has another length than on opening, 10 where the id belongs to another
 // shard, 25 out of order or after the close or where the state contradicts itself or the last pair of
 // `waiting` or any pair of a minishard that the call ends, 26 while bytes are owed, 13 where the settled

@@ -87,7 +87,7 @@ pub extern "C" fn coronagamba_pair_fragment(
 
 // coronagamba_listed_count of a pair: how many chunks a minishard lists. Writes the number to
 // `chunks`.
-// Refusals: 1, 5 (also for a minishard that is not there), 23, 6, 7 to 11, 15 to 17 (mesh), 21 (mesh)
+// Refusals: 1, 5, 33 for a minishard that is not there, 23, 6, 7 to 11, 15 to 17 (mesh), 21 (mesh)
 // of that minishard with the position
 #[no_mangle]
 pub extern "C" fn coronagamba_pair_listed_count(
@@ -109,7 +109,7 @@ pub extern "C" fn coronagamba_pair_listed_count(
 // numbers for each to the front of `out`: id, start counted from the index file's first byte, length
 // in bytes. Writes how many numbers these are, three times what coronagamba_pair_listed_count gives,
 // to `length`.
-// Refusals: 1, 5 (also for a minishard that is not there), 23, 6, 7 to 11, 15 to 17 (mesh), 21 (mesh)
+// Refusals: 1, 5, 33 for a minishard that is not there, 23, 6, 7 to 11, 15 to 17 (mesh), 21 (mesh)
 // of that minishard with the position, 13 where `out` has room for fewer
 #[no_mangle]
 pub extern "C" fn coronagamba_pair_listing(

@@ -79,7 +79,7 @@ pub extern "C" fn coronagamba_check(sharding: CSharding, shard: u64, file: &[u8]
 }
 
 // How many chunks a minishard lists. Writes the number to `chunks`.
-// Refusals: 1, 5 (also for a minishard that is not there), 6, 7 to 11, 15 to 17 (mesh), 21 (mesh) of
+// Refusals: 1, 5, 33 for a minishard that is not there, 6, 7 to 11, 15 to 17 (mesh), 21 (mesh) of
 // that minishard with the position
 #[no_mangle]
 pub extern "C" fn coronagamba_listed_count(
@@ -99,7 +99,7 @@ pub extern "C" fn coronagamba_listed_count(
 // The chunks that a minishard lists, in stored order. Writes three numbers for each to the front of
 // `out`: id, start counted from the file's first byte, length in bytes. Writes how many numbers
 // these are, three times what coronagamba_listed_count gives, to `length`.
-// Refusals: 1, 5 (also for a minishard that is not there), 6, 7 to 11, 15 to 17 (mesh), 21 (mesh) of
+// Refusals: 1, 5, 33 for a minishard that is not there, 6, 7 to 11, 15 to 17 (mesh), 21 (mesh) of
 // that minishard with the position, 13 where `out` has room for fewer
 #[no_mangle]
 pub extern "C" fn coronagamba_listing(

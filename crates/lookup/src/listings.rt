@@ -30,7 +30,7 @@ pub fn listed_count(spec: Sharding, shard: u64, file: &[u8], minishard: u64) -> 
         return CountAnswer::Refused(5);
     }
     if minishard_count(spec) <= minishard {
-        return CountAnswer::Refused(5);
+        return CountAnswer::Refused(33);
     }
     if file.len() < index_length(spec) {
         return CountAnswer::Refused(6);

@@ -5,16 +5,14 @@ use mathlib.Core.Bool.{Bool, true, false, not, _||_}
 use mathlib.Core.List.{List, [], _∷_, _++_}
 use mathlib.Core.Option.{none, some}
 use native.Mathlib.Omega.{arith}
-use lib.Dec.{leb, eqb}
+use lib.Dec.{eqb}
 use lib.ListN.{length, length-drop}
 use lib.Seq.{length-take-le}
-use borrow.Author.Tests.{leb-false}
 use Rattle.refusal.specs.Choice.{pick}
-use Rattle.refusal.specs.Checks.{Check, firstNumber, firstPosition}
+use Rattle.refusal.specs.Checks.{Check, check, firstNumber, firstPosition}
 use Rattle.refusal.specs.Buffer.{room}
 use Rattle.refusal.specs.declared.Written.{Written}
 use Rattle.refusal.specs.declared.Written.the-variants.{Length as Wrote, Refused as NotWritten}
-use Rattle.refusal.proofs.Tests.{neither}
 use Rattle.refusal.proofs.Positions.{Plain}
 use Rattle.endian.specs.Little.{leAt, rowAt}
 use Rattle.endian.specs.Range.{anyBelow, first}
@@ -31,7 +29,7 @@ use Rattle.shard.specs.index.Tests.{EntryTest, entryTest, testPlace}
 use Rattle.shard.specs.manifests.Mesh.{wrongLength, badReal, unorderedNodes, fragmentsOutside, manifestTests}
 use Rattle.shard.specs.Faults.{badEntry, badLength, badId, foreignAt, endsPast, meshTests, entryTests}
 use Rattle.shard.specs.Checks.{entryChecks, minishardChecks}
-use Rattle.shard.specs.File.{indexLength, indexPart, dataPart, fileChecks, checkAnswer}
+use Rattle.shard.specs.File.{indexLength, indexPart, dataPart, badFileLength, fileChecks, checkAnswer}
 use Rattle.shard.proofs.Judged.{entry-within}
 use Rattle.shard.proofs.Numbers.{file-called}
 use Rattle.shard.proofs.Whole.{check-names}
@@ -44,7 +42,8 @@ use Rattle.lookup.proofs.Refused.{lookup-refuses}
 use Rattle.lookup.specs.fragments.Fragment.{fragmentAnswer}
 use Rattle.lookup.proofs.fragments.Handed.{fragment-faulty}
 use Rattle.lookup.specs.declared.listings.CountAnswer.the-variants as N
-use Rattle.lookup.specs.listings.Listing.{listingOf, countChecks, countAnswer, listingChecks, listingAnswer}
+use Rattle.lookup.specs.listings.Listing.{listingOf, askedChecks, countChecks, countAnswer, listingChecks, listingAnswer}
+use Rattle.lookup.proofs.listings.Listings.{asked-called}
 use Rattle.lookup.proofs.listings.Refused.{count-refuses, listing-refuses}
 use Rattle.unlisted.specs.ranges.Covered.{fileUnlisted}
 use Rattle.unlisted.specs.declared.UnlistedAnswer.the-variants as U
@@ -259,12 +258,12 @@ fragment-points spec shard file id level node k p e = lookup-points spec shard f
 
 module _ (spec : Sharding) (shard : ℕ) (file : List ℕ) (m k p : ℕ) where
   counted : firstNumber (countChecks spec shard file m) ≡ k → firstPosition (countChecks spec shard file m) ≡ some p → PointsAt spec shard file m k p
-  unfolding countChecks
+  unfolding countChecks askedChecks
   counted u v =
-      let five = noSuchShard spec shard || leb (minishardCount spec) m in
-      let a = after-plain (fileChecks spec five file) (minishardChecks spec shard (indexPart spec file) (dataPart spec file) m) (file-plain spec five file) v in
-      let c = file-called spec five file (a .0) in
-      points spec shard file m (c .held) (c .short) (leb-false _ _ (neither (noSuchShard spec shard) _ (c .other) .1)) k p (sym (a .1) ∙ u) (a .2)
+      let checks = askedChecks spec shard m ++ (check 6 (badFileLength spec (length file)) ∷ []) in
+      let a = after-plain checks (minishardChecks spec shard (indexPart spec file) (dataPart spec file) m) (refl, (refl, (refl, (refl, tt)))) v in
+      let c = asked-called spec shard file m (a .0) in
+      points spec shard file m (c .held) (c .short) (c .below) k p (sym (a .1) ∙ u) (a .2)
 
   pub count-points : countAnswer spec shard file m ≡ N.Faulty k p → PointsAt spec shard file m k p
   count-points e = let g = count-refuses spec shard file m .decided k (some p) .0 e in counted (g .0) (g .1)

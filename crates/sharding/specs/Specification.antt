@@ -69,3 +69,7 @@ shardCount spec = 2 ^ shardBits spec
 -- refusal 5 of a shard number: it "is not below 2^shard_bits" (RULES S7)
 abbrev pub noSuchShard : Sharding → ℕ → Bool
 noSuchShard spec shard = leb (shardCount spec) shard
+
+-- refusal 33 of a minishard number, this library's own: it is not below 2^minishard_bits (RULES L6)
+abbrev pub noSuchMinishard : Sharding → ℕ → Bool
+noSuchMinishard spec m = leb (minishardCount spec) m

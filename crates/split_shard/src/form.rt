@@ -36,7 +36,7 @@ pub fn listed_count(
         return CountAnswer::Refused(5);
     }
     if minishard_count(spec) <= minishard {
-        return CountAnswer::Refused(5);
+        return CountAnswer::Refused(33);
     }
     let number = length_number(spec, index, data);
     if number != 0 {

@@ -30,7 +30,7 @@ use Rattle.lookup.proofs.Refused.{lookup-refuses}
 use Rattle.lookup.specs.fragments.Fragment.{fragmentChecks, fragmentAnswer}
 use Rattle.lookup.proofs.fragments.Refused.{fragment-refuses}
 use Rattle.lookup.specs.declared.listings.CountAnswer.the-variants as N
-use Rattle.lookup.specs.listings.Listing.{countChecks, countAnswer, listingChecks, listingAnswer}
+use Rattle.lookup.specs.listings.Listing.{askedChecks, countChecks, countAnswer, listingChecks, listingAnswer}
 use Rattle.lookup.proofs.listings.Refused.{count-refuses, listing-refuses}
 use Rattle.settle.specs.declared.answers.SettleAnswer.the-variants as S
 use Rattle.settle.specs.answers.Answers.{unlistedCheck, lengthCheck, settledLengthChecks, lengthAnswer, settleCheck, settleChecks, settleAnswer}
@@ -38,7 +38,7 @@ use Rattle.settle.proofs.Refused.{length-refuses, settle-refuses}
 use Rattle.split_shard.specs.seam.Pair.{pairChecks}
 use Rattle.split_shard.specs.Answers.{otherShard, pairCheck, pairLookup, pairFragment}
 use Rattle.split_shard.proofs.Laws.{check-refuses-pair, lookup-refuses-pair, fragment-refuses-pair}
-use Rattle.split_shard.specs.form.Answers.{noMinishard, pairCount, pairListing, pairUnlisted, pairLength, pairSettle}
+use Rattle.split_shard.specs.form.Answers.{pairAskedChecks, pairCount, pairListing, pairUnlisted, pairLength, pairSettle}
 use Rattle.split_shard.proofs.form.Laws.{count-refuses-pair, listing-refuses-pair, unlisted-refuses-pair, length-refuses-pair, settle-refuses-pair}
 use Rattle.holdings.specs.declared.measures.MeasureAnswer.the-variants as Ms
 use Rattle.holdings.specs.measures.Answers.{measureAnswer, pairMeasure}
@@ -118,6 +118,10 @@ marked-seam : (spec : Sharding) (five : Bool) (index : List ℕ) (cs : List Chec
 unfolding pairChecks Marked
 marked-seam spec five index cs m = (refl, (refl, (refl, m)))
 
+marked-asked : (spec : Sharding) (shard m : ℕ) (index : List ℕ) (cs : List Check) → Marked cs → Marked (pairAskedChecks spec shard m index ++ cs)
+unfolding pairAskedChecks askedChecks Marked
+marked-asked spec shard m index cs h = (refl, (refl, (refl, (refl, h))))
+
 module _ (spec : Sharding) (shard : ℕ) (file : List ℕ) where
   marked-shard : Marked (shardChecks spec shard file)
   unfolding shardChecks
@@ -138,8 +142,8 @@ module _ (spec : Sharding) (shard : ℕ) (file : List ℕ) where
   marked-fragment id level node = marked-both (lookupChecks spec shard file id) _ (marked-lookup id) (unfold Marked in (refl, tt))
 
   marked-count : (m : ℕ) → Marked (countChecks spec shard file m)
-  unfolding countChecks
-  marked-count m = marked-both (fileChecks spec (noMinishard spec shard m) file) _ (marked-file spec (noMinishard spec shard m) file) (marked-minishard spec shard (indexPart spec file) (dataPart spec file) m)
+  unfolding countChecks askedChecks Marked
+  marked-count m = (refl, (refl, (refl, (refl, marked-minishard spec shard (indexPart spec file) (dataPart spec file) m))))
 
   marked-listing : (m : ℕ) (out : List ℕ) → Marked (listingChecks spec shard file m out)
   unfolding listingChecks
@@ -235,10 +239,14 @@ module _ (spec : Sharding) (shard : ℕ) (index d : List ℕ) where
   fragment-pair-carries id level node = seamed (otherShard spec shard id) (fragmentChecks spec shard (index ++ d) id level node) (marked-fragment spec shard (index ++ d) id level node) (fragment-refuses-pair spec shard index d id level node)
 
   pub count-pair-carries : (m : ℕ) → Carries (pairCount spec shard index d m) N.Refused N.Faulty
-  count-pair-carries m = seamed (noMinishard spec shard m) (countChecks spec shard (index ++ d) m) (marked-count spec shard (index ++ d) m) (count-refuses-pair spec shard index d m)
+  count-pair-carries m =
+      let cs = countChecks spec shard (index ++ d) m in
+      carried (pairAskedChecks spec shard m index ++ cs) (marked-asked spec shard m index cs (marked-count spec shard (index ++ d) m)) (count-refuses-pair spec shard index d m)
 
   pub listing-pair-carries : (m : ℕ) (out : List ℕ) → Carries (pairListing spec shard index d m out) N.Refused N.Faulty
-  listing-pair-carries m out = seamed (noMinishard spec shard m) (listingChecks spec shard (index ++ d) m out) (marked-listing spec shard (index ++ d) m out) (listing-refuses-pair spec shard index d m out)
+  listing-pair-carries m out =
+      let cs = listingChecks spec shard (index ++ d) m out in
+      carried (pairAskedChecks spec shard m index ++ cs) (marked-asked spec shard m index cs (marked-listing spec shard (index ++ d) m out)) (listing-refuses-pair spec shard index d m out)
 
   pub unlisted-pair-carries : Carries (pairUnlisted spec shard index d) U.Refused U.Faulty
   unlisted-pair-carries = seamed (noSuchShard spec shard) (shardChecks spec shard (index ++ d)) (marked-shard spec shard (index ++ d)) (unlisted-refuses-pair spec shard index d)

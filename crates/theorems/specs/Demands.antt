@@ -57,7 +57,7 @@ use Rattle.split_shard.specs.seam.Pair.{pairChecks}
 use Rattle.split_shard.specs.declared.held_range.RangeAnswer.the-variants as R
 use Rattle.split_shard.specs.seam.Range.{rangeChecks, rangeAnswer}
 use Rattle.split_shard.specs.Answers.{otherShard, pairCheck, pairLookup, pairFragment}
-use Rattle.split_shard.specs.form.Answers.{noMinishard, pairCount, pairListing, pairListingLeft, pairUnlisted, pairLength, pairSettle, pairSettleLeft}
+use Rattle.split_shard.specs.form.Answers.{pairAskedChecks, pairCount, pairListing, pairListingLeft, pairUnlisted, pairLength, pairSettle, pairSettleLeft}
 use Rattle.intake.specs.declared.state.Intake.{Intake}
 use Rattle.intake.specs.admission.Refusals.{openChecks, announceChecks, partChecks, closeChecks}
 use Rattle.intake.specs.declared.IntakeAnswer.the-variants as I
@@ -138,15 +138,15 @@ pub record Demand1 : Type 0 where
   pub formLength : (spec : Sharding) (shard : ℕ) (file : List ℕ) (dropping : Bool) → RefusesAt (lengthAnswer spec shard file dropping) S.Refused S.Faulty (settledLengthChecks spec shard file dropping)
   pub settle : (spec : Sharding) (shard : ℕ) (file : List ℕ) (dropping : Bool) (out : List ℕ) → RefusesAt (settleAnswer spec shard file dropping out) S.Refused S.Faulty (settleChecks spec shard file dropping out)
   pub unlisted : (spec : Sharding) (shard : ℕ) (file : List ℕ) → RefusesAt (unlistedAnswer spec shard file) U.Refused U.Faulty (shardChecks spec shard file)
-  -- (of a pair: 1, 5, 23, then those of the joined file, whose 1 and 5 are the same tests; order 10)
+  -- (of a pair: 1, 5, 23, of a listing 1, 5, 33, 23, then those of the joined file, whose 1, 5 and 33 are the same tests; order 10)
   pub checkOfPair : (spec : Sharding) (shard : ℕ) (index d : List ℕ) → Refuses (pairCheck spec shard index d) CheckRefused (pairChecks spec (noSuchShard spec shard) index ++ fileChecks spec (noSuchShard spec shard) (index ++ d))
   pub checkedOfPair : (spec : Sharding) (shard : ℕ) (index d : List ℕ) → checkNumber (pairCheck spec shard index d) ≡ firstNumber (pairChecks spec (noSuchShard spec shard) index ++ shardChecks spec shard (index ++ d))
   pub passedOfPair : (spec : Sharding) (shard : ℕ) (index d : List ℕ) → (pairCheck spec shard index d ≡ Sound) ↔ (firstNumber (pairChecks spec (noSuchShard spec shard) index ++ shardChecks spec shard (index ++ d)) ≡ 0)
   pub namedOfPair : (spec : Sharding) (shard : ℕ) (index d : List ℕ) (k m p : ℕ) → (pairCheck spec shard index d ≡ Faulty k m p) ↔ ((length index ≡ indexLength spec) × FirstFaultIs spec shard (index ++ d) k m p)
   pub lookupOfPair : (spec : Sharding) (shard : ℕ) (index d : List ℕ) (id : ℕ) → RefusesAt (pairLookup spec shard index d id) L.Refused L.Faulty (pairChecks spec (otherShard spec shard id) index ++ lookupChecks spec shard (index ++ d) id)
   pub fragmentOfPair : (spec : Sharding) (shard : ℕ) (index d : List ℕ) (id level node : ℕ) → RefusesAt (pairFragment spec shard index d id level node) L.Refused L.Faulty (pairChecks spec (otherShard spec shard id) index ++ fragmentChecks spec shard (index ++ d) id level node)
-  pub countOfPair : (spec : Sharding) (shard : ℕ) (index d : List ℕ) (m : ℕ) → RefusesAt (pairCount spec shard index d m) N.Refused N.Faulty (pairChecks spec (noMinishard spec shard m) index ++ countChecks spec shard (index ++ d) m)
-  pub listingOfPair : (spec : Sharding) (shard : ℕ) (index d : List ℕ) (m : ℕ) (out : List ℕ) → RefusesAt (pairListing spec shard index d m out) N.Refused N.Faulty (pairChecks spec (noMinishard spec shard m) index ++ listingChecks spec shard (index ++ d) m out)
+  pub countOfPair : (spec : Sharding) (shard : ℕ) (index d : List ℕ) (m : ℕ) → RefusesAt (pairCount spec shard index d m) N.Refused N.Faulty (pairAskedChecks spec shard m index ++ countChecks spec shard (index ++ d) m)
+  pub listingOfPair : (spec : Sharding) (shard : ℕ) (index d : List ℕ) (m : ℕ) (out : List ℕ) → RefusesAt (pairListing spec shard index d m out) N.Refused N.Faulty (pairAskedChecks spec shard m index ++ listingChecks spec shard (index ++ d) m out)
   pub unlistedOfPair : (spec : Sharding) (shard : ℕ) (index d : List ℕ) → RefusesAt (pairUnlisted spec shard index d) U.Refused U.Faulty (pairChecks spec (noSuchShard spec shard) index ++ shardChecks spec shard (index ++ d))
   pub formLengthOfPair : (spec : Sharding) (shard : ℕ) (index d : List ℕ) (dropping : Bool) → RefusesAt (pairLength spec shard index d dropping) S.Refused S.Faulty (pairChecks spec (noSuchShard spec shard) index ++ settledLengthChecks spec shard (index ++ d) dropping)
   pub settleOfPair : (spec : Sharding) (shard : ℕ) (index d : List ℕ) (dropping : Bool) (out : List ℕ) → RefusesAt (pairSettle spec shard index d dropping out) S.Refused S.Faulty (pairChecks spec (noSuchShard spec shard) index ++ settleChecks spec shard (index ++ d) dropping out)

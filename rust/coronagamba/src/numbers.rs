@@ -5,7 +5,7 @@
 use crate::refusal::Refusal;
 
 /// The version that these declarations belong to: major, minor, patch.
-pub const VERSION: [u64; 3] = [0, 5, 1];
+pub const VERSION: [u64; 3] = [0, 6, 0];
 
 /// A sharding's hash that leaves an id as it is.
 pub const HASH_IDENTITY: u8 = 0;
@@ -48,15 +48,14 @@ impl Refusal {
     /// bits.
     pub const NO_SUCH_CELL: u8 = 2;
 
-    /// A key is made or decoded, or a card read or written, or an info file read, and the grid
-    /// needs more than 64 key bits.
+    /// A key is made or decoded, keys are listed for a box, a card is read or written, or an info
+    /// file is read, and the grid needs more than 64 key bits.
     pub const TOO_MANY_KEY_BITS: u8 = 3;
 
     /// A key is no cell of the grid.
     pub const KEY_OF_NO_CELL: u8 = 4;
 
-    /// A shard number is not below 2^shard_bits, or the id asked for belongs to another shard;
-    /// beyond the table, in a listing, also where a minishard number is not below 2^minishard_bits.
+    /// A shard number is not below 2^shard_bits, or the id asked for belongs to another shard.
     pub const NO_SUCH_SHARD: u8 = 5;
 
     /// The shard is shorter than its shard index or longer than 1,073,741,824 bytes.
@@ -125,7 +124,7 @@ impl Refusal {
     pub const UNLISTED_BYTES: u8 = 22;
 
     /// Of a shard of the earlier two-file edition, the index file is not exactly as long as the
-    /// shard index; right after 5.
+    /// shard index; right after 5, in a listing after 33.
     pub const INDEX_FILE_LENGTH: u8 = 23;
 
     /// A range crosses the seam, is reversed or passes the end.
@@ -157,6 +156,10 @@ impl Refusal {
 
     /// At an intake, after opening, a lent buffer has another length than then.
     pub const INTAKE_BUFFERS: u8 = 30;
+
+    /// A number of this library's own, beyond the papers' table: in a listing or its count, a
+    /// minishard number is not below 2^minishard_bits.
+    pub const NO_SUCH_MINISHARD: u8 = 33;
 }
 
 /// Each number with its sentence, rising.
@@ -170,7 +173,7 @@ pub(crate) const SENTENCES: &[(u8, &str)] = &[
     (4, "The key is no cell of the grid."),
     (
         5,
-        "There is no such shard or minishard, or the id belongs to another shard.",
+        "There is no such shard, or the id belongs to another shard.",
     ),
     (
         6,
@@ -251,4 +254,5 @@ pub(crate) const SENTENCES: &[(u8, &str)] = &[
         30,
         "A buffer has another length than when the shard was opened.",
     ),
+    (33, "There is no such minishard."),
 ];

@@ -229,9 +229,8 @@ impl<'a> Shard<'a> {
         })
     }
 
-    /// How many chunks a minishard lists, or refusal 1, 5 (also for a minishard
-    /// that is not there), 6, or 7 to 11, 15 to 17 or 21 of that minishard with a
-    /// position.
+    /// How many chunks a minishard lists, or refusal 1, 5, 33 for a minishard that
+    /// is not there, 6, or 7 to 11, 15 to 17 or 21 of that minishard with a position.
     pub fn listed_count(&self, minishard: u64) -> Result<u64, Refusal> {
         // SAFETY: pointer and count are those of one live slice; the result is
         // a live number, lent to this call alone.
@@ -282,7 +281,7 @@ impl<'a> Shard<'a> {
     /// assert_eq!((listed[0].id, listed[1].id), (4, 10));
     /// assert_eq!(listed[1].span, Span { start: 34, length: 3 });
     /// assert!(shard.listing(1)?.is_empty());
-    /// assert_eq!(shard.listing(2).unwrap_err().number, 5);
+    /// assert_eq!(shard.listing(2).unwrap_err().number, 33);
     /// # Ok::<(), coronagamba::Refusal>(())
     /// ```
     pub fn listing(&self, minishard: u64) -> Result<Vec<Listed>, Refusal> {

@@ -160,6 +160,7 @@ fn refused(number: u8) -> Refusal {
             let opened = State::open(TWO, 0, &mut out, &[]);
             opened.and_then(|mut state| state.part(&[], &mut out, &[0]))
         }
+        33 => Shard::open(TWO, 0, &[]).listing(2).map(|_| ()),
         _ => panic!("no call of these tests gives {number}"),
     };
     answer.expect_err("the call refuses")
@@ -318,7 +319,7 @@ fn a_pair_is_refused_as_the_joined_file() {
     }
 }
 
-/// 23 comes behind 1 and 5 and before 6, and in each call.
+/// 23 comes behind 1 and 5, in a listing behind 33, before 6, and in each call.
 #[test]
 fn an_index_file_of_another_length() {
     let number = |answer: Result<(), Refusal>| answer.map_err(|refusal| refusal.number);
@@ -330,7 +331,7 @@ fn an_index_file_of_another_length() {
             assert_eq!(number(pair.chunk(4).map(|_| ())), Err(23));
             assert_eq!(number(pair.fragment(4, 0, 0).map(|_| ())), Err(23));
             assert_eq!(number(pair.listing(0).map(|_| ())), Err(23));
-            assert_eq!(number(pair.listing(2).map(|_| ())), Err(5));
+            assert_eq!(number(pair.listing(2).map(|_| ())), Err(33));
             assert_eq!(number(pair.chunks().map(|_| ())), Err(23));
             assert_eq!(number(pair.unlisted().map(|_| ())), Err(23));
             assert_eq!(number(pair.measure().map(|_| ())), Err(23));

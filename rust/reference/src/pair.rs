@@ -43,7 +43,7 @@ impl<'a> Pair<'a> {
     }
 
     /// What a call answers: as for the joined file, but 23 where the seam is not
-    /// at the end of the shard index and neither 1 nor 5 is given.
+    /// at the end of the shard index and none of 1, 5 and 33 is given.
     fn answer<T>(
         &self,
         sharding: &Sharding,
@@ -51,7 +51,7 @@ impl<'a> Pair<'a> {
     ) -> Result<T, Refusal> {
         let answer = call(&self.joined());
         match answer {
-            Err(refusal) if matches!(refusal.number, 1 | 5) => Err(refusal),
+            Err(refusal) if matches!(refusal.number, 1 | 5 | 33) => Err(refusal),
             _ if !self.has_its_seam(sharding) => Err(Refusal::bare(23)),
             answer => answer,
         }
@@ -247,6 +247,10 @@ mod tests {
         let short = Pair::cut(&file[..15], 15);
         assert_eq!(short.check(&ONE, 0), Err(Refusal::bare(23)));
         assert_eq!(short.check(&ONE, 1), Err(Refusal::bare(5)));
+        let listed = |number, minishard| short.list_minishard(&ONE, number, minishard);
+        assert_eq!(listed(1, 1), Err(Refusal::bare(5)));
+        assert_eq!(listed(0, 1), Err(Refusal::bare(33)));
+        assert_eq!(listed(0, 0), Err(Refusal::bare(23)));
         let none = Sharding { hash: 2, ..ONE };
         assert_eq!(short.check(&none, 1), Err(Refusal::bare(1)));
         assert_eq!(short.range(&none, 0, 0), Err(1));

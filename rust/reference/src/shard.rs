@@ -244,8 +244,8 @@ fn judged_minishard(
 }
 
 /// What one minishard lists, in stored order, or 1, 5 where there is no such
-/// shard or minishard, 6, then 7 to 11 of it and, in a mesh shard, 15 to 17 and
-/// 21.
+/// shard, 33 where there is no such minishard, 6, then 7 to 11 of it and, in a
+/// mesh shard, 15 to 17 and 21.
 pub fn list_minishard(
     sharding: &Sharding,
     number: u64,
@@ -253,8 +253,11 @@ pub fn list_minishard(
     minishard: u64,
 ) -> Result<Vec<Entry>, Refusal> {
     sharding.allowed()?;
-    if number >= sharding.shard_count() || minishard >= sharding.minishard_count() {
+    if number >= sharding.shard_count() {
         return Err(Refusal::bare(5));
+    }
+    if minishard >= sharding.minishard_count() {
+        return Err(Refusal::bare(33));
     }
     length_allowed(sharding, file)?;
     judged_minishard(sharding, number, file, minishard)
@@ -446,16 +449,20 @@ mod tests {
     }
 
     #[test]
-    fn listings_test_the_minishard_number_with_the_shard_number() {
+    fn listings_test_the_minishard_number_after_the_shard_number() {
         let file = example();
         let bad = Sharding {
             minishard_bits: 17,
             ..ONE
         };
         assert_eq!(list_minishard(&bad, 1, &[], 2), bare(1));
-        for (number, minishard) in [(0, 2), (0, 1 << 32), (0, u64::MAX), (1, 0), (1, 2)] {
-            assert_eq!(list_minishard(&ONE, number, &[], minishard), bare(5));
-            assert_eq!(list_minishard(&ONE, number, &file, minishard), bare(5));
+        for minishard in [2, 1 << 32, u64::MAX] {
+            assert_eq!(list_minishard(&ONE, 0, &[], minishard), bare(33));
+            assert_eq!(list_minishard(&ONE, 0, &file, minishard), bare(33));
+        }
+        for minishard in [0, 2] {
+            assert_eq!(list_minishard(&ONE, 1, &[], minishard), bare(5));
+            assert_eq!(list_minishard(&ONE, 1, &file, minishard), bare(5));
         }
         assert_eq!(list_minishard(&ONE, 0, &[], 1), bare(6));
         assert_eq!(list_minishard(&ONE, 0, &file, 1), Ok(Vec::new()));
@@ -465,7 +472,7 @@ mod tests {
     fn a_listing_is_written_whole_or_not_at_all() {
         let file = example();
         let mut out = [7; 7];
-        assert_eq!(write_listing(&ONE, 0, &file, 2, &mut []), bare(5));
+        assert_eq!(write_listing(&ONE, 0, &file, 2, &mut []), bare(33));
         assert_eq!(write_listing(&ONE, 0, &file, 1, &mut []), Ok(0));
         assert_eq!(write_listing(&ONE, 0, &file, 0, &mut out[..5]), bare(13));
         assert_eq!(out, [7; 7]);

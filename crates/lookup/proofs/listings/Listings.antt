@@ -1,38 +1,39 @@
 -- What each way out of the calls that list a minishard shows.
 use Prim.Native.Nat.{ℕ, zero, suc, _+_, _*_, _/_, _<_, _≤_}
-use mathlib.Core.List.{List}
+use mathlib.Core.List.{List, [], _∷_, _++_}
 use mathlib.Core.Option.{Option, none, some}
 use mathlib.Core.Path.{_≡_, refl, sym, ap, _∙_}
-use mathlib.Core.Bool.{Bool, true, false, not, _||_}
+use mathlib.Core.Bool.{Bool, true, false, not}
 use native.Mathlib.Omega.{arith}
 use lib.ListN.{length, take}
-use lib.Dec.{leb}
-use borrow.Author.Tests.{le-leb, lt-leb, leb-false, lt-ltb, le-ltb}
+use lib.Dec.{ltb}
+use borrow.Author.Tests.{le-leb, lt-leb, leb-false, ltb-false, lt-ltb, le-ltb, not-false}
 use Rattle.refusal.specs.Choice.{pick}
-use Rattle.refusal.specs.Checks.{firstNumber, firstPosition, unless, answered, refusal}
+use Rattle.refusal.specs.Checks.{check, firstNumber, firstPosition, unless, answered, refusal}
 use Rattle.refusal.proofs.Tests.{neither, told-no, told-yes}
+use Rattle.refusal.proofs.Picks.{all-in, by-picks}
 use Rattle.refusal.proofs.Refusing.{first-both}
-use Rattle.refusal.proofs.Positions.{at-both}
+use Rattle.refusal.proofs.Positions.{at-both, at-plain}
 use Rattle.endian.specs.Place.{paste}
 use Rattle.endian.proofs.Paste.{paste-front}
 use Rattle.sharding.specs.declared.Sharding.{Sharding}
-use Rattle.sharding.specs.Specification.{allowed, minishardCount, shardCount, noSuchShard}
+use Rattle.sharding.specs.Specification.{allowed, minishardCount, shardCount, noSuchShard, noSuchMinishard}
 use Rattle.shard.specs.declared.index.Fault.{Fault}
 use Rattle.shard.specs.index.Index.{entryStart, entryEnd, entryCount, mostShardBytes}
 use Rattle.shard.specs.Faults.{faultOf}
 use Rattle.shard.specs.Checks.{minishardChecks}
-use Rattle.shard.specs.File.{indexLength, indexPart, dataPart, badFileLength, fileChecks}
+use Rattle.shard.specs.File.{indexLength, indexPart, dataPart, badFileLength}
 use Rattle.shard.specs.Sound.{SoundMinishard}
 use Rattle.shard.specs.index.Reading.{ReadableIn}
 use Rattle.shard.proofs.Judged.{passes-minishard}
-use Rattle.shard.proofs.Numbers.{or-none, unless-some, unless-none, minishard-number, minishard-answer, file-in, file-picks, file-answer, file-called}
+use Rattle.shard.proofs.Numbers.{or-none, pick-zero, unless-some, unless-none, minishard-number, minishard-answer}
 use Rattle.shard.proofs.Passed.{sound-readable}
 use Rattle.shard.proofs.Split.{restOf, rest-whole, rest-short, front-index, length-short, length-long, length-good, index-short}
 use Rattle.lookup.specs.entries.Entries.{listingIn}
 use Rattle.lookup.proofs.entries.Entries.{length-entries}
 use Rattle.lookup.specs.declared.listings.CountAnswer.{CountAnswer}
 use Rattle.lookup.specs.declared.listings.CountAnswer.the-variants.{Count, Refused, Faulty}
-use Rattle.lookup.specs.listings.Listing.{listingOf, listedCount, countIn, countChecks, countAnswer, listingAnswer, listingLeft}
+use Rattle.lookup.specs.listings.Listing.{listingOf, listedCount, countIn, askedChecks, countChecks, countAnswer, listingAnswer, listingLeft}
 use Rattle.lookup.proofs.listings.Refused.{listing-picks, left-picks}
 
 -- how many chunks minishard m lists
@@ -66,22 +67,24 @@ pub parts-count : (spec : Sharding) (file : List ℕ) (shard m : ℕ) {n : ℕ} 
     → a ≡ countIn spec shard (take n file) (restOf n file) m → a ≡ countIn spec shard (indexPart spec file) (dataPart spec file) m
 parts-count spec file shard m {n} e r = rw (rest-whole n file, e) at r
 
--- ---- in a file: 1, 5, 6, then as above
+-- ---- in a file: 1, 5, 33, 6, then as above
 
 module _ (spec : Sharding) (shard : ℕ) (file : List ℕ) (m : ℕ) where
   pub count-files : countAnswer spec shard file m
-      ≡ answered Refused (fileChecks spec (noSuchShard spec shard || leb (minishardCount spec) m) file) (countIn spec shard (indexPart spec file) (dataPart spec file) m)
-  unfolding countAnswer countChecks countIn
+      ≡ answered Refused (askedChecks spec shard m ++ (check 6 (badFileLength spec (length file)) ∷ [])) (countIn spec shard (indexPart spec file) (dataPart spec file) m)
+  unfolding countAnswer countChecks askedChecks countIn
   count-files =
-      let five = noSuchShard spec shard || leb (minishardCount spec) m in
-      at-both Refused Faulty (fileChecks spec five file) (minishardChecks spec shard (indexPart spec file) (dataPart spec file) m) _ (file-in spec five file)
-      ∙ file-answer spec five file Refused Faulty _
+      let checks = askedChecks spec shard m ++ (check 6 (badFileLength spec (length file)) ∷ []) in
+      at-both Refused Faulty checks (minishardChecks spec shard (indexPart spec file) (dataPart spec file) m) _ (all-in checks refl)
+      ∙ at-plain Refused Faulty checks _ (refl, (refl, (refl, (refl, tt))))
 
   count-picks : countAnswer spec shard file m
       ≡ pick (not (allowed spec)) (Refused 1)
-      (pick (noSuchShard spec shard || leb (minishardCount spec) m) (Refused 5)
-      (pick (badFileLength spec (length file)) (Refused 6) (countIn spec shard (indexPart spec file) (dataPart spec file) m)))
-  count-picks = count-files ∙ file-picks spec (noSuchShard spec shard || leb (minishardCount spec) m) file Refused _
+      (pick (noSuchShard spec shard) (Refused 5)
+      (pick (noSuchMinishard spec m) (Refused 33)
+      (pick (badFileLength spec (length file)) (Refused 6) (countIn spec shard (indexPart spec file) (dataPart spec file) m))))
+  unfolding askedChecks
+  count-picks = count-files ∙ by-picks Refused (askedChecks spec shard m ++ (check 6 (badFileLength spec (length file)) ∷ [])) _ refl
 
   module _ {b : Bool} (p : b ≡ allowed spec) where
     pub count-spec : not b ≡ true → Refused 1 ≡ countAnswer spec shard file m
@@ -92,7 +95,7 @@ module _ (spec : Sharding) (shard : ℕ) (file : List ℕ) (m : ℕ) where
       count-shard l = rw (count-picks, told-yes p q, ← u, le-leb c shard l)
 
       module _ (l : shard < c) {k : ℕ} (v : k ≡ minishardCount spec) where
-        pub count-minishard : k ≤ m → Refused 5 ≡ countAnswer spec shard file m
+        pub count-minishard : k ≤ m → Refused 33 ≡ countAnswer spec shard file m
         count-minishard o = rw (count-picks, told-yes p q, ← u, lt-leb c shard l, ← v, le-leb k m o)
 
         module _ (o : m < k) {n : ℕ} (w : n ≡ indexLength spec) where
@@ -108,6 +111,24 @@ module _ (spec : Sharding) (shard : ℕ) (file : List ℕ) (m : ℕ) where
 
 -- ---- what a count shows
 
+-- where none of 1, 5, 33 and 6 holds
+pub record Asked (spec : Sharding) (file : List ℕ) (m : ℕ) : Type 0 where
+  pub permitted : allowed spec ≡ true
+  pub below : m < minishardCount spec
+  pub held : indexLength spec ≤ length file
+  pub short : length file ≤ mostShardBytes
+
+pub asked-called : (spec : Sharding) (shard : ℕ) (file : List ℕ) (m : ℕ)
+    → firstNumber (askedChecks spec shard m ++ (check 6 (badFileLength spec (length file)) ∷ [])) ≡ 0 → Asked spec file m
+unfolding askedChecks firstNumber badFileLength
+asked-called spec shard file m e =
+    let q1 = pick-zero (not (allowed spec)) 0 _ e in
+    let q5 = pick-zero (noSuchShard spec shard) 4 _ (q1 .1) in
+    let q33 = pick-zero (noSuchMinishard spec m) 32 _ (q5 .1) in
+    let q6 = pick-zero (badFileLength spec (length file)) 5 _ (q33 .1) in
+    let o = neither (ltb (length file) (indexLength spec)) _ (q6 .0) in
+    record { permitted = not-false _ (q1 .0); below = leb-false _ _ (q33 .0); held = ltb-false _ _ (o .0); short = ltb-false _ _ (o .1) }
+
 record Listable (spec : Sharding) (shard : ℕ) (file : List ℕ) (m : ℕ) : Type 0 where
   permitted : allowed spec ≡ true
   below : m < minishardCount spec
@@ -116,15 +137,14 @@ record Listable (spec : Sharding) (shard : ℕ) (file : List ℕ) (m : ℕ) : Ty
   sound : SoundMinishard spec shard (indexPart spec file) (dataPart spec file) m
 
 listable : (spec : Sharding) (shard : ℕ) (file : List ℕ) (m : ℕ) → firstNumber (countChecks spec shard file m) ≡ 0 → Listable spec shard file m
-unfolding countChecks
+unfolding countChecks askedChecks
 listable spec shard file m e =
-    let five = noSuchShard spec shard || leb (minishardCount spec) m in
-    let checks = minishardChecks spec shard (indexPart spec file) (dataPart spec file) m in
-    let q = or-none _ _ (sym (first-both (fileChecks spec five file) checks (file-in spec five file)) ∙ e) in
-    let c = file-called spec five file (q .0) in
+    let checks = askedChecks spec shard m ++ (check 6 (badFileLength spec (length file)) ∷ []) in
+    let q = or-none _ _ (sym (first-both checks (minishardChecks spec shard (indexPart spec file) (dataPart spec file) m) (all-in checks refl)) ∙ e) in
+    let c = asked-called spec shard file m (q .0) in
     record {
       permitted = c .permitted;
-      below = leb-false _ _ (neither (noSuchShard spec shard) _ (c .other) .1);
+      below = c .below;
       held = c .held;
       short = c .short;
       sound = passes-minishard spec shard (indexPart spec file) (dataPart spec file) m (sym (minishard-number spec shard (indexPart spec file) (dataPart spec file) m) ∙ q .1);

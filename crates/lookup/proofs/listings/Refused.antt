@@ -3,30 +3,32 @@ use Prim.Native.Nat.{ℕ, zero, suc}
 use mathlib.Core.List.{List, [], _∷_}
 use mathlib.Core.Path.{_≡_, refl, _∙_}
 use mathlib.Core.Option.{Option, none, some}
-use mathlib.Core.Bool.{_||_}
 use native.Mathlib.Omega.{arith}
-use lib.Dec.{ltb, leb}
+use lib.Dec.{ltb}
 use lib.ListN.{length}
 use Rattle.refusal.specs.Choice.{pick}
-use Rattle.refusal.specs.Checks.{firstNumber, firstPosition, unless, left, refusal, answeredAt, RefusesAt}
+use Rattle.refusal.specs.Checks.{check, firstNumber, firstPosition, unless, left, refusal, answeredAt, RefusesAt}
 use Rattle.refusal.specs.Buffer.{room, over}
-use Rattle.refusal.proofs.Picks.{AllIn, all-in-both, by-picks}
+use Rattle.refusal.proofs.Picks.{AllIn, all-in, all-in-both, by-picks}
 use Rattle.refusal.proofs.Refusing.{answered-both}
 use Rattle.refusal.proofs.Positions.{at-both, at-plain, refusing-at, keeping-at}
 use Rattle.sharding.specs.declared.Sharding.{Sharding}
-use Rattle.sharding.specs.Specification.{minishardCount, noSuchShard}
 use Rattle.shard.specs.Checks.{minishardChecks}
-use Rattle.shard.specs.File.{indexPart, dataPart, fileChecks}
-use Rattle.shard.proofs.Numbers.{minishard-in, file-in}
+use Rattle.shard.specs.File.{indexPart, dataPart, badFileLength}
+use Rattle.shard.proofs.Numbers.{minishard-in}
 use Rattle.lookup.specs.declared.listings.CountAnswer.the-variants.{Count, Refused, Faulty}
-use Rattle.lookup.specs.listings.Listing.{listingOf, countChecks, countAnswer, listingChecks, listingAnswer, listingLeft}
+use Rattle.lookup.specs.listings.Listing.{listingOf, askedChecks, countChecks, countAnswer, listingChecks, listingAnswer, listingLeft}
+
+pub asked-in : (spec : Sharding) (shard m : ℕ) → AllIn (askedChecks spec shard m)
+unfolding askedChecks
+asked-in spec shard m = all-in (askedChecks spec shard m) refl
 
 module _ (spec : Sharding) (shard : ℕ) (file : List ℕ) (m : ℕ) where
   pub count-in : AllIn (countChecks spec shard file m)
   unfolding countChecks
   count-in =
-      all-in-both (fileChecks spec (noSuchShard spec shard || leb (minishardCount spec) m) file) (minishardChecks spec shard (indexPart spec file) (dataPart spec file) m)
-      (file-in spec (noSuchShard spec shard || leb (minishardCount spec) m) file) (minishard-in spec shard (indexPart spec file) (dataPart spec file) m)
+      all-in-both (askedChecks spec shard m) (check 6 (badFileLength spec (length file)) ∷ minishardChecks spec shard (indexPart spec file) (dataPart spec file) m)
+      (asked-in spec shard m) ((omega arith, omega arith), minishard-in spec shard (indexPart spec file) (dataPart spec file) m)
 
   pub count-refuses : RefusesAt (countAnswer spec shard file m) Refused Faulty (countChecks spec shard file m)
   unfolding countAnswer
@@ -50,12 +52,13 @@ module _ (spec : Sharding) (shard : ℕ) (file : List ℕ) (m : ℕ) where
         answered-both (λ k. out) (countChecks spec shard file m) last _ count-in
         ∙ rw (by-picks (λ k. out) last (over (listingOf spec file m) out) refl)
 
+    pub listing-in : AllIn (listingChecks spec shard file m out)
+    unfolding listingChecks
+    listing-in = all-in-both (countChecks spec shard file m) (room (listingOf spec file m) out ∷ []) count-in ((omega arith, omega arith), tt)
+
     pub listing-refuses : RefusesAt (listingAnswer spec shard file m out) Refused Faulty (listingChecks spec shard file m out)
     unfolding listingAnswer
-    listing-refuses = refusing-at Refused Faulty (λ j k e. cc) (λ j k p q e. (cc, cc)) (λ j k p e. cc) (listingChecks spec shard file m out) _ (λ k e. cc) (λ k p e. cc) in-table
-      where
-        in-table : AllIn (listingChecks spec shard file m out)
-        in-table = unfold listingChecks in all-in-both (countChecks spec shard file m) (room (listingOf spec file m) out ∷ []) count-in ((omega arith, omega arith), tt)
+    listing-refuses = refusing-at Refused Faulty (λ j k e. cc) (λ j k p q e. (cc, cc)) (λ j k p e. cc) (listingChecks spec shard file m out) _ (λ k e. cc) (λ k p e. cc) listing-in
 
     pub listing-kept : (k : ℕ) (p : Option ℕ) → listingAnswer spec shard file m out ≡ refusal Refused Faulty k p → listingLeft spec shard file m out ≡ out
     unfolding listingAnswer listingLeft

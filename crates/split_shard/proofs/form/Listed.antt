@@ -7,55 +7,63 @@ use native.Mathlib.Omega.{arith}
 use lib.ListN.{length}
 use borrow.Author.Needs.{needs}
 use borrow.Author.Tests.{le-leb, lt-leb}
+use Rattle.refusal.specs.Choice.{pick}
 use Rattle.refusal.specs.Checks.{firstNumber, unless}
-use Rattle.refusal.proofs.Tests.{told-yes}
+use Rattle.refusal.proofs.Picks.{by-picks}
+use Rattle.refusal.proofs.Tests.{told-no, told-yes}
 use Rattle.endian.specs.Place.{paste}
 use Rattle.sharding.specs.declared.Sharding.{Sharding}
-use Rattle.sharding.specs.Specification.{allowed, minishardCount, shardCount}
+use Rattle.sharding.specs.Specification.{allowed, minishardCount, shardCount, noSuchShard, noSuchMinishard}
 use Rattle.shard.specs.index.Index.{entryStart, entryEnd, entryCount}
 use Rattle.shard.specs.index.Reading.{ReadableIn}
-use Rattle.shard.specs.File.{indexLength}
-use Rattle.split_shard.specs.seam.Pair.{pairChecks, lengthNumber}
-use Rattle.split_shard.proofs.seam.Pairs.{checks-seamed, number-seamed, seamed-index, seamed-data, seamed-front, seamed-rest, seam-measured, seam-short, pair-1, pair-5, pair-length, pair-inside}
+use Rattle.shard.specs.File.{indexLength, indexPart, dataPart}
+use Rattle.shard.proofs.Numbers.{unless-some, unless-none}
+use Rattle.split_shard.specs.seam.Pair.{lengthNumber}
+use Rattle.split_shard.proofs.seam.Pairs.{before-seamed, before-length, number-seamed, seamed-index, seamed-data, seamed-front, seamed-rest, seam-measured, seam-short}
 use Rattle.lookup.specs.entries.Entries.{listingIn}
 use Rattle.lookup.specs.declared.listings.CountAnswer.{CountAnswer}
 use Rattle.lookup.specs.declared.listings.CountAnswer.the-variants.{Count, Refused, Faulty}
-use Rattle.lookup.specs.listings.Listing.{countIn, countAnswer, listingAnswer, listingLeft}
+use Rattle.lookup.specs.listings.Listing.{askedChecks, countIn, countAnswer, listingAnswer, listingLeft}
+use Rattle.lookup.proofs.listings.Refused.{asked-in}
 use Rattle.lookup.proofs.listings.Listings as one
-use Rattle.split_shard.specs.form.Answers.{noMinishard, pairCount, pairListing, pairListingLeft}
+use Rattle.split_shard.specs.form.Answers.{pairAskedChecks, pairCount, pairListing, pairListingLeft}
 
 -- ---- the count
 
 module _ (spec : Sharding) (shard : ℕ) (index d : List ℕ) (m : ℕ) {b : Bool} (p : b ≡ allowed spec) where
+  -- 1, 5, 33, 23, 6, then as in one file
+  count-picks : pairCount spec shard index d m
+      ≡ pick (not (allowed spec)) (Refused 1)
+      (pick (noSuchShard spec shard) (Refused 5)
+      (pick (noSuchMinishard spec m) (Refused 33)
+      (unless Refused (lengthNumber spec index d) (countIn spec shard (indexPart spec (index ++ d)) (dataPart spec (index ++ d)) m))))
+  unfolding pairCount pairAskedChecks askedChecks
+  count-picks =
+      before-length (askedChecks spec shard m) (asked-in spec shard m) spec index Refused d _ (one.count-files spec shard (index ++ d) m)
+      ∙ by-picks Refused (askedChecks spec shard m) _ refl
+
   pub count-spec : not b ≡ true → Refused 1 ≡ pairCount spec shard index d m
-  unfolding pairCount
-  count-spec q = pair-1 Refused spec (noMinishard spec shard m) index d _ (one.count-files spec shard (index ++ d) m) p q
+  count-spec q = rw (count-picks, told-no p q)
 
   module _ (q : not b ≡ false) {c : ℕ} (u : c ≡ shardCount spec) where
-    five : noMinishard spec shard m ≡ true → Refused 5 ≡ pairCount spec shard index d m
-    unfolding pairCount
-    five f = pair-5 Refused spec (noMinishard spec shard m) index d _ (one.count-files spec shard (index ++ d) m) p q f
-
     pub count-shard : c ≤ shard → Refused 5 ≡ pairCount spec shard index d m
-    count-shard l = five (rw (← u, le-leb c shard l))
+    count-shard l = rw (count-picks, told-yes p q, ← u, le-leb c shard l)
 
     module _ (l : shard < c) {k : ℕ} (v : k ≡ minishardCount spec) where
-      pub count-minishard : k ≤ m → Refused 5 ≡ pairCount spec shard index d m
-      count-minishard o = five (rw (← u, lt-leb c shard l, ← v, le-leb k m o))
+      pub count-minishard : k ≤ m → Refused 33 ≡ pairCount spec shard index d m
+      count-minishard o = rw (count-picks, told-yes p q, ← u, lt-leb c shard l, ← v, le-leb k m o)
 
       module _ (o : m < k) {n : ℕ} (e : n ≡ lengthNumber spec index d) where
-        numbered : noMinishard spec shard m ≡ false
-        numbered = rw (← u, lt-leb c shard l, ← v, lt-leb k m o)
+        numbered : noSuchMinishard spec m ≡ false
+        numbered = rw (← v, lt-leb k m o)
 
         pub count-length : (n ≡ 0 → ⊥) → Refused n ≡ pairCount spec shard index d m
-        unfolding pairCount
-        count-length z = pair-length Refused spec (noMinishard spec shard m) index d _ (one.count-files spec shard (index ++ d) m) p q numbered e z
+        count-length z = rw (count-picks, told-yes p q, ← u, lt-leb c shard l, numbered, ← e) (unless-some Refused n _ z)
 
         pub count-inside : n ≡ 0 → {a : CountAnswer} → a ≡ countIn spec shard index d m → a ≡ pairCount spec shard index d m
-        unfolding pairCount
         count-inside z g =
             let s = number-seamed spec index d (sym e ∙ z) in
-            pair-inside Refused spec (noMinishard spec shard m) index d _ (one.count-files spec shard (index ++ d) m) p q numbered e z (rw (seamed-index s, seamed-data s) g)
+            rw (count-picks, told-yes p q, ← u, lt-leb c shard l, numbered, ← e, seamed-index s, seamed-data s) (g ∙ unless-none Refused n _ z)
 
 pub ruleset counting = (count-spec, count-shard, count-minishard, count-length, count-inside, seam-measured, seam-short, told-yes, needs)
 
@@ -64,7 +72,7 @@ pub ruleset counting = (count-spec, count-shard, count-minishard, count-length, 
 abbrev countOf : List ℕ → ℕ → ℕ
 countOf x m = entryCount (entryStart x m) (entryEnd x m)
 
--- a refusal of the first call is that of the second, by 1, 5 and 23 or by the joined file
+-- a refusal of the first call is that of the second, by 1, 5, 33 and 23 or by the joined file
 stopped : (n k : ℕ) {r x y : CountAnswer} → r ≡ unless Refused n x → r ≡ Refused k → (x ≡ Refused k → Refused k ≡ y) → Refused k ≡ unless Refused n y
 unfolding unless
 stopped zero k p q f = f (sym p ∙ q)
@@ -87,7 +95,7 @@ counted (suc n) k p q = let z : _≡_ {A = ℕ} 0 1 = cc in absurd (omega arith)
 
 module _ (spec : Sharding) (shard : ℕ) (index d : List ℕ) (m : ℕ) (out : List ℕ) {r : CountAnswer} (p : r ≡ pairCount spec shard index d m) where
   abbrev first : ℕ
-  first = firstNumber (pairChecks spec (noMinishard spec shard m) index)
+  first = firstNumber (pairAskedChecks spec shard m index)
 
   given : r ≡ unless Refused first (countAnswer spec shard (index ++ d) m)
   unfolding pairCount
@@ -114,7 +122,8 @@ module _ (spec : Sharding) (shard : ℕ) (index d : List ℕ) (m : ℕ) (out : L
     joined = counted first k given q .1
 
     measured : length index ≡ indexLength spec
-    measured = checks-seamed spec (noMinishard spec shard m) index (counted first k given q .0)
+    unfolding pairAskedChecks
+    measured = before-seamed (askedChecks spec shard m) (asked-in spec shard m) spec index (counted first k given q .0)
 
     answers : {a : CountAnswer} → a ≡ listingAnswer spec shard (index ++ d) m out → a ≡ pairListing spec shard index d m out
     unfolding pairListing unless

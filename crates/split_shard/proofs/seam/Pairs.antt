@@ -1,8 +1,8 @@
 -- A pair whose lengths are good is a file cut at its index end; and a call on it, test by test.
-use Prim.Native.Nat.{ℕ, _+_, _-_, _≤_}
+use Prim.Native.Nat.{ℕ, zero, suc, _+_, _-_, _≤_}
 use mathlib.Core.Path.{_≡_, refl, sym, ap, _∙_}
 use mathlib.Core.Bool.{Bool, true, false, not}
-use mathlib.Core.List.{List, _++_}
+use mathlib.Core.List.{List, [], _∷_, _++_}
 use native.Mathlib.Omega.{arith}
 use lib.Dec.{eqb, ltb}
 use lib.ListN.{length, take, drop, length-append, length-drop}
@@ -12,16 +12,17 @@ use mir.Syntax.{w64}
 use borrow.Author.Needs.{needs}
 use borrow.Author.Tests.{eqb-true, ltb-true, ltb-false, not-false}
 use Rattle.refusal.specs.Choice.{pick}
-use Rattle.refusal.specs.Checks.{unless, answered, firstNumber}
-use Rattle.refusal.proofs.Picks.{by-picks}
+use Rattle.refusal.specs.Checks.{Check, check, unless, answered, firstNumber}
+use Rattle.refusal.proofs.Picks.{AllIn, all-in, by-picks}
+use Rattle.refusal.proofs.Refusing.{first-both, answered-both}
 use Rattle.refusal.proofs.Tests.{told-no, told-yes, neither}
 use Rattle.sharding.specs.declared.Sharding.{Sharding}
 use Rattle.sharding.specs.Specification.{allowed}
 use Rattle.shard.specs.index.Index.{mostShardBytes}
 use Rattle.shard.specs.File.{indexLength, indexPart, dataPart, badFileLength, fileChecks}
-use Rattle.shard.proofs.Numbers.{pick-zero, unless-some, unless-none, file-picks}
+use Rattle.shard.proofs.Numbers.{or-none, pick-zero, unless-some, unless-none}
 use Rattle.shard.proofs.Split.{restOf, rest-whole, length-long, length-good}
-use Rattle.split_shard.specs.seam.Pair.{badSeam, pairChecks, pairAnswer, pairLengthChecks, lengthNumber}
+use Rattle.split_shard.specs.seam.Pair.{badSeam, thenSeam, pairChecks, pairAnswer, pairLengthChecks, lengthNumber}
 
 -- ---- the lengths, as the code tests them
 
@@ -109,23 +110,41 @@ module _ (spec : Sharding) (index d : List ℕ) {n : ℕ} (p : n ≡ lengthNumbe
   pub seam-fits : Fits w64 (length index + length d)
   seam-fits = record { fits = omega (arith, seamed .short, length-append index d) }
 
--- ---- a call on a pair, test by test
+-- ---- a call on a pair, test by test; `before` are its checks before 23
 
--- 1 and 5 are tested once
-once : {A : Type 0} (a b c e : Bool) (x y z w v : A)
-    → pick a x (pick b y (pick c z (pick a x (pick b y (pick e w v))))) ≡ pick a x (pick b y (pick c z (pick e w v)))
-once true b c e x y z w v = refl
-once false true c e x y z w v = refl
-once false false c e x y z w v = refl
+-- what did not refuse the call does not refuse it later
+once : {A : Type 0} (r : ℕ → A) (n k : ℕ) (x : A) → unless r n (unless r k (unless r n x)) ≡ unless r n (unless r k x)
+unfolding unless
+once r zero k x = refl
+once r (suc n) k x = refl
+
+module _ (before : List Check) (named : AllIn before) (spec : Sharding) (index : List ℕ) where
+  -- where none of them holds, nor 23
+  pub before-seamed : firstNumber (thenSeam before spec index) ≡ 0 → length index ≡ indexLength spec
+  unfolding firstNumber badSeam
+  before-seamed z =
+      let q = or-none (firstNumber before) _ (sym (first-both before (check 23 (badSeam spec index) ∷ []) named) ∙ z) in
+      let s = pick-zero (not (eqb (length index) (indexLength spec))) 22 _ (q .1) in
+      eqb-true _ _ (not-false _ (s .0))
+
+  -- where the joined file's answer is one by them and 6
+  pub before-length : {A : Type 0} (r : ℕ → A) (d : List ℕ) (inside : A) {joined : A} → joined ≡ answered r (before ++ (check 6 (badFileLength spec (length (index ++ d))) ∷ [])) inside
+      → answered r (thenSeam before spec index) joined ≡ answered r before (unless r (lengthNumber spec index d) inside)
+  unfolding lengthNumber pairLengthChecks
+  before-length r d inside {joined} j =
+      let seam = check 23 (badSeam spec index) ∷ [] in
+      let long = check 6 (badFileLength spec (length (index ++ d))) ∷ [] in
+      answered-both r before seam joined named
+      ∙ rw (j, answered-both r before long inside named, answered-both r seam long inside ((omega arith, omega arith), tt))
+      (once r (firstNumber before) (firstNumber seam) (answered r long inside))
 
 -- where the joined file's answer is one by 1, 5 and 6
 module _ {A : Type 0} (r : ℕ → A) (spec : Sharding) (five : Bool) (index d : List ℕ) (inside : A) {joined : A} (j : joined ≡ answered r (fileChecks spec five (index ++ d)) inside) where
   pub pair-picks : pairAnswer r spec five index joined ≡ pick (not (allowed spec)) (r 1) (pick five (r 5) (unless r (lengthNumber spec index d) inside))
-  unfolding pairChecks lengthNumber pairLengthChecks
+  unfolding pairChecks fileChecks
   pair-picks =
-      by-picks r (pairChecks spec five index) joined refl
-      ∙ rw (j, file-picks spec five (index ++ d) r inside, by-picks r (pairLengthChecks spec index d) inside refl)
-      (once (not (allowed spec)) five (badSeam spec index) (badFileLength spec (length (index ++ d))) (r 1) (r 5) (r 23) (r 6) inside)
+      let before = check 1 (not (allowed spec)) ∷ check 5 five ∷ [] in
+      before-length before (all-in before refl) spec index r d inside j ∙ by-picks r before _ refl
 
   module _ {b : Bool} (p : b ≡ allowed spec) where
     pub pair-1 : not b ≡ true → r 1 ≡ pairAnswer r spec five index joined
@@ -144,9 +163,7 @@ module _ {A : Type 0} (r : ℕ → A) (spec : Sharding) (five : Bool) (index d :
 
 -- where none of 1, 5 and 23 holds
 pub checks-seamed : (spec : Sharding) (five : Bool) (index : List ℕ) → firstNumber (pairChecks spec five index) ≡ 0 → length index ≡ indexLength spec
-unfolding pairChecks firstNumber badSeam
+unfolding pairChecks
 checks-seamed spec five index z =
-    let p = pick-zero (not (allowed spec)) 0 _ z in
-    let q = pick-zero five 4 _ (p .1) in
-    let s = pick-zero (not (eqb (length index) (indexLength spec))) 22 _ (q .1) in
-    eqb-true _ _ (not-false _ (s .0))
+    let before = check 1 (not (allowed spec)) ∷ check 5 five ∷ [] in
+    before-seamed before (all-in before refl) spec index z

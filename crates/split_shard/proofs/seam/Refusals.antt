@@ -9,15 +9,28 @@ use native.Mathlib.Omega.{arith}
 use lib.ListN.{length}
 use borrow.Author.Tests.{eq-eqb}
 use Rattle.refusal.specs.Table.{last}
-use Rattle.refusal.specs.Checks.{Check, check, firstNumber, firstPosition, unless, refusal, Refuses, RefusesAt}
+use Rattle.refusal.specs.Checks.{Check, check, firstNumber, firstPosition, unless, answered, left, refusal, Refuses, RefusesAt}
+use Rattle.refusal.proofs.Picks.{AllIn}
+use Rattle.refusal.proofs.Refusing.{answered-both}
 use Rattle.sharding.specs.declared.Sharding.{Sharding}
 use Rattle.sharding.specs.Specification.{allowed}
 use Rattle.shard.specs.File.{indexLength}
-use Rattle.split_shard.specs.seam.Pair.{badSeam, pairChecks, pairAnswer}
+use Rattle.split_shard.specs.seam.Pair.{badSeam, thenSeam, pairChecks, pairAnswer}
 
 seam-good : (spec : Sharding) (index : List ℕ) → length index ≡ indexLength spec → badSeam spec index ≡ false
 unfolding badSeam
 seam-good spec index e = rw (eq-eqb (length index) (indexLength spec) e)
+
+-- where the joined file's answer, or what it leaves, is one by the checks before 23
+pub joined-by : {A : Type 0} (r : ℕ → A) (before : List Check) → AllIn before → (spec : Sharding) (index : List ℕ) → length index ≡ indexLength spec
+    → {joined : A} (inside : A) → joined ≡ answered r before inside → answered r (thenSeam before spec index) joined ≡ joined
+unfolding firstNumber unless
+joined-by r before named spec index e {joined} inside j =
+    answered-both r before (check 23 (badSeam spec index) ∷ []) joined named ∙ rw (seam-good spec index e, j) (again (firstNumber before))
+  where
+    again : (n : ℕ) → unless r n (unless r n inside) ≡ unless r n inside
+    again zero = refl
+    again (suc n) = refl
 
 module _ {A : Type 0} (r : ℕ → A) (same : (j k : ℕ) → r j ≡ r k → j ≡ k) where
   told : (n : ℕ) → 1 ≤ n → n ≤ last → (checks : List Check) → firstNumber checks ≡ n → Refuses (r n) r checks
@@ -102,9 +115,9 @@ module _ {A : Type 0} (r : ℕ → A) (same : (j k : ℕ) → r j ≡ r k → j 
 -- ---- what is left
 
 -- where the joined file's call leaves lent memory as it was whenever it answers b, so does this one
-pub pair-kept : {A B : Type 0} (r : ℕ → A) (spec : Sharding) (five : Bool) (index : List ℕ) {x b : A} (before : B) {after : B} → (x ≡ b → after ≡ before)
-    → pairAnswer r spec five index x ≡ b → pairAnswer (λ k. before) spec five index after ≡ before
-pair-kept r spec five index {x} {b} before {after} h e = go (firstNumber (pairChecks spec five index)) e
+pub pair-kept : {A B : Type 0} (r : ℕ → A) (checks : List Check) {x b : A} (before : B) {after : B} → (x ≡ b → after ≡ before)
+    → answered r checks x ≡ b → left checks after before ≡ before
+pair-kept r checks {x} {b} before {after} h e = go (firstNumber checks) e
   where
     go : (n : ℕ) → unless r n x ≡ b → unless (λ k. before) n after ≡ before
     go zero e = unfold unless in h e

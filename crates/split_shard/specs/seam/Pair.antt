@@ -14,9 +14,13 @@ use Rattle.shard.specs.File.{indexLength, badFileLength}
 unfoldable pub badSeam : Sharding → List ℕ → Bool
 badSeam spec index = not (eqb (length index) (indexLength spec))
 
+-- 23 after the checks that a call has before it (RULES P1)
+abbrev pub thenSeam : List Check → Sharding → List ℕ → List Check
+thenSeam before spec index = before ++ (check 23 (badSeam spec index) ∷ [])
+
 -- 1, 5 and "23 [..] right after 5" of a call on a pair; what 5 is depends on the call (RULES P1)
 unfoldable pub pairChecks : Sharding → Bool → List ℕ → List Check
-pairChecks spec five index = check 1 (not (allowed spec)) ∷ check 5 five ∷ check 23 (badSeam spec index) ∷ []
+pairChecks spec five index = thenSeam (check 1 (not (allowed spec)) ∷ check 5 five ∷ []) spec index
 
 -- what such a call answers, and what it leaves: "But for 23 [..] as for the joined file"
 abbrev pub pairAnswer : {A : Type 0} → (ℕ → A) → Sharding → Bool → List ℕ → A → A

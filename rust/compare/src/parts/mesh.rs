@@ -57,7 +57,7 @@ pub const MESH_CHUNKS: Part = Part {
 pub const MESH_LISTED_COUNT: Part = Part {
     name: "mesh_listed_count",
     about: "how many manifests a minishard lists",
-    meets: &[0, 1, 5, 6, 7, 8, 9, 10, 11, 15, 16, 17, 21],
+    meets: &[0, 1, 5, 6, 7, 8, 9, 10, 11, 15, 16, 17, 21, 33],
     compare: |bytes| of_kinds(bytes, compare_listed_count),
     sample: sample_listed_count,
 };
@@ -66,7 +66,7 @@ pub const MESH_LISTED_COUNT: Part = Part {
 pub const MESH_LISTING: Part = Part {
     name: "mesh_listing",
     about: "the manifests that a minishard lists",
-    meets: &[0, 1, 5, 6, 7, 8, 9, 10, 11, 13, 15, 16, 17, 21],
+    meets: &[0, 1, 5, 6, 7, 8, 9, 10, 11, 13, 15, 16, 17, 21, 33],
     compare: |bytes| of_kinds(bytes, compare_listing),
     sample: sample_listing,
 };

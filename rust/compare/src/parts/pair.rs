@@ -44,7 +44,7 @@ pub const PAIR_CHECK: Part = Part {
 pub const PAIR_LISTING: Part = Part {
     name: "pair_listing",
     about: "the chunks that a minishard of a pair lists, and how many",
-    meets: &[0, 1, 5, 7, 8, 9, 10, 11, 13, 15, 16, 17, 21, 23],
+    meets: &[0, 1, 5, 7, 8, 9, 10, 11, 13, 15, 16, 17, 21, 23, 33],
     compare: |bytes| of_kinds(bytes, compare_listing),
     sample: sample_listing,
 };

@@ -40,7 +40,7 @@ pub const CHUNKS: Part = Part {
 pub const LISTED_COUNT: Part = Part {
     name: "listed_count",
     about: "how many chunks a minishard lists",
-    meets: &[0, 1, 5, 6, 7, 8, 9, 10, 11],
+    meets: &[0, 1, 5, 6, 7, 8, 9, 10, 11, 33],
     compare: |bytes| of_volume(bytes, compare_listed_count),
     sample: sample_listed_count,
 };
@@ -49,7 +49,7 @@ pub const LISTED_COUNT: Part = Part {
 pub const LISTING: Part = Part {
     name: "listing",
     about: "the chunks that a minishard lists",
-    meets: &[0, 1, 5, 6, 7, 8, 9, 10, 11, 13],
+    meets: &[0, 1, 5, 6, 7, 8, 9, 10, 11, 13, 33],
     compare: |bytes| of_volume(bytes, compare_listing),
     sample: sample_listing,
 };

@@ -261,8 +261,8 @@ extern "C" {
 
     /// How many chunks a minishard lists. Writes the number to `chunks`.
     ///
-    /// Refusals: 1, 5 (also for a minishard that is not there), 6, 7 to 11, 15 to 17 (mesh), 21
-    /// (mesh) of that minishard with the position
+    /// Refusals: 1, 5, 33 for a minishard that is not there, 6, 7 to 11, 15 to 17 (mesh), 21 (mesh)
+    /// of that minishard with the position
     pub fn coronagamba_listed_count(
         sharding: CSharding,
         shard: u64,
@@ -276,8 +276,8 @@ extern "C" {
     /// front of `out`: id, start counted from the file's first byte, length in bytes. Writes how
     /// many numbers these are, three times what coronagamba_listed_count gives, to `length`.
     ///
-    /// Refusals: 1, 5 (also for a minishard that is not there), 6, 7 to 11, 15 to 17 (mesh), 21
-    /// (mesh) of that minishard with the position, 13 where `out` has room for fewer
+    /// Refusals: 1, 5, 33 for a minishard that is not there, 6, 7 to 11, 15 to 17 (mesh), 21 (mesh)
+    /// of that minishard with the position, 13 where `out` has room for fewer
     pub fn coronagamba_listing(
         sharding: CSharding,
         shard: u64,
@@ -394,7 +394,7 @@ extern "C" {
     /// coronagamba_listed_count of a pair: how many chunks a minishard lists. Writes the number to
     /// `chunks`.
     ///
-    /// Refusals: 1, 5 (also for a minishard that is not there), 23, 6, 7 to 11, 15 to 17 (mesh), 21
+    /// Refusals: 1, 5, 33 for a minishard that is not there, 23, 6, 7 to 11, 15 to 17 (mesh), 21
     /// (mesh) of that minishard with the position
     pub fn coronagamba_pair_listed_count(
         sharding: CSharding,
@@ -412,7 +412,7 @@ extern "C" {
     /// byte, length in bytes. Writes how many numbers these are, three times what
     /// coronagamba_pair_listed_count gives, to `length`.
     ///
-    /// Refusals: 1, 5 (also for a minishard that is not there), 23, 6, 7 to 11, 15 to 17 (mesh), 21
+    /// Refusals: 1, 5, 33 for a minishard that is not there, 23, 6, 7 to 11, 15 to 17 (mesh), 21
     /// (mesh) of that minishard with the position, 13 where `out` has room for fewer
     pub fn coronagamba_pair_listing(
         sharding: CSharding,
@@ -543,8 +543,8 @@ extern "C" {
 
     /// Announces the next chunk, by rising minishard and then rising id, and its number of bytes,
     /// which are owed from then on. Where it is the first of its minishard, writes the minishard
-    /// index of the one before to `out`. Writes its id and size to `waiting`, and the new state to
-    /// `state`.
+    /// index of the one before, and that one's entry in the shard index, to `out`. Writes its id
+    /// and size to `waiting`, and the new state to `state`.
     ///
     /// Refusals: 30 where a buffer has another length than on opening, 10 where the id belongs to
     /// another shard, 25 out of order or after the close or where the state contradicts itself or

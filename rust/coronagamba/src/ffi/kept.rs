@@ -303,8 +303,8 @@ fn on_sound_shard(file: &[u8]) -> Vec<Case<'_>> {
         12 => coronagamba_lookup(TWO, 0, from, count, 7, lent.one(), lent.one());
         12 => coronagamba_fragment(TWO, 0, from, count, 7, 0, 0, lent.one(), lent.one());
         18 => coronagamba_fragment(TWO, 0, from, count, 5, 0, 0, lent.one(), lent.one());
-        5 => coronagamba_listed_count(TWO, 0, from, count, 2, lent.one());
-        5 => coronagamba_listing(TWO, 0, from, count, 2, lent.many(9), 9, lent.one());
+        33 => coronagamba_listed_count(TWO, 0, from, count, 2, lent.one());
+        33 => coronagamba_listing(TWO, 0, from, count, 2, lent.many(9), 9, lent.one());
         13 => coronagamba_listing(TWO, 0, from, count, 1, lent.many(5), 5, lent.one());
         13 => coronagamba_settle(TWO, 0, from, count, 0, lent.many(84), 84, lent.one());
     })
@@ -437,8 +437,8 @@ fn on_sound_pair(pair: Files<'_>) -> Vec<Case<'_>> {
         12 => coronagamba_pair_lookup(TWO, 0, i, n, d, m, 7, lent.one(), lent.one());
         12 => coronagamba_pair_fragment(TWO, 0, i, n, d, m, 7, 0, 0, lent.one(), lent.one());
         18 => coronagamba_pair_fragment(TWO, 0, i, n, d, m, 5, 0, 0, lent.one(), lent.one());
-        5 => coronagamba_pair_listed_count(TWO, 0, i, n, d, m, 2, lent.one());
-        5 => coronagamba_pair_listing(TWO, 0, i, n, d, m, 2, lent.many(9), 9, lent.one());
+        33 => coronagamba_pair_listed_count(TWO, 0, i, n, d, m, 2, lent.one());
+        33 => coronagamba_pair_listing(TWO, 0, i, n, d, m, 2, lent.many(9), 9, lent.one());
         13 => coronagamba_pair_listing(TWO, 0, i, n, d, m, 1, lent.many(5), 5, lent.one());
         13 => coronagamba_pair_settle(TWO, 0, i, n, d, m, 0, lent.many(84), 84, lent.one());
     })

@@ -1,4 +1,4 @@
-//! Refusals of a shard: 5 to 13, 22, of a mesh 15 to 18 and 21, and of a pair 23 and
+//! Refusals of a shard: 5 to 13, 22, 33, of a mesh 15 to 18 and 21, and of a pair 23 and
 //! 24. Where a fault stands is what the library says; here the numbers at that place
 //! are read and put into words.
 
@@ -47,7 +47,7 @@ pub fn of_shard<'a>(
     }
 }
 
-/// A refusal of one minishard's listing: 1, 5 to 11, 15 to 17, 21.
+/// A refusal of one minishard's listing: 1, 5 to 11, 15 to 17, 21, 33.
 pub fn of_listing<'a>(
     sharding: &'a Sharding,
     number: u64,
@@ -57,7 +57,7 @@ pub fn of_listing<'a>(
 ) -> Diagnosis {
     let seen = Seen::of(sharding, number, bytes);
     match refusal.number {
-        5 if minishard >= seen.minishards() => seen.no_minishard(minishard),
+        33 => seen.no_minishard(minishard),
         number if is_fault(number) => told(seen.fault(minishard, refusal)),
         _ => of_shard(sharding, number, seen.bytes, refusal),
     }
@@ -243,7 +243,7 @@ impl<'a> Seen<'a> {
         Some(Diagnosis::new(found, expected, whole))
     }
 
-    /// Refusal 5 of a minishard number.
+    /// Refusal 33.
     fn no_minishard(&self, minishard: u64) -> Diagnosis {
         Diagnosis::new(
             format!("minishard number {minishard}"),
@@ -831,7 +831,7 @@ mod tests {
     fn minishards_that_are_not_there() {
         let file = sound();
         let refusal = Shard::open(SHARDING, 0, &file).listed_count(2).unwrap_err();
-        assert_eq!(refusal.number, 5);
+        assert_eq!(refusal.number, 33);
         let told = of_listing(&SHARDING, 0, &file, 2, refusal);
         assert_eq!(told.found, "minishard number 2");
         assert_eq!(told.expected, "a number below 2 (minishard bits: 1)");

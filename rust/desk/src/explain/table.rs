@@ -29,8 +29,8 @@ pub const TABLE: &[Explained] = &[
     },
     Explained {
         number: 3,
-        given: "a key is made or decoded, or a card read or written, or an info file read, and \
-         the grid needs more than 64 key bits",
+        given: "a key is made or decoded, keys are listed for a box, a card is read or written, \
+         or an info file is read, and the grid needs more than 64 key bits",
         cause: "A chunk size that is much too small for the volume, often 1,1,1 by mistake.",
         remedy: "Correct --size and --chunk. Such a grid has no keys in the published format.",
     },
@@ -44,13 +44,12 @@ pub const TABLE: &[Explained] = &[
     Explained {
         number: 5,
         given: "a shard number is not below 2^shard_bits, or the id asked for belongs to another \
-         shard; beyond the table, in a listing, also where a minishard number is not below \
-         2^minishard_bits",
-        cause: "The wrong shard file for this id, a file from a deposit with other shard bits, a \
-         --minishard beyond the last one, or wrong settings.",
+         shard",
+        cause: "The wrong shard file for this id, a file from a deposit with other shard bits, \
+         or wrong settings.",
         remedy: "Give the deposit's folder in place of the file: 'get' then finds the shard of \
-         the id by itself. 'card show' tells how many shards and minishards there are. If \
-         the place still surprises you, compare the settings with the deposit's papers.",
+         the id by itself. 'card show' tells how many shards there are. If the place \
+         still surprises you, compare the settings with the deposit's papers.",
     },
     Explained {
         number: 6,
@@ -217,7 +216,7 @@ pub const TABLE: &[Explained] = &[
     Explained {
         number: 23,
         given: "of a shard of the earlier two-file edition, the index file is not exactly as \
-         long as the shard index; right after 5",
+         long as the shard index; right after 5, in a listing after 33",
         cause: "A copy that was cut short, the two files given in the wrong order, an index file \
          of another deposit, or wrong minishard bits in the settings.",
         remedy: "The shard index has 16 bytes for each minishard, 2^minishard_bits of them: \
@@ -293,5 +292,14 @@ pub const TABLE: &[Explained] = &[
         cause: "Another buffer than the one that the shard was opened with, a shorter part of \
          it, or the two buffers exchanged.",
         remedy: "Lend the output and the second buffer of the opening, both whole, to each call.",
+    },
+    Explained {
+        number: 33,
+        given: "a number of this library's own, beyond the papers' table: in a listing or its \
+         count, a minishard number is not below 2^minishard_bits",
+        cause: "A --minishard beyond the last one, or settings with other minishard bits than \
+         the deposit's.",
+        remedy: "'card show' tells how many minishards a shard has; their numbers begin at 0. If \
+         that surprises you, compare the settings with the deposit's papers.",
     },
 ];

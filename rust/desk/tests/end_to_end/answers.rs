@@ -208,7 +208,7 @@ fn advice_can_be_followed() {
         assert!(!explained(number).contains("'same'"), "{number}");
     }
     assert!(explained(9).contains("'check'"));
-    assert!(explained(5).contains("a minishard number is not below 2^minishard_bits"));
+    assert!(explained(33).contains("a minishard number is not below 2^minishard_bits"));
     let told = explained(18);
     let (cause, remedy) = told.split_once("what to do").expect("a remedy");
     let (_, cause) = cause.split_once("usual cause").expect("a cause");

@@ -45,7 +45,7 @@ fn shards_of_many_minishards() {
         assert_eq!(listed.expect_status(0).lines().len(), 1, "{listed}");
         let past = folder.run_line(&format!("list a/0.shard --minishard {} {words}", last + 1));
         past.expect_status(1);
-        assert!(past.stderr.contains("refused 5:"), "{past}");
+        assert!(past.stderr.contains("refused 33:"), "{past}");
         let settled = folder.run_line(&format!("settle --drop-unlisted a --out b {words}"));
         settled.expect_status(0);
         let content: [settle::Listed; 2] = [(0, b"abc"), (last, b"ab")];

@@ -296,7 +296,7 @@ fn number_5_another_shard() {
         refused_bare(&folder, &format!("list 0.shard --shard {number} {one}"), 5);
         refused_bare(&folder, &format!("name --shard {number} {one}"), 5);
     }
-    refused_bare(&folder, &format!("list 0.shard --minishard 2 {one}"), 5);
+    refused_bare(&folder, &format!("list 0.shard --minishard 2 {one}"), 33);
     let two = Sharding {
         shard_bits: 1,
         ..ONE

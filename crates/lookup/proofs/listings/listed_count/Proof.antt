@@ -1,4 +1,4 @@
--- The count of a listing: the refusals 1, 5 and 6, then over two parts.
+-- The count of a listing: the refusals 1, 5, 33 and 6, then over two parts.
 use borrow.Author.Needs.{needs}
 use Rattle.refusal.proofs.Tests.{told-yes}
 use Rattle.lookup.proofs.listings.Listings.{count-spec, count-shard, count-minishard, count-short, count-long, count-parts}

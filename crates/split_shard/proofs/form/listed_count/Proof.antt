@@ -1,4 +1,4 @@
--- The count of a listing: 1, 5, 23, 6, then over the two files.
+-- The count of a listing: 1, 5, 33, 23, 6, then over the two files.
 use Rattle.split_shard.proofs.form.Listed.{counting}
 use Rattle.split_shard.proofs.form.listed_count.Statement.{statement}
 use Rattle.split_shard.proofs.form.listed_count.Tie as tie
