@@ -247,6 +247,10 @@ mod tests {
         let short = Pair::cut(&file[..15], 15);
         assert_eq!(short.check(&ONE, 0), Err(Refusal::bare(23)));
         assert_eq!(short.check(&ONE, 1), Err(Refusal::bare(5)));
+        let listed = |number, minishard| short.list_minishard(&ONE, number, minishard);
+        assert_eq!(listed(1, 1), Err(Refusal::bare(5)));
+        assert_eq!(listed(0, 1), Err(Refusal::bare(33)));
+        assert_eq!(listed(0, 0), Err(Refusal::bare(23)));
         let none = Sharding { hash: 2, ..ONE };
         assert_eq!(short.check(&none, 1), Err(Refusal::bare(1)));
         assert_eq!(short.range(&none, 0, 0), Err(1));

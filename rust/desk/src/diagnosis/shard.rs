@@ -831,7 +831,7 @@ mod tests {
     fn minishards_that_are_not_there() {
         let file = sound();
         let refusal = Shard::open(SHARDING, 0, &file).listed_count(2).unwrap_err();
-        assert_eq!(refusal.number, 5);
+        assert_eq!(refusal.number, 33);
         let told = of_listing(&SHARDING, 0, &file, 2, refusal);
         assert_eq!(told.found, "minishard number 2");
         assert_eq!(told.expected, "a number below 2 (minishard bits: 1)");
