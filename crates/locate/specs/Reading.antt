@@ -1,4 +1,4 @@
--- What the functions that read promise (RULES C7).
+-- What the functions that read promise.
 use Prim.Native.Nat.{ℕ, _≤_}
 use mathlib.Core.Path.{_≡_}
 use mathlib.Core.Bool.{Bool, true, _&&_}
@@ -16,7 +16,7 @@ use Rattle.locate.specs.declared.Came.{Came}
 use Rattle.locate.specs.declared.Block.{Block}
 use Rattle.locate.specs.declared.Start.{Start}
 
--- the input could be read: all bytes came that were asked for, or one read more answered that there is none
+-- the input could be read: all bytes came that were asked for, or one read more answered that there is none (RULES C7)
 pub record Readable (got asked : ℕ) (r : Bool) : Type 0 where
   pub answer : ℤ
   pub made : r ≡ pick (eqb got asked) true (isNone answer)

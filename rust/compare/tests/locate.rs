@@ -4,6 +4,8 @@ use reference::card::{self, Card};
 use std::env;
 use std::fs::File;
 use std::io::Write;
+use std::os::fd::OwnedFd;
+use std::os::unix::net::UnixStream;
 use std::path::PathBuf;
 use std::process::{Command, Stdio};
 use testkit::{places, Rng};
@@ -167,6 +169,29 @@ fn what_it_can_not_read() {
             .output()
             .expect("the program runs");
         assert_eq!(String::from_utf8_lossy(&output.stdout), "unreadable\n");
+    }
+}
+
+/// A read that fails behind what came: the whole cells before it are told, and
+/// neither `cut` nor a refused card.
+#[test]
+fn a_read_that_fails() {
+    let whole = small_input(0, [0; 3]);
+    let lines = run(&whole);
+    for length in 0..=whole.len() {
+        let (input, mut other) = UnixStream::pair().expect("two ends");
+        input.set_nonblocking(true).expect("reads that do not wait");
+        other
+            .write_all(&whole[..length])
+            .expect("room for the input");
+        let output = Command::new(program())
+            .stdin(OwnedFd::from(input))
+            .output()
+            .expect("the program runs");
+        let cells = length.saturating_sub(48) / 12;
+        let told = lines.split_inclusive(|&byte| byte == b'\n').take(cells);
+        let expected = [told.flatten().copied().collect(), b"unreadable\n".to_vec()].concat();
+        assert_eq!(output.stdout, expected, "{length}");
     }
 }
 
