@@ -1,18 +1,18 @@
 // Places that were looked at, in a map.
 
 ghost use mathlib.Core.Path.{_≡_};
-ghost use mathlib.Core.Bool.{true};
 ghost use Prim.Native.Nat.{_+_, _*_, _<_, _^_};
 ghost use lib.ListN.{length};
 ghost use Rattle.bitmap.specs.Positions.{within};
-ghost use Rattle.bitmap.specs.Bits.{Marked};
-ghost use Rattle.bitmap.specs.visited.Seen.{Seen, Sees, Blank};
+ghost use Rattle.bitmap.specs.Bits.{bitAt, Marked};
+ghost use Rattle.bitmap.specs.visited.Seen.{Sees, Blank};
 
 pub const MAP_WORDS: usize = 4096;
 
+// Whether place o is noted: none past the map is.
 pub fn is_seen(map: &[u64], o: u64) -> bool
     requires { ⌜ o < 2 ^ 32 ⌝ }
-    ensures { λ r. ⌜ (r ≡ true → Seen (now (map .entry)) o) ⌝ }
+    ensures { λ r. ⌜ r ≡ bitAt (now (map .entry)) o ⌝ }
 {
     let i = o as usize;
     if map.len() <= i / 64 {

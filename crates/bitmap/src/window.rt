@@ -58,7 +58,7 @@ fn open_count(map: &[u64]) -> u64
 // How many of the positions below n are not noted; those from n on are then noted too.
 pub fn open_below(map: &mut [u64], n: usize) -> u64
     requires { ⌜ (length (now map) ≡ windowWords) × (n ≤ span) ⌝ }
-    ensures { λ r. ⌜ r ≡ misses (noted (now (map .entry))) n ⌝ }
+    ensures { λ r. ⌜ (r ≡ misses (noted (now (map .entry))) n) × Notes (now (map .entry)) (now (map .exit)) (within n span) ⌝ }
 {
     note(map, n, SPAN);
     open_count(map)

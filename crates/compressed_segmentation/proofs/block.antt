@@ -3,3 +3,4 @@ pub mod Mild
 pub mod Inside
 pub mod Runs
 pub mod Sure
+pub mod Visited

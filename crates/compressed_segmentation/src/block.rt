@@ -2,12 +2,11 @@
 
 ghost use mathlib.Core.Path.{_≡_};
 ghost use mathlib.Core.Bool.{true, false};
-ghost use Prim.Native.Nat.{_+_, _-_, _/_, _<_, _≤_};
+ghost use Prim.Native.Nat.{_+_, _/_, _<_, _≤_};
 ghost use lib.ListN.{length};
-ghost use Rattle.compressed_segmentation.specs.Words.{word};
 ghost use Rattle.compressed_segmentation.specs.Layout.{widthIn};
 ghost use Rattle.compressed_segmentation.specs.Labels.{labelWords};
-ghost use Rattle.compressed_segmentation.specs.block.Checks.{Header, Reached, wholeEntries, voxelsRefusal};
+ghost use Rattle.compressed_segmentation.specs.block.Checks.{Header, Reached, wholeEntries, voxelsRefusal, repeatsHeader};
 use crate::packed_values::Far;
 use crate::packed_values::is_below;
 use crate::packed_values::linear;
@@ -57,7 +56,7 @@ pub fn is_reached(
 // The header at word `at` has packed values and is that of the two words before it.
 pub fn repeats_header(chunk: &[u8], at: u64) -> bool
     requires { ⌜ (2 ≤ at) × (at + 2 ≤ length (now chunk) / 4) ⌝ }
-    ensures { λ r. ⌜ (r ≡ true → (word (now (chunk .entry)) (at - 2) ≡ word (now (chunk .entry)) at) × (word (now (chunk .entry)) (at - 1) ≡ word (now (chunk .entry)) (at + 1))) ⌝ }
+    ensures { λ r. ⌜ r ≡ repeatsHeader (now (chunk .entry)) at ⌝ }
 {
     let first = word_at(chunk, at);
     if first / 16777216 == 0 {

@@ -37,16 +37,18 @@ fn note(words: &mut [u64], x: u64) -> bool
     new != old
 }
 
-// What a look through the filter tells: the answer, if it is sure.
+// What a look through the filter tells: the answer, if it is sure; else `at` tells nothing.
 pub struct Told {
     pub at: usize,
     pub sure: bool,
 }
 
-// An id that seems to be noted is looked for among the entries before it: at most 64 of them in vain.
+// An id that seems to be noted is looked for among the entries before it: at most 64 of them in vain. The look is sure of 64
+// entries or fewer. Of more it may give up, as the hashes of their ids fall; the answer is then found by passes.
 fn sift(data: &[u8], p: usize, n: usize, words: &mut [u64]) -> Told
     requires { ⌜ (p + 8 * n ≤ length (now «data»)) × (length (now words) ≡ 32768) ⌝ }
     ensures { λ r. ⌜ (r .sure ≡ true → r .at ≡ firstTwice (rowAt (now («data» .entry)) p) n) ⌝ }
+    ensures { λ r. ⌜ (n ≤ 64 → r .sure ≡ true) ⌝ }
 {
     let mut vain: u64 = 0;
     let mut id: u64 = 0;
@@ -70,6 +72,7 @@ fn sift(data: &[u8], p: usize, n: usize, words: &mut [u64]) -> Told
 pub fn sifted(data: &[u8], p: usize, n: usize) -> Told
     requires { ⌜ p + 8 * n ≤ length (now «data») ⌝ }
     ensures { λ r. ⌜ (r .sure ≡ true → r .at ≡ firstTwice (rowAt (now («data» .entry)) p) n) ⌝ }
+    ensures { λ r. ⌜ (n ≤ 64 → r .sure ≡ true) ⌝ }
 {
     let mut words = [0u64; 32768];
     sift(data, p, n, &mut words)

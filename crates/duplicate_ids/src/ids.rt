@@ -6,8 +6,8 @@ ghost use Prim.Native.Nat.{_+_, _*_, _%_, _^_, _≤_};
 ghost use lib.Dec.{eqb, ltb};
 ghost use lib.ListN.{length};
 ghost use Rattle.endian.specs.Little.{rowAt};
-ghost use Rattle.endian.specs.Range.{sumTo, anyBelow};
-ghost use Rattle.duplicate_ids.specs.ids.Ids.{idAt, repeats};
+ghost use Rattle.endian.specs.Range.{sumTo, anyBelow, first};
+ghost use Rattle.duplicate_ids.specs.ids.Ids.{idAt, repeats, stopsRising};
 use endian::read_u64;
 
 // The id of entry i, from that of the entry before it.
@@ -19,10 +19,10 @@ pub fn next_id(data: &[u8], p: usize, i: usize, before: u64) -> u64
     std::num::wrapping_add_u64(before, read_u64(data, p + 8 * i))
 }
 
-// As many of the first entries as have ids that rise and do not wrap.
+// As many of the first entries as have ids that rise: none of them has the id of an earlier one.
 pub fn rising(data: &[u8], p: usize, n: usize) -> usize
     requires { ⌜ p + 8 * n ≤ length (now «data») ⌝ }
-    ensures { λ r. ⌜ (r ≤ n) × (anyBelow r (repeats (idAt (rowAt (now («data» .entry)) p))) ≡ false) ⌝ }
+    ensures { λ r. ⌜ (r ≡ first (stopsRising (idAt (rowAt (now («data» .entry)) p))) n) × (r ≤ n) × (anyBelow r (repeats (idAt (rowAt (now («data» .entry)) p))) ≡ false) ⌝ }
 {
     let mut id: u64 = 0;
     let mut i: usize = 0;

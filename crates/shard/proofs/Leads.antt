@@ -28,7 +28,7 @@ mesh-leads spec k body = rw k
 -- as the code tells them apart
 module _ (spec : Sharding) {b : Bool} (e : b ≡ isMesh spec) where
   pub kind-told : MayLead spec b
-  kind-told = record { none = λ v. volume-leads spec (sym e ∙ v) }
+  kind-told = record { mesh = e; none = λ v. volume-leads spec (sym e ∙ v) }
 
   pub no-lead : not b ≡ true → (body : List ℕ) → 0 ≡ leadLength spec body
   no-lead v body = sym (volume-leads spec (told-no e v) body)

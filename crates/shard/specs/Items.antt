@@ -48,6 +48,7 @@ pub record Led (spec : Sharding) (d : List ℕ) (start size : ℕ) : Type 0 wher
 abbrev pub NoLeads : Sharding → Type 0
 NoLeads spec = (body : List ℕ) → leadLength spec body ≡ 0
 
--- nor has any where b is false
+-- b tells whether any chunk may have one: those of a mesh may; where b is false none has
 pub record MayLead (spec : Sharding) (b : Bool) : Type 0 where
+  pub mesh : b ≡ isMesh spec
   pub none : b ≡ false → NoLeads spec

@@ -171,7 +171,7 @@ pub ruleset answering = (unlisted-disallowed, entry-allowed, unlisted-shard, unl
 
 module _ {spec : Sharding} {shard : ℕ} {index d : List ℕ} {r : Judged} (j : JudgedAs spec shard index d r) where
   pub judged-counts : (r .number ≡ 0 → ⊥) → Counts spec shard index d (record { number = r .number; position = r .position; bytes = 0 })
-  judged-counts n = record { number = j .number; position = j .position; count = λ z. absurd (n z) }
+  judged-counts n = record { number = j .number; position = j .position; count = λ z. absurd (n z); none = λ _. refl }
 
   module _ (z : r .number ≡ 0) where
     pub judged-ranged : allowed spec ≡ true → length index ≡ indexLength spec → length d ≤ mostShardBytes → RangedShard spec index d
@@ -181,4 +181,4 @@ module _ {spec : Sharding} {shard : ℕ} {index d : List ℕ} {r : Judged} (j : 
     judged-tells = j .tells z
 
     pub judged-counted : {n : ℕ} → n ≡ unlistedBytes spec index d → Counts spec shard index d (record { number = 0; position = r .position; bytes = n })
-    judged-counted e = record { number = sym z ∙ j .number; position = j .position; count = λ q. e }
+    judged-counted e = record { number = sym z ∙ j .number; position = j .position; count = λ q. e; none = λ n. absurd (n refl) }

@@ -34,8 +34,9 @@ pub record JudgedAs (spec : Sharding) (shard : ℕ) (index d : List ℕ) (r : Ju
   pub each : r .number ≡ 0 → (m : ℕ) → m < minishardCount spec → faultOf spec shard index d m .number ≡ 0
   pub tells : r .number ≡ 0 → Tells (coveredAt spec index d) (r .run)
 
--- of a shard: its fault; where it has none how many bytes are unlisted
+-- of a shard: its fault, and where it has none how many bytes are unlisted, else 0
 pub record Counts (spec : Sharding) (shard : ℕ) (index d : List ℕ) (r : Counted) : Type 0 where
   pub number : r .number ≡ shardFault spec shard index d .number
   pub position : r .position ≡ shardFault spec shard index d .position
   pub count : r .number ≡ 0 → r .bytes ≡ unlistedBytes spec index d
+  pub none : (r .number ≡ 0 → ⊥) → r .bytes ≡ 0

@@ -8,7 +8,7 @@ ghost use Rattle.shard.specs.index.Index.{startSteps, sizes};
 ghost use Rattle.shard.specs.Items.{leadLength, Led};
 ghost use Rattle.unlisted.specs.ranges.Covered.{inItems};
 ghost use Rattle.unlisted.specs.runs.Reading.{Ranged};
-ghost use Rattle.unlisted.specs.runs.Stretches.{Joined, Summed, Stretched};
+ghost use Rattle.unlisted.specs.runs.Stretches.{Joined, Summed, Stretched, TellsRun};
 use endian::read_u64;
 use shard::lengths::has_leads;
 use shard::lengths::lead_length;
@@ -57,7 +57,7 @@ fn sums_of(data: &[u8], s: usize, n: usize, k: usize) -> Sums
     Sums { steps, sizes: sum }
 }
 
-// Whether the first k items are known to hold the bytes of one range, and where it begins and ends.
+// Whether the first k items are known to hold the bytes of one range, and where it begins and ends; else both numbers tell nothing.
 pub struct Stretch {
     pub whole: bool,
     pub from: usize,
@@ -77,7 +77,7 @@ fn no_stretch() -> Stretch
 // They are where no chunk has a lead and each begins where the one before it ends.
 pub fn stretch_of(spec: Sharding, data: &[u8], s: usize, n: usize, k: usize) -> Stretch
     requires { ⌜ Ranged spec (now «data») s n × (k ≤ n) ⌝ }
-    ensures { λ r. ⌜ Stretched (inItems spec (now («data» .entry)) s n k) r ⌝ }
+    ensures { λ r. ⌜ Stretched (inItems spec (now («data» .entry)) s n k) r × TellsRun spec (startSteps (now («data» .entry)) s n) k (r .whole) ⌝ }
 {
     if has_leads(spec) {
         return no_stretch();

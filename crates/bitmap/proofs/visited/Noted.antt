@@ -9,10 +9,10 @@ use native.Mathlib.Nat.{pow-suc}
 use native.Mathlib.Numerals.{add-one}
 use lib.Bits.{bitOr}
 use lib.Dec.{eqb, leb, ltb}
-use lib.ListN.{length, getD, set, length-set, replicate}
+use lib.ListN.{length, getD, set, length-set, replicate, List·getD-eq-default}
 use lib.Seq.{getD-set-same, getD-set-other}
 use lib.Pow.{shl-exact, pow-pos}
-use borrow.Author.Tests.{leb-true, ltb-true, le-leb, lt-ltb, eqb-true, eqb-false}
+use borrow.Author.Tests.{leb-true, leb-false, ltb-true, le-leb, lt-ltb, eqb-true, eqb-false}
 use Rattle.refusal.proofs.Tests.{both, neither}
 use Rattle.bitmap.specs.Positions.{within}
 use Rattle.bitmap.specs.Bits.{bitAt, Marked}
@@ -28,14 +28,22 @@ bit-at : (map : List ℕ) (o : ℕ) → bitAt map o ≡ eqb (getD map (o / 64) 0
 unfolding bitAt
 bit-at map o = bit-shift (o % 64) (getD map (o / 64) 0)
 
-pub seen-read : (map : List ℕ) (o : ℕ) → o / 64 < length map → eqb (getD map (o / 64) 0 / 2 ^ (o % 64) % 2) 1 ≡ true → Seen map o
-seen-read map o h e = record { inside = omega arith; bit = bit-at map o ∙ e }
-
-pub no-bit : (map : List ℕ) (o : ℕ) → false ≡ true → Seen map o
-no-bit map o e = absurd (true≢false (sym e))
+pub bit-read : (map : List ℕ) (o : ℕ) → eqb (getD map (o / 64) 0 / 2 ^ (o % 64) % 2) 1 ≡ bitAt map o
+bit-read map o = sym (bit-at map o)
 
 zero-bit : (x : ℕ) → eqb (0 / 2 ^ x % 2) 1 ≡ false
 zero-bit x = sym (bit-shift x 0) ∙ bit-zero x
+
+pub bit-past : (map : List ℕ) (o : ℕ) → length map ≤ o / 64 → false ≡ bitAt map o
+bit-past map o h = sym (bit-at map o ∙ (let z = List·getD-eq-default map 0 h in rw z (zero-bit (o % 64))))
+
+-- a bit that is set lies in the map
+pub seen-bit : {map : List ℕ} {o : ℕ} {b : Bool} → b ≡ bitAt map o → b ≡ true → Seen map o
+seen-bit {map} {o} q e = go (leb (length map) (o / 64)) refl
+  where
+    go : (t : Bool) → leb (length map) (o / 64) ≡ t → Seen map o
+    go true l = absurd (true≢false (sym e ∙ q ∙ sym (bit-past map o (leb-true (length map) (o / 64) l))))
+    go false l = record { inside = omega (arith, leb-false (length map) (o / 64) l); bit = sym q ∙ e }
 
 -- ---- noting
 

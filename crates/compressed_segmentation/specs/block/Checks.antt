@@ -1,10 +1,12 @@
 -- What the inner functions' contracts say: the refusal of a chunk as the greatest number of its headers, then of its blocks. 29 stands above 28, and 28 above 0.
 use Prim.Native.Nat.{ℕ, zero, suc, _+_, _-_, _*_, _/_, _%_, _<_, min, max}
 use mathlib.Core.Path.{_≡_}
-use mathlib.Core.Bool.{true}
+use mathlib.Core.Bool.{Bool, true, _&&_}
 use mathlib.Core.List.{List}
+use lib.Dec.{eqb, ltb}
 use lib.ListN.{length}
 use Rattle.refusal.specs.Choice.{pick}
+use Rattle.bitmap.specs.visited.Seen.{Seen}
 use Rattle.morton.specs.declared.grid.Extents.{Extents}
 use Rattle.compressed_segmentation.specs.declared.Shape.{Shape}
 use Rattle.compressed_segmentation.specs.Words.{word, whole}
@@ -89,8 +91,25 @@ insideOf sh n =
 unfoldable pub blockRefusal : List ℕ → Shape → ℕ → ℕ → ℕ
 blockRefusal s sh o n = voxelsRefusal s (labelWords (sh .wide)) o (word s (o + 2 * n)) (word s (o + 2 * n + 1)) (sh .block) (insideOf sh n)
 
+-- the header at word i has packed values, and its two words are those right before it
+unfoldable pub repeatsHeader : List ℕ → ℕ → Bool
+repeatsHeader s i = ltb 0 (widthIn (word s i)) && (eqb (word s (i - 2)) (word s i) && eqb (word s (i - 1)) (word s (i + 1)))
+
 unfoldable pub channelRefusal : List ℕ → Shape → ℕ → ℕ
 channelRefusal s sh c = greatest (blockRefusal s sh (word s c)) (blockCount sh)
 
 unfoldable pub blocksRefusal : List ℕ → Shape → ℕ
 blocksRefusal s sh = greatest (channelRefusal s sh) (sh .channels)
+
+-- ---- the map of places that a walk over the channels leaves, from one that notes none
+
+-- one of the first n channels has its headers at word o
+pub record ChannelAt (s : List ℕ) (n o : ℕ) : Type 0 where
+  pub channel : ℕ
+  pub below : channel < n
+  pub here : o ≡ word s channel
+
+-- it notes such places alone; and each of them that it reaches, where none of the n channels is refused
+pub record Visits (s : List ℕ) (n refusal : ℕ) (map : List ℕ) : Type 0 where
+  pub only : (o : ℕ) → Seen map o → ChannelAt s n o
+  pub all : refusal ≡ 0 → (c : ℕ) → c < n → word s c < 64 * length map → Seen map (word s c)

@@ -7,7 +7,7 @@ ghost use lib.ListN.{length};
 ghost use Rattle.compressed_segmentation.specs.Words.{word};
 ghost use Rattle.compressed_segmentation.specs.Layout.{noVoxels, widthIn, isWidth};
 ghost use Rattle.compressed_segmentation.specs.block.Voxels.{refusalIn};
-ghost use Rattle.compressed_segmentation.specs.block.Checks.{blockCount, headerRefusal, headersRefusal, insideOf, blockRefusal, blocksRefusal, greatest};
+ghost use Rattle.compressed_segmentation.specs.block.Checks.{blockCount, headerRefusal, headersRefusal, insideOf, blockRefusal, blocksRefusal, greatest, Visits};
 ghost use Rattle.bitmap.specs.visited.Seen.{Blank};
 use crate::LabelAnswer;
 use crate::Shape;
@@ -135,10 +135,11 @@ fn other_channel(chunk: &[u8], shape: Shape, known: bool, o: u64, count: u64) ->
     channel_refusal(chunk, shape, o, count)
 }
 
-// The blocks of a chunk whose headers are all whole and have widths.
+// The blocks of a chunk whose headers are all whole and have widths. The walk ends at the first channel that is refused.
 pub fn blocks_refusal(chunk: &[u8], shape: Shape, seen: &mut [u64]) -> u8
     requires { ⌜ (noVoxels shape ≡ false) × (headersRefusal (now chunk) shape ≡ 0) × Blank (now seen) ⌝ }
     ensures { λ r. ⌜ r ≡ blocksRefusal (now (chunk .entry)) shape ⌝ }
+    ensures { λ r. ⌜ Visits (now (chunk .entry)) (shape .channels) r (now (seen .exit)) ⌝ }
 {
     let count = block_count(shape, words(chunk) / 2 + 1);
     let n = shape.channels;

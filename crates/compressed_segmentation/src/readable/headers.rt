@@ -5,7 +5,7 @@ ghost use mathlib.Core.Bool.{true, false};
 ghost use Prim.Native.Nat.{_+_, _/_, _<_, _≤_, _^_, min, max};
 ghost use lib.ListN.{length};
 ghost use Rattle.compressed_segmentation.specs.Layout.{noVoxels};
-ghost use Rattle.compressed_segmentation.specs.block.Checks.{blockCount, headerRefusal, channelHeaders, headersRefusal, greatest};
+ghost use Rattle.compressed_segmentation.specs.block.Checks.{blockCount, headerRefusal, channelHeaders, headersRefusal, greatest, Visits};
 ghost use Rattle.bitmap.specs.visited.Seen.{Blank};
 use crate::Shape;
 use crate::packed_values::linear;
@@ -86,6 +86,7 @@ fn with_channel(chunk: &[u8], worst: u8, known: bool, o: u64, count: u64) -> u8
 fn headers_of(chunk: &[u8], count: u64, n: u64, seen: &mut [u64]) -> u8
     requires { ⌜ (count ≤ length (now chunk) / 4 + 1) × (n ≤ length (now chunk) / 4) × Blank (now seen) ⌝ }
     ensures { λ r. ⌜ r ≡ greatest (channelHeaders (now (chunk .entry)) count) n ⌝ }
+    ensures { λ r. ⌜ Visits (now (chunk .entry)) n r (now (seen .exit)) ⌝ }
 {
     let mut worst = 0u8;
     let mut c = 0u64;
@@ -105,6 +106,7 @@ fn headers_of(chunk: &[u8], count: u64, n: u64, seen: &mut [u64]) -> u8
 pub fn headers_refusal(chunk: &[u8], shape: Shape, seen: &mut [u64]) -> u8
     requires { ⌜ (noVoxels shape ≡ false) × Blank (now seen) ⌝ }
     ensures { λ r. ⌜ r ≡ headersRefusal (now (chunk .entry)) shape ⌝ }
+    ensures { λ r. ⌜ Visits (now (chunk .entry)) (shape .channels) r (now (seen .exit)) ⌝ }
 {
     let whole = words(chunk);
     let count = block_count(shape, whole / 2 + 1);

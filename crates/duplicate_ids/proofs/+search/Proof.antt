@@ -35,6 +35,6 @@ pub +search-spec : {M : Type 1} → statement M
     (λ c κs. search needs)
     (λ c. search needs)
     (λ c κs. search needs)
-    (λ c. c .before .sifted .ensures (c .if3 .taken))
+    (λ c. c .before .sifted .ensures .0 (c .if3 .taken))
     (λ c κs. search needs)
     (λ c. search needs))

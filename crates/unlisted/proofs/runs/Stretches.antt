@@ -1,12 +1,12 @@
 -- Laws of items that stand in one run.
 use Prim.Native.Nat.{ℕ, zero, suc, _+_, _*_, _-_, _%_, _^_, _≤_, _<_}
-use mathlib.Core.Path.{_≡_, sym, ap, _∙_}
-use mathlib.Core.Bool.{Bool, false, _||_, true≢false}
+use mathlib.Core.Path.{_≡_, refl, sym, ap, _∙_}
+use mathlib.Core.Bool.{Bool, true, false, _||_, true≢false}
 use mathlib.Core.Logic.{⊎-elim}
 use mathlib.Core.List.{List}
 use native.Mathlib.Nat.{eq-or-lt-of-le}
 use native.Mathlib.Omega.{arith}
-use borrow.Author.Tests.{eqb-true}
+use borrow.Author.Tests.{eqb-true, eq-eqb}
 use lib.Bits.{bitOr, or-add-and, and-le-l, and-le-r}
 use lib.Dec.{eqb}
 use lib.ListN.{length}
@@ -22,7 +22,7 @@ use Rattle.unlisted.specs.declared.runs.Sums.{Sums}
 use Rattle.unlisted.specs.declared.runs.Stretch.{Stretch}
 use Rattle.unlisted.specs.ranges.Covered.{itemStart, inItem, inItems}
 use Rattle.unlisted.specs.runs.Reading.{Ranged}
-use Rattle.unlisted.specs.runs.Stretches.{Joined, Summed, Stretched}
+use Rattle.unlisted.specs.runs.Stretches.{Joined, Summed, Stretched, Next, OneRun, TellsRun}
 
 -- ---- the sums
 
@@ -30,17 +30,23 @@ pub record Summing (starts size : ℕ → ℕ) (k i steps sum : ℕ) : Type 0 wh
   pub from : 1 ≤ i
   pub below : i ≤ k
   pub total : sum ≡ sumTo size i % 2 ^ 64
-  pub zero : steps ≡ 0 → (j : ℕ) → 1 ≤ j → j < i → starts j ≡ 0
+  pub zero : steps ≡ 0 → Next starts i
+  pub none : Next starts i → steps ≡ 0
 
 pub summing-first : {starts : ℕ → ℕ} (d : List ℕ) (s n : ℕ) {k v : ℕ} → 0 < k → v ≡ leAt 8 d (s + 16 * n) → v < 2 ^ 64
     → Summing starts (sizes d s n) k 1 0 v
 unfolding sumTo
 summing-first d s n h e l =
     let z : leAt 8 d (s + 16 * n) ≡ leAt 8 d (s + 16 * n + 8 * 0) = ap (leAt 8 d) (omega arith) in
-    record { from = omega arith; below = omega arith; total = omega arith; zero = λ q j a b. absurd (omega arith) }
+    record { from = omega arith; below = omega arith; total = omega arith; zero = λ q j a b. absurd (omega arith); none = λ h. refl }
 
 pub joined-or : (a b : ℕ) → Joined a b (bitOr a b)
-joined-or a b = record { first = λ e. omega (arith, or-add-and a b, and-le-r a b); second = λ e. omega (arith, or-add-and a b, and-le-l a b) }
+joined-or a b =
+    record {
+      first = λ e. omega (arith, or-add-and a b, and-le-r a b);
+      second = λ e. omega (arith, or-add-and a b, and-le-l a b);
+      neither = λ p q. omega (arith, or-add-and a b);
+    }
 
 pub summing-next : (d : List ℕ) (s n : ℕ) {k i steps sum u v w t : ℕ} → Summing (startSteps d s n) (sizes d s n) k i steps sum → i < k
     → u ≡ leAt 8 d (s + 8 * n + 8 * i) → v ≡ leAt 8 d (s + 16 * n + 8 * i) → Joined steps u w → t ≡ (sum + v) % 2 ^ 64
@@ -51,6 +57,7 @@ summing-next d s n {k} {i} {steps} {sum} {u} {v} h l eu ev o et =
       below = omega arith;
       total = omega (arith, h .total, sum-step (sizes d s n) i);
       zero = λ q j a b. one (o .first q) (o .second q) j a (omega arith);
+      none = λ g. o .neither (h .none (λ j a b. g j a (omega arith))) (eu ∙ g i (h .from) (omega arith));
     }
   where
     one : steps ≡ 0 → u ≡ 0 → (j : ℕ) → 1 ≤ j → j ≤ i → startSteps d s n j ≡ 0
@@ -60,12 +67,12 @@ pub summing-last : {starts size : ℕ → ℕ} {k i steps sum : ℕ} → Summing
     → Summed starts size k (record { steps = steps; sizes = sum })
 summing-last {starts} {size} {k} {i} h l =
     let e : i ≡ k = omega (arith, h .below) in
-    record { total = h .total ∙ ap (λ (j : ℕ). sumTo size j % 2 ^ 64) e; zero = λ q j a b. h .zero q j a (omega arith) }
+    record { total = h .total ∙ ap (λ (j : ℕ). sumTo size j % 2 ^ 64) e; zero = λ q j a b. h .zero q j a (omega arith); none = λ g. h .none (λ j a b. g j a (omega arith)) }
 
 -- ---- the run
 
 module _ {spec : Sharding} {d : List ℕ} {s n k : ℕ} (r : Ranged spec d s n) (h : k ≤ n) (free : NoLeads spec)
-    (z : (i : ℕ) → 1 ≤ i → i < k → startSteps d s n i ≡ 0) (f : startSteps d s n 0 < 2 ^ 64) where
+    (z : Next (startSteps d s n) k) (f : startSteps d s n 0 < 2 ^ 64) where
   -- where the first i of them end
   abbrev upto : ℕ → ℕ
   upto i = startSteps d s n 0 + sumTo (sizes d s n) i
@@ -126,3 +133,23 @@ stretch-told {spec} {b} {d} {s} {n} {k} {from} {to} {sums} r h m may e sum ef lf
 
     go : sums .steps ≡ 0 → (p : ℕ) → inItems spec d s n k p ≡ within from to p
     go q p = run-is r h (may .none e) (sum .zero q) (omega (arith, first)) k p (omega arith) ∙ rw (first, last q)
+
+-- ---- when it is told
+
+module _ {spec : Sharding} {starts : ℕ → ℕ} {k : ℕ} where
+  no-run : {w : Bool} → w ≡ false → (OneRun spec starts k → ⊥) → TellsRun spec starts k w
+  no-run e n = record { yes = λ t. absurd (true≢false (sym t ∙ e)); all = λ o. absurd (n o) }
+
+  pub run-mesh : {b w : Bool} → MayLead spec b → b ≡ true → w ≡ false → TellsRun spec starts k w
+  run-mesh may e q = no-run q (λ o. true≢false (sym e ∙ may .mesh ∙ o .volume))
+
+  pub run-empty : {w : Bool} → k ≡ 0 → w ≡ false → TellsRun spec starts k w
+  run-empty z q = no-run q (λ o. omega (arith, o .some))
+
+  pub run-told : {size : ℕ → ℕ} {b : Bool} {sums : Sums} → (k ≡ 0 → ⊥) → MayLead spec b → b ≡ false → Summed starts size k sums
+      → TellsRun spec starts k (eqb (sums .steps) 0)
+  run-told {sums = sums} m may e sum =
+      record {
+        yes = λ t. record { volume = sym (may .mesh) ∙ e; some = omega arith; next = sum .zero (eqb-true (sums .steps) 0 t) };
+        all = λ o. eq-eqb (sums .steps) 0 (sum .none (o .next));
+      }

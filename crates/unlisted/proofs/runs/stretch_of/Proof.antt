@@ -1,5 +1,5 @@
 use borrow.Author.Needs.{needs}
-use Rattle.unlisted.proofs.runs.Stretches.{stretch-none, stretch-told}
+use Rattle.unlisted.proofs.runs.Stretches.{stretch-none, stretch-told, run-mesh, run-empty, run-told}
 use Rattle.unlisted.proofs.runs.stretch_of.Statement.{statement}
 use Rattle.unlisted.proofs.runs.stretch_of.Tie as tie
 
@@ -9,12 +9,12 @@ stretch-of-spec =
     (tie.spec
     (λ c κs. search needs)
     (λ c κs. search needs)
-    (λ c. search stretch-none)
+    (λ c. (search stretch-none, search run-mesh))
     (λ c κs. search needs)
-    (λ c. search stretch-none)
+    (λ c. (search stretch-none, search run-empty))
     (λ c κs. search needs)
     (λ c. search needs)
     (λ c. search needs)
     (λ c κs. search needs)
     (λ c κs. search needs)
-    (λ c. search stretch-told))
+    (λ c. (search stretch-told, search run-told)))
