@@ -2,6 +2,7 @@
 mod answers;
 pub mod cards;
 pub mod cells;
+pub mod file_names;
 pub mod infos;
 pub mod intakes;
 pub mod labels;
@@ -11,6 +12,5 @@ pub mod pairs;
 pub mod places;
 pub mod shards;
 pub mod sheets;
-pub mod texts;
 pub mod version;
 pub mod word;

@@ -1,5 +1,5 @@
 // The search by halves: the keys of a box of cells, and of the marked cells of a grid.
-mod parts;
+mod marked;
 
 ghost use mathlib.Core.Path.{_≡_};
 ghost use Prim.Native.Nat.{_+_, _^_, _≤_};
@@ -76,7 +76,7 @@ pub fn search(grid: Extents, whole: Part, out: &mut [u64]) -> usize
     ensures count { λ r. ⌜ r ≡ length (partKeys whole 0) ⌝ }
     ensures out { λ _. ⌜ now (out .exit) ≡ paste 0 (partKeys whole 0) (now (out .entry)) ⌝ }
 {
-    if parts::misses(whole) {
+    if marked::misses(whole) {
         return 0;
     }
     // A cell with all bits of one coordinate, and none of the others, has the bits of that axis.
@@ -104,7 +104,7 @@ pub fn search(grid: Extents, whole: Part, out: &mut [u64]) -> usize
             z: u32::MAX,
         },
     );
-    let low = key(grid, parts::first(whole));
-    let high = key(grid, parts::last(whole));
+    let low = key(grid, marked::first(whole));
+    let high = key(grid, marked::last(whole));
     descend(x, y, z, low, high, 0, key_bits(grid), out, 0)
 }

@@ -1,8 +1,8 @@
 // Which chunks cover a box of voxels.
 pub mod descent;
 pub mod halves;
+mod marked_count;
 pub mod overlap;
-mod parts;
 
 ghost use mathlib.Core.Path.{_≡_};
 ghost use Rattle.cover.specs.overlap.Cover.{coverAnswer, coverLeft};
@@ -25,9 +25,9 @@ pub fn cover(volume: Volume, lower: Point, upper: Point, out: &mut [u64]) -> Wri
         return Written::Refused(3);
     }
     let whole = spans::whole(volume, lower, upper);
-    let face = parts::face(whole);
-    let deep = parts::depth(whole);
-    if parts::exceeds(face, deep, out.len() as u64) {
+    let face = marked_count::face(whole);
+    let deep = marked_count::depth(whole);
+    if marked_count::exceeds(face, deep, out.len() as u64) {
         return Written::Refused(13);
     }
     Written::Length(search(morton::grid::inner::grid(volume), whole, out))

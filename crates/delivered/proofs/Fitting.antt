@@ -19,7 +19,7 @@ use Rattle.intake.proofs.waiting.Writing.{length-index}
 use Rattle.intake.proofs.waiting.Pairs.{pair-kept}
 use Rattle.intake.specs.declared.state.Intake.{Intake}
 use Rattle.intake.specs.state.State.{sane, announceable, Usable}
-use Rattle.intake.specs.tests.Tests.{otherLengths, unusable, forged, forgedTurn, countIn}
+use Rattle.intake.specs.call_tests.Tests.{otherLengths, unusable, forged, forgedTurn, countIn}
 use Rattle.intake.specs.admission.Refusals.{announceChecks}
 use Rattle.intake.proofs.admission.Passing.{opens, announces, hands}
 use Rattle.intake.specs.declared.IntakeAnswer.the-variants.{Next}

@@ -24,7 +24,7 @@ use Rattle.intake.specs.waiting.Held.{pair}
 use Rattle.intake.specs.declared.state.Intake.{Intake}
 use Rattle.intake.specs.state.State.{announcedLength}
 use Rattle.intake.proofs.admission.Passing.{opens, announces, closes}
-use Rattle.intake.proofs.tests.Passing.{not-below}
+use Rattle.intake.proofs.call_tests.Passing.{not-below}
 use Rattle.intake.specs.declared.IntakeAnswer.the-variants.{Next}
 use Rattle.intake.specs.declared.CloseAnswer.the-variants.{Closed}
 use Rattle.intake.specs.steps.Steps.{endedLeft, opened, turned, turnedLeft, noted, announced, taken}

@@ -19,7 +19,7 @@ use Rattle.intake.proofs.waiting.Writing.{length-index}
 use Rattle.intake.proofs.waiting.Pairs.{length-pair}
 use Rattle.intake.specs.declared.state.Intake.{Intake}
 use Rattle.intake.specs.state.State.{Usable}
-use Rattle.intake.proofs.tests.Passing.{usable}
+use Rattle.intake.proofs.call_tests.Passing.{usable}
 use Rattle.intake.specs.declared.IntakeAnswer.the-variants.{Next}
 use Rattle.intake.specs.declared.CloseAnswer.the-variants.{Closed}
 use Rattle.intake.specs.steps.Steps.{endedLeft, turned, turnedLeft}

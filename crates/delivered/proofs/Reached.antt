@@ -21,9 +21,9 @@ use Rattle.intake.specs.waiting.Held.{pair, idHeld, sizeHeld}
 use Rattle.intake.proofs.waiting.Pairs.{pair-id, pair-size, pair-before}
 use Rattle.intake.specs.declared.state.Intake.{Intake}
 use Rattle.intake.specs.state.State.{most, announcedLength, notVolume, fresh, belongs, placed, begun, spans, waits, going, sane, follows, announceable}
-use Rattle.intake.specs.tests.Tests.{outOfOrder, countIn}
+use Rattle.intake.specs.call_tests.Tests.{outOfOrder, countIn}
 use Rattle.intake.proofs.state.Passing.{Fresh, fresh-parts, going-parts, Sane, sane-parts, announceable-parts}
-use Rattle.intake.proofs.tests.Passing.{unusable-parts, not-below, foreign-ours}
+use Rattle.intake.proofs.call_tests.Passing.{unusable-parts, not-below, foreign-ours}
 use Rattle.intake.proofs.admission.Passing.{Opens, Announces}
 use Rattle.intake.specs.steps.Steps.{opened, turned, noted, announced, taken}
 use Rattle.intake.proofs.steps.Stepped.{turned-count}

@@ -15,9 +15,9 @@ use Rattle.shard.specs.Items.{Item}
 use Rattle.settled_form.specs.Sorted.{Member, Rising}
 use Rattle.settled_form.specs.Content.{idOf}
 use Rattle.intake.specs.declared.state.Intake.{Intake}
-use Rattle.intake.specs.tests.Tests.{outOfOrder}
+use Rattle.intake.specs.call_tests.Tests.{outOfOrder}
 use Rattle.intake.proofs.admission.Passing.{announces}
-use Rattle.intake.proofs.tests.Passing.{not-below, foreign-ours}
+use Rattle.intake.proofs.call_tests.Passing.{not-below, foreign-ours}
 use Rattle.intake.specs.steps.Steps.{turned, announced, taken}
 use Rattle.intake.proofs.Refused.{announce-told}
 use Rattle.delivered.specs.Delivered.{Delivery, concatParts, asItem, asItems, inMinishard, Precedes, InOrder}

@@ -19,9 +19,9 @@ use Rattle.settled_form.specs.Form.{partsLength, settled, settledLength}
 use Rattle.settled_form.proofs.Measures.{length-settled}
 use Rattle.intake.specs.declared.state.Intake.{Intake}
 use Rattle.intake.specs.state.State.{announcedLength}
-use Rattle.intake.specs.tests.Tests.{outOfOrder, countIn, noRoom}
+use Rattle.intake.specs.call_tests.Tests.{outOfOrder, countIn, noRoom}
 use Rattle.intake.specs.admission.Refusals.{openChecks}
-use Rattle.intake.proofs.tests.Passing.{not-below}
+use Rattle.intake.proofs.call_tests.Passing.{not-below}
 use Rattle.intake.proofs.steps.Stepped.{turned-count}
 use Rattle.delivered.specs.Delivered.{Delivery, asItems, inMinishard, gathered}
 use Rattle.delivered.specs.Runs.{Desk, Takes}

@@ -14,7 +14,7 @@ use Rattle.sharding.specs.placement.Place.{shardOf, minishardOf}
 use Rattle.shard.specs.Items.{Item}
 use Rattle.intake.specs.declared.state.Intake.{Intake}
 use Rattle.intake.specs.state.State.{sane}
-use Rattle.intake.specs.tests.Tests.{otherLengths, foreign, unusable, outOfOrder}
+use Rattle.intake.specs.call_tests.Tests.{otherLengths, foreign, unusable, outOfOrder}
 use Rattle.intake.specs.admission.Refusals.{announceChecks, partChecks, closeChecks}
 use Rattle.intake.proofs.state.Passing.{volume-allowed, sane-parts}
 use Rattle.intake.proofs.admission.Passing.{Closes, closes}

@@ -24,7 +24,7 @@ use Rattle.holdings.specs.declared.one_shard.Sheet.{Sheet}
 use Rattle.holdings.specs.declared.SheetAnswer.{SheetAnswer}
 use Rattle.holdings.specs.declared.SheetAnswer.the-variants.{Total, Refused}
 use Rattle.holdings.specs.one_shard.Sheet.{rows, fromRows, reporting, hasRow, soundSheet, refusedSheet, shardSheet}
-use Rattle.holdings.specs.passing.Totals.{added, anyPasses, both, Totals}
+use Rattle.holdings.specs.totals.Totals.{added, anyPasses, both, Totals}
 use Rattle.holdings.specs.Answers.{joinAnswer, sheetOf, addAnswer, pairSheet, pairAddAnswer, measuredAnswer}
 use Rattle.holdings.proofs.one_shard.Numbers.{Told, check-told, pair-told}
 

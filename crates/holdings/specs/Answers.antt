@@ -16,7 +16,7 @@ use Rattle.holdings.specs.declared.one_shard.Sheet.{Sheet}
 use Rattle.holdings.specs.declared.SheetAnswer.{SheetAnswer}
 use Rattle.holdings.specs.declared.SheetAnswer.the-variants.{Total, Refused}
 use Rattle.holdings.specs.one_shard.Sheet.{rows, soundSheet, refusedSheet, shardSheet}
-use Rattle.holdings.specs.passing.Totals.{anyPasses, both}
+use Rattle.holdings.specs.totals.Totals.{anyPasses, both}
 
 -- two sheets together (RULES H3)
 unfoldable pub joinAnswer : Sheet → Sheet → SheetAnswer

@@ -2,5 +2,5 @@
 pub mod chunk_sums
 pub mod measures
 pub mod one_shard
-pub mod passing
+pub mod totals
 pub mod Answers

@@ -1,17 +1,17 @@
 // The yearly holdings sheet: shards sound, shards refused for each number, and what the sound ones hold.
+mod adding;
 pub mod chunk_sums;
 pub mod measures;
 pub mod one_shard;
-pub mod passing;
-mod rows;
+pub mod totals;
 
 ghost use mathlib.Core.Path.{_≡_};
 ghost use Rattle.holdings.specs.Answers.{joinAnswer, addAnswer, pairAddAnswer};
+use crate::adding::add_measured;
 use crate::one_shard::Sheet;
 use crate::one_shard::from_rows;
 use crate::one_shard::rows_of;
-use crate::passing::add_rows;
-use crate::rows::add_measured;
+use crate::totals::add_rows;
 pub use measures::measure;
 pub use measures::measure_pair;
 use sharding::Sharding;

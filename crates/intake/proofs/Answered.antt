@@ -16,7 +16,7 @@ use Rattle.shard.specs.File.{indexLength}
 use Rattle.intake.specs.waiting.Held.{pair}
 use Rattle.intake.specs.declared.state.Intake.{Intake}
 use Rattle.intake.specs.state.State.{most, announcedLength, Usable}
-use Rattle.intake.specs.tests.Tests.{countIn}
+use Rattle.intake.specs.call_tests.Tests.{countIn}
 use Rattle.intake.specs.admission.Refusals.{openChecks, announceChecks, partChecks, closeChecks}
 use Rattle.intake.proofs.state.Passing.{volume-allowed}
 use Rattle.intake.proofs.admission.Passing.{opens, hands, closes}

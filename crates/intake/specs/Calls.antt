@@ -12,7 +12,7 @@ use Rattle.shard.specs.File.{indexLength}
 use Rattle.intake.specs.waiting.Held.{pair}
 use Rattle.intake.specs.declared.state.Intake.{Intake}
 use Rattle.intake.specs.state.State.{announcedLength}
-use Rattle.intake.specs.tests.Tests.{countIn}
+use Rattle.intake.specs.call_tests.Tests.{countIn}
 use Rattle.intake.specs.admission.Refusals.{openChecks, announceChecks, partChecks, closeChecks}
 use Rattle.intake.specs.steps.Steps.{endedLeft, turnedLeft, opened, announced, taken, closed}
 use Rattle.intake.specs.declared.IntakeAnswer.{IntakeAnswer}

@@ -1,11 +1,11 @@
 // Intake from the scanner: a new volume shard, written in its settled form while its chunks come in parts.
 pub mod admission;
+pub mod call_tests;
 pub mod numbers;
 pub mod places;
 pub mod sanity;
 pub mod state;
 pub mod steps;
-pub mod tests;
 pub mod waiting;
 
 ghost use mathlib.Core.Path.{_≡_};
@@ -14,9 +14,9 @@ use crate::admission::announce_refusal;
 use crate::admission::close_refusal;
 use crate::admission::open_refusal;
 use crate::admission::part_refusal;
+use crate::call_tests::announced_length;
 use crate::places::put_entries;
 use crate::state::Intake;
-use crate::tests::announced_length;
 pub use numbers::numbers_of;
 pub use numbers::state_of;
 use sharding::Sharding;

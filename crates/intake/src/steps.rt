@@ -11,7 +11,7 @@ ghost use Rattle.sharding.specs.placement.Place.{minishardOf};
 ghost use Rattle.shard.specs.File.{indexLength};
 ghost use Rattle.intake.specs.waiting.Held.{pair};
 ghost use Rattle.intake.specs.state.State.{announcedLength, Usable};
-ghost use Rattle.intake.specs.tests.Tests.{countIn};
+ghost use Rattle.intake.specs.call_tests.Tests.{countIn};
 ghost use Rattle.intake.specs.admission.Refusals.{announceChecks};
 ghost use Rattle.intake.specs.steps.Steps.{endedLeft, turned, turnedLeft, opened, announced, taken, closed};
 use crate::places::next_place;

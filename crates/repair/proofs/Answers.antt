@@ -13,7 +13,7 @@ use Rattle.refusal.proofs.Picks.{by-picks}
 use Rattle.sharding.specs.declared.Sharding.{Sharding}
 use Rattle.sharding.specs.Specification.{allowed, minishardCount}
 use Rattle.shard.specs.index.Index.{mostShardBytes}
-use Rattle.settle.specs.minishard.Writing.{capped}
+use Rattle.settle.specs.minishard_length.Writing.{capped}
 use Rattle.shard.specs.declared.ShardFault.{ShardFault}
 use Rattle.shard.specs.Faults.{firstFault}
 use Rattle.shard.proofs.Numbers.{unless-some, unless-none}

@@ -6,7 +6,7 @@ ghost use lib.ListN.{length, take, drop};
 ghost use Rattle.shard.specs.Items.{itemOf, Led};
 ghost use Rattle.settled_form.specs.Sorted.{Member};
 ghost use Rattle.settled_form.specs.Content.{itemsAt, byId};
-ghost use Rattle.settle.specs.minishard.Writing.{ReadableIndex, LeadsIn, Apart};
+ghost use Rattle.settle.specs.minishard_length.Writing.{ReadableIndex, LeadsIn, Apart};
 ghost use Rattle.settle.specs.length.Settleable.{SettleableIn};
 ghost use Rattle.repair.specs.same_listing.Alike.{alike, Tells, SameChunk, AllIn, InStep};
 ghost use Rattle.repair.specs.same_listing.Walk.{Walked, EntryRead};

@@ -12,14 +12,14 @@ use Rattle.shard.specs.declared.CheckAnswer.the-variants.{Sound, Refused as Che
 use Rattle.shard.specs.File.{indexLength, checkAnswer}
 use Rattle.shard.proofs.Split.{restOf, rest-whole}
 use Rattle.shard.proofs.AfterCheck.{passed-sound, passed-allowed, passed-held, passed-front}
-use Rattle.unlisted.specs.runs.Reading.{RangedShard}
+use Rattle.unlisted.specs.stretches.Reading.{RangedShard}
 use Rattle.unlisted.proofs.Counted.{sound-ranged}
 use Rattle.settle.specs.length.Settleable.{SettleableShard}
 use Rattle.refusal.specs.declared.CountAnswer.{CountAnswer}
 use Rattle.refusal.specs.declared.CountAnswer.the-variants.{Refused, Faulty}
 use Rattle.settle.specs.answers.Answers.{answerOf, lengthIn, settleIn, leftIn, lengthAnswer, settleAnswer, settleLeft}
 use Rattle.settle.proofs.answers.Answered.{length-by-check, settle-by-check, left-by-check}
-use Rattle.settle.proofs.parts.WriteAnswers.{sound-settleable}
+use Rattle.settle.proofs.two_parts.WriteAnswers.{sound-settleable}
 
 module _ (spec : Sharding) (shard : ℕ) (file : List ℕ) (dropping : Bool) {a : CheckAnswer} (e : a ≡ checkAnswer spec shard file) where
   -- the check refused

@@ -1,7 +1,7 @@
 // Whether a minishard may be written as it stands.
 
 ghost use Rattle.shard.specs.index.Index.{idSteps};
-ghost use Rattle.settle.specs.minishard.Writing.{ReadableIndex, MayStand, Climbs};
+ghost use Rattle.settle.specs.minishard_length.Writing.{ReadableIndex, MayStand, Climbs};
 use endian::read_u64;
 use shard::lengths::has_leads;
 use sharding::Sharding;

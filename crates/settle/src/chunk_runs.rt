@@ -8,7 +8,7 @@ ghost use Rattle.endian.specs.Little.{le};
 ghost use Rattle.endian.specs.Place.{paste};
 ghost use Rattle.endian.specs.Range.{sumTo};
 ghost use Rattle.shard.specs.index.Index.{sizes};
-ghost use Rattle.settle.specs.minishard.Writing.{ReadableIndex, chunksFrom};
+ghost use Rattle.settle.specs.minishard_length.Writing.{ReadableIndex, chunksFrom};
 use endian::copying::copy_bytes;
 use endian::copying::fill_zero;
 use endian::put_u64;

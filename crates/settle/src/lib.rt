@@ -4,10 +4,10 @@ pub mod as_it_stands;
 pub mod chunk_runs;
 pub mod item_runs;
 pub mod length;
-pub mod minishard;
-pub mod parts;
+pub mod minishard_length;
 pub mod sorted;
 pub mod stored;
+pub mod two_parts;
 pub mod writing;
 
 ghost use mathlib.Core.Path.{_≡_};
@@ -26,7 +26,7 @@ pub fn settled_length(spec: Sharding, shard: u64, file: &[u8], dropping: bool) -
     match check(spec, shard, file) {
         CheckAnswer::Sound => {
             let n = index_length(spec);
-            answer_of(parts::length_answer(spec, &file[..n], &file[n..], dropping))
+            answer_of(two_parts::length_answer(spec, &file[..n], &file[n..], dropping))
         }
         CheckAnswer::Refused(number) => CountAnswer::Refused(number),
         CheckAnswer::Faulty {
@@ -52,7 +52,7 @@ pub fn settle(
     match check(spec, shard, file) {
         CheckAnswer::Sound => {
             let n = index_length(spec);
-            answer_of(parts::settle_answer(spec, &file[..n], &file[n..], dropping, out))
+            answer_of(two_parts::settle_answer(spec, &file[..n], &file[n..], dropping, out))
         }
         CheckAnswer::Refused(number) => CountAnswer::Refused(number),
         CheckAnswer::Faulty {

@@ -8,7 +8,7 @@ ghost use Rattle.endian.specs.Range.{sumTo};
 ghost use Rattle.shard.specs.index.Index.{sizes};
 ghost use Rattle.settled_form.specs.Form.{partOf};
 ghost use Rattle.settled_form.specs.Content.{itemsAt};
-ghost use Rattle.settle.specs.minishard.Writing.{ReadableIndex, Stored};
+ghost use Rattle.settle.specs.minishard_length.Writing.{ReadableIndex, Stored};
 use crate::chunk_runs::copy_chunks;
 use crate::chunk_runs::put_starts;
 use endian::copying::copy_bytes;

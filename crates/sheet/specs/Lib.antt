@@ -1,3 +1,3 @@
 -- What the program `sheet` makes of what it reads.
 pub mod input_end
-pub mod one_shard
+pub mod one_turn

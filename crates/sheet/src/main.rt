@@ -1,12 +1,12 @@
 // Reads shards from standard input and prints the holdings sheet over them: docs/SHEET.md fixes the input and the lines.
 pub mod input_end;
-pub mod one_shard;
+pub mod one_turn;
 
 ghost use mathlib.Core.Path.{_≡_};
 ghost use Prim.Native.Nat.{_≤_};
 ghost use lib.ListN.{length};
-ghost use Rattle.sheet.specs.one_shard.Turns.{headerBytes, mostBytes, TurnedBy, Turned, Told, Next, Finished};
-use crate::one_shard::Turn;
+ghost use Rattle.sheet.specs.one_turn.Turns.{headerBytes, mostBytes, TurnedBy, Turned, Told, Next, Finished};
+use crate::one_turn::Turn;
 use holdings::one_shard::Sheet;
 use libc::STDIN_FILENO;
 use libc::STDOUT_FILENO;
@@ -19,7 +19,7 @@ fn read_body(sheet: Sheet, head: &[u8], body: &mut [u8]) -> Turn
     ensures { λ r. ⌜ TurnedBy sheet (now (head .entry)) (now (body .exit)) r ⌝ }
 {
     let got = io::read_full(STDIN_FILENO, body);
-    crate::one_shard::turned(sheet, head, &body[..got])
+    crate::one_turn::turned(sheet, head, &body[..got])
 }
 
 // The next shard: its header, and as many bytes as that says.
@@ -28,7 +28,7 @@ fn read_next(sheet: Sheet, head: &mut [u8], body: &mut [u8]) -> Turn
     ensures { λ r. ⌜ Turned sheet (now (head .exit)) (now (body .entry)) (now (body .exit)) r ⌝ }
 {
     let got = io::read_full(STDIN_FILENO, head);
-    let n = crate::one_shard::body_length(&head[..got]);
+    let n = crate::one_turn::body_length(&head[..got]);
     read_body(sheet, &head[..got], &mut body[..n])
 }
 
@@ -36,11 +36,11 @@ fn read_next(sheet: Sheet, head: &mut [u8], body: &mut [u8]) -> Turn
 fn tell(turn: Turn) -> Turn
     ensures { λ r. ⌜ Told turn r ⌝ }
 {
-    if !crate::one_shard::stops_short(turn) {
+    if !crate::one_turn::stops_short(turn) {
         return turn;
     }
     let mut one = [0u8; 1];
-    crate::one_shard::told(turn, libc::read(STDIN_FILENO, &mut one))
+    crate::one_turn::told(turn, libc::read(STDIN_FILENO, &mut one))
 }
 
 fn next(sheet: Sheet, head: &mut [u8; 17], body: &mut [u8; 65536]) -> Turn
@@ -58,10 +58,10 @@ fn add_all() -> Turn
     let mut body = [0u8; 65536];
     let mut at = Turn {
         sheet: holdings::one_shard::empty(),
-        ending: crate::one_shard::MORE,
+        ending: crate::one_turn::MORE,
     };
     let mut left = u64::MAX;
-    while left > 0 && at.ending == crate::one_shard::MORE {
+    while left > 0 && at.ending == crate::one_turn::MORE {
         at = next(at.sheet, &mut head, &mut body);
         left -= 1;
     }
@@ -98,16 +98,16 @@ fn print_sheet(sheet: Sheet) {
 
 // Why the reading stopped, where that was not the input's end.
 fn print_ending(ending: u8) {
-    if ending == crate::one_shard::CUT {
+    if ending == crate::one_turn::CUT {
         io::write_all(STDOUT_FILENO, b"cut\n");
     }
-    if ending == crate::one_shard::LONG {
+    if ending == crate::one_turn::LONG {
         io::write_all(STDOUT_FILENO, b"too long\n");
     }
-    if ending == crate::one_shard::FULL {
+    if ending == crate::one_turn::FULL {
         io::write_all(STDOUT_FILENO, b"refused 27\n");
     }
-    if ending == crate::one_shard::UNREADABLE {
+    if ending == crate::one_turn::UNREADABLE {
         io::write_all(STDOUT_FILENO, b"unreadable\n");
     }
 }

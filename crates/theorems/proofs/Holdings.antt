@@ -26,7 +26,7 @@ use Rattle.holdings.specs.declared.one_shard.Sheet.{Sheet}
 use Rattle.holdings.specs.declared.SheetAnswer.{SheetAnswer}
 use Rattle.holdings.specs.declared.SheetAnswer.the-variants.{Total, Refused as SheetRefused}
 use Rattle.holdings.specs.one_shard.Sheet.{rows, fromRows, reporting, empty, tally, soundSheet, refusedSheet, shardSheet, numbers, isAmong, hasRow}
-use Rattle.holdings.specs.passing.Totals.{added, anyPasses, both}
+use Rattle.holdings.specs.totals.Totals.{added, anyPasses, both}
 use Rattle.holdings.specs.Answers.{joinAnswer, sheetOf, addAnswer, pairSheet, pairAddAnswer}
 use Rattle.holdings.proofs.one_shard.Numbers.{Told, check-told, pair-told}
 use Rattle.holdings.proofs.Answered.{rows-both, from-rows, join-pick}

@@ -63,7 +63,7 @@ use Rattle.holdings.specs.chunk_sums.Totals.{passes}
 use Rattle.holdings.specs.measures.Answers.{measureAnswer, pairMeasure, measureResult}
 use Rattle.holdings.specs.declared.one_shard.Sheet.{Sheet}
 use Rattle.holdings.specs.one_shard.Sheet.{rows}
-use Rattle.holdings.specs.passing.Totals.{anyPasses, both}
+use Rattle.holdings.specs.totals.Totals.{anyPasses, both}
 use Rattle.holdings.specs.Answers.{joinAnswer, sheetOf, addAnswer, pairSheet, pairAddAnswer, sheetResult}
 use Rattle.card.specs.declared.Card.{Card}
 use Rattle.card.specs.Answers.{readChecks, readAnswer, writeChecks, writeAnswer, writeLeft, cardResult}

@@ -23,7 +23,7 @@ use Rattle.holdings.specs.declared.one_shard.Sheet.{Sheet}
 use Rattle.holdings.specs.declared.SheetAnswer.{SheetAnswer}
 use Rattle.holdings.specs.declared.SheetAnswer.the-variants.{Total, Refused as SheetRefused}
 use Rattle.holdings.specs.one_shard.Sheet.{rows, fromRows, reporting, empty}
-use Rattle.holdings.specs.passing.Totals.{anyPasses, both}
+use Rattle.holdings.specs.totals.Totals.{anyPasses, both}
 use Rattle.holdings.specs.Answers.{joinAnswer, addAnswer, pairAddAnswer}
 use Rattle.coronagamba.specs.Sheets.{rowsAfter}
 

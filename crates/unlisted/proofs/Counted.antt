@@ -33,11 +33,11 @@ use Rattle.unlisted.specs.ranges.Covered.{coveredAt, unlistedBytes, file
 use Rattle.unlisted.specs.declared.checked_walk.Judged.{Judged}
 use Rattle.unlisted.specs.declared.counting.Counted.{Counted}
 use Rattle.unlisted.specs.Judging.{JudgedAs, Counts}
-use Rattle.unlisted.specs.runs.Reading.{RangedShard}
+use Rattle.unlisted.specs.stretches.Reading.{RangedShard}
 use Rattle.unlisted.specs.rising_walk.Order.{broken, Tells}
 use Rattle.unlisted.specs.Answers.{unlistedAnswer}
 use Rattle.shard.proofs.AfterCheck.{afterCheck, by-check}
-use Rattle.unlisted.proofs.runs.Covering.{ranged-in}
+use Rattle.unlisted.proofs.stretches.Covering.{ranged-in}
 use Rattle.unlisted.proofs.ranges.Meaning.{covered-listed}
 
 -- ---- all ranges lie within the data

@@ -23,10 +23,10 @@ use Rattle.shard.proofs.Faulted.{fault-empty, fault-entry}
 use Rattle.shard.proofs.Judged.{passes-minishard}
 use Rattle.unlisted.specs.declared.rising_walk.Run.{Run}
 use Rattle.unlisted.specs.declared.checked_walk.Judged.{Judged}
-use Rattle.unlisted.specs.runs.Reading.{Ranged}
+use Rattle.unlisted.specs.stretches.Reading.{Ranged}
 use Rattle.unlisted.specs.rising_walk.Order.{Extends, inPart, partAt}
 use Rattle.unlisted.specs.Judging.{Steps, Skips, JudgedAs}
-use Rattle.unlisted.proofs.runs.Covering.{ranged-in, read-ranged}
+use Rattle.unlisted.proofs.stretches.Covering.{ranged-in, read-ranged}
 use Rattle.unlisted.proofs.rising_walk.Runs.{extends-none}
 use Rattle.unlisted.proofs.rising_walk.Parts.{over-none, all-next, tells-each}
 

@@ -7,7 +7,7 @@ ghost use lib.ListN.{length};
 ghost use Rattle.sharding.specs.Specification.{allowed, minishardCount};
 ghost use Rattle.shard.specs.index.Index.{mostShardBytes};
 ghost use Rattle.shard.specs.File.{indexLength};
-ghost use Rattle.unlisted.specs.runs.Reading.{Ranged};
+ghost use Rattle.unlisted.specs.stretches.Reading.{Ranged};
 ghost use Rattle.unlisted.specs.rising_walk.Order.{Extends, inPart};
 ghost use Rattle.unlisted.specs.Judging.{Steps, Skips, JudgedAs};
 use crate::rising_walk::BROKEN;

@@ -8,7 +8,7 @@ ghost use Rattle.sharding.specs.Specification.{allowed};
 ghost use Rattle.shard.specs.index.Index.{mostShardBytes};
 ghost use Rattle.shard.specs.File.{indexLength};
 ghost use Rattle.unlisted.specs.ranges.Covered.{coveredAt, unlistedBytes};
-ghost use Rattle.unlisted.specs.runs.Reading.{RangedShard};
+ghost use Rattle.unlisted.specs.stretches.Reading.{RangedShard};
 ghost use Rattle.unlisted.specs.rising_walk.Order.{Tells};
 ghost use Rattle.unlisted.specs.Judging.{Counts};
 use crate::checked_walk::judge_all;

@@ -3,7 +3,7 @@ mod checked_walk;
 pub mod counting;
 pub mod ranges;
 pub mod rising_walk;
-pub mod runs;
+pub mod stretches;
 pub mod windows;
 
 ghost use mathlib.Core.Path.{_≡_};

@@ -26,12 +26,12 @@ use Rattle.split_shard.specs.Answers.{pairCheck}
 use Rattle.split_shard.proofs.Laws.{sound-seamed, check-as-joined}
 use Rattle.unlisted.specs.ranges.Ranges.{countIn}
 use Rattle.unlisted.specs.ranges.Covered.{unlistedBytes}
-use Rattle.unlisted.specs.runs.Reading.{RangedShard}
+use Rattle.unlisted.specs.stretches.Reading.{RangedShard}
 use Rattle.unlisted.proofs.Counted.{sound-ranged}
 use Rattle.settled_form.specs.Content.{formLength}
-use Rattle.settle.specs.minishard.Writing.{capped}
+use Rattle.settle.specs.minishard_length.Writing.{capped}
 use Rattle.settle.specs.length.Settleable.{SettleableShard}
-use Rattle.settle.proofs.parts.WriteAnswers.{sound-settleable}
+use Rattle.settle.proofs.two_parts.WriteAnswers.{sound-settleable}
 use Rattle.holdings.specs.declared.chunk_sums.Total.{Total}
 use Rattle.holdings.specs.chunk_sums.Reading.{SizedIn, SizedParts, Few}
 use Rattle.holdings.specs.chunk_sums.Totals.{sizesIn, passes, totalOf}

@@ -9,7 +9,7 @@ use Rattle.shard.specs.File.{indexPart, dataPart}
 use Rattle.unlisted.specs.ranges.Ranges.{countIn}
 use Rattle.unlisted.specs.ranges.Covered.{unlistedBytes}
 use Rattle.settled_form.specs.Content.{formLength}
-use Rattle.settle.specs.minishard.Writing.{capped}
+use Rattle.settle.specs.minishard_length.Writing.{capped}
 use Rattle.holdings.specs.chunk_sums.Totals.{sizesIn}
 use Rattle.holdings.specs.declared.measures.Counts.{Counts}
 

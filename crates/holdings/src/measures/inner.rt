@@ -1,7 +1,7 @@
 // What is counted over a shard that passed the check, by its shard index and the data behind it.
 
 ghost use mathlib.Core.Path.{_≡_};
-ghost use Rattle.unlisted.specs.runs.Reading.{RangedShard};
+ghost use Rattle.unlisted.specs.stretches.Reading.{RangedShard};
 ghost use Rattle.settle.specs.length.Settleable.{SettleableShard};
 ghost use Rattle.holdings.specs.measures.Answers.{measuredIn};
 use crate::chunk_sums::chunk_bytes;

@@ -15,9 +15,9 @@ use Rattle.sharding.specs.placement.Place.{minishardOf}
 use Rattle.shard.specs.File.{indexLength}
 use Rattle.intake.specs.declared.state.Intake.{Intake}
 use Rattle.intake.specs.state.State.{most, announcedLength, notVolume, Usable}
-use Rattle.intake.specs.tests.Tests.{foreign, unusable, outOfOrder, forged, forgedTurn, countIn, noRoom}
+use Rattle.intake.specs.call_tests.Tests.{foreign, unusable, outOfOrder, forged, forgedTurn, countIn, noRoom}
 use Rattle.intake.specs.admission.Refusals.{openChecks, announceChecks, partChecks, closeChecks}
-use Rattle.intake.proofs.tests.Passing.{usable}
+use Rattle.intake.proofs.call_tests.Passing.{usable}
 
 -- ---- the four calls: what the number 0 tells
 

@@ -14,10 +14,10 @@ use Rattle.sharding.specs.Specification.{shardCount}
 use Rattle.shard.specs.File.{indexLength}
 use Rattle.intake.specs.declared.state.Intake.{Intake}
 use Rattle.intake.specs.state.State.{most, notVolume}
-use Rattle.intake.specs.tests.Tests.{otherLengths, foreign, unusable, outOfOrder, forged, forgedTurn, noRoom}
+use Rattle.intake.specs.call_tests.Tests.{otherLengths, foreign, unusable, outOfOrder, forged, forgedTurn, noRoom}
 use Rattle.intake.specs.admission.Refusals.{openChecks, announceChecks, partChecks, closeChecks}
 use Rattle.intake.proofs.sanity.States.{told-volume}
-use Rattle.intake.proofs.tests.Tested.{told-length, told-permitted, told-room, told-held, told-sane}
+use Rattle.intake.proofs.call_tests.Tested.{told-length, told-permitted, told-room, told-held, told-sane}
 
 -- ---- the calls
 

@@ -10,7 +10,7 @@ use Rattle.sharding.specs.declared.Sharding.{Sharding}
 use Rattle.sharding.specs.Specification.{minishardBits, shardBits, Within}
 use Rattle.sharding.proofs.Allowed.{allowed-within}
 use Rattle.intake.specs.declared.state.Intake.{Intake}
-use Rattle.intake.proofs.tests.Passing.{unusable-parts}
+use Rattle.intake.proofs.call_tests.Passing.{unusable-parts}
 use Rattle.intake.proofs.admission.Passing.{hands}
 use Rattle.intake.specs.declared.IntakeAnswer.the-variants.{Next}
 use Rattle.intake.specs.steps.Steps.{taken}

@@ -19,7 +19,7 @@ use Rattle.shard.specs.File.{indexLength}
 use Rattle.intake.specs.waiting.Held.{pair, indexHeld}
 use Rattle.intake.specs.declared.state.Intake.{Intake}
 use Rattle.intake.specs.state.State.{Usable}
-use Rattle.intake.specs.tests.Tests.{countIn}
+use Rattle.intake.specs.call_tests.Tests.{countIn}
 use Rattle.intake.specs.admission.Refusals.{announceChecks}
 use Rattle.intake.proofs.admission.Passing.{announces}
 use Rattle.intake.specs.steps.Steps.{endedLeft, turned, turnedLeft, announced}

@@ -10,7 +10,7 @@ use Rattle.sharding.specs.Specification.{noSuchShard}
 use Rattle.shard.specs.File.{indexLength}
 use Rattle.intake.specs.declared.state.Intake.{Intake}
 use Rattle.intake.specs.state.State.{most, notVolume}
-use Rattle.intake.specs.tests.Tests.{otherLengths, foreign, unusable, outOfOrder, forged, forgedTurn, noRoom}
+use Rattle.intake.specs.call_tests.Tests.{otherLengths, foreign, unusable, outOfOrder, forged, forgedTurn, noRoom}
 
 -- ---- the calls: of the output its length counts, of the second buffer also what it holds
 

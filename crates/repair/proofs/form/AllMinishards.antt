@@ -22,7 +22,7 @@ use Rattle.shard.specs.index.Index.{mostShardBytes}
 use Rattle.shard.specs.Items.{Item}
 use Rattle.settled_form.specs.Form.{partOf, partLength, partsFrom, partsLength, shardIndexFrom, settled, settledLength}
 use Rattle.settled_form.proofs.Measures.{length-part, length-shard-index}
-use Rattle.settle.specs.minishard.Writing.{capped}
+use Rattle.settle.specs.minishard_length.Writing.{capped}
 use Rattle.settle.proofs.item_runs.Copying.{paste-both}
 use Rattle.settle.proofs.length.Lengths.{length-nil, length-cons}
 use Rattle.settle.specs.writing.Entry.{settledEntry}

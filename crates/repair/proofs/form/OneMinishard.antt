@@ -21,7 +21,7 @@ use Rattle.shard.proofs.Leads.{sound-led}
 use Rattle.shard.proofs.Judged.{passes-minishard, minishard-passes}
 use Rattle.settled_form.specs.Form.{partOf, partLength}
 use Rattle.settled_form.specs.Content.{itemsOf, byId}
-use Rattle.settle.specs.minishard.Writing.{capped}
+use Rattle.settle.specs.minishard_length.Writing.{capped}
 use Rattle.settle.specs.length.Settleable.{Settleable, SettleableIn, oneLength}
 use Rattle.settle.proofs.length.Lengths.{sorted-length}
 use Rattle.settle.specs.writing.Entry.{settledEntry}

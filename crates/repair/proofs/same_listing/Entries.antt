@@ -17,7 +17,7 @@ use Rattle.shard.specs.Items.{Item, itemOf, itemAt, Led}
 use Rattle.settled_form.specs.Sorted.{Member}
 use Rattle.settled_form.specs.Content.{itemsAt}
 use Rattle.settled_form.proofs.Stored.{item-member, member-item}
-use Rattle.settle.specs.minishard.Writing.{ReadableIndex, LeadsIn}
+use Rattle.settle.specs.minishard_length.Writing.{ReadableIndex, LeadsIn}
 use Rattle.repair.specs.same_listing.Alike.{Tells, AllIn, InStep}
 use Rattle.repair.specs.same_listing.Walk.{Walked, EntryRead}
 use Rattle.repair.proofs.same_listing.Items.{tells-yes, tells-no, tells-as}

@@ -17,7 +17,7 @@ use Rattle.settled_form.specs.Content.{itemsFrom, itemsAt, itemsOf, idOf, byId}
 use Rattle.settled_form.proofs.Sorting.{mem-sort, sort-mem, sort-same}
 use Rattle.settled_form.proofs.Measures.{length-items, length-by-id}
 use Rattle.settled_form.proofs.Stored.{item-member, each-item, distinct-items}
-use Rattle.settle.specs.minishard.Writing.{ReadableIndex, LeadsIn, Apart}
+use Rattle.settle.specs.minishard_length.Writing.{ReadableIndex, LeadsIn, Apart}
 use Rattle.settle.specs.length.Settleable.{SettleableIn}
 use Rattle.settle.proofs.length.Lengths.{none-items, ordered-read, readable-read, leads-read}
 use Rattle.repair.specs.same_listing.Alike.{sameBytes, sameItem, sameItems, alike, Tells, AllIn, InStep}

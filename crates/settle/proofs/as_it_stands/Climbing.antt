@@ -15,8 +15,8 @@ use Rattle.settled_form.specs.Form.{partOf}
 use Rattle.settled_form.specs.Content.{itemsAt, byId}
 use Rattle.settled_form.proofs.Stored.{by-id-stored}
 use Rattle.index_sort.proofs.three_rows.Cases.{Either, is, not, either}
-use Rattle.settle.specs.minishard.Writing.{ReadableIndex, Stored, MayStand, Climbs, minishardLength}
-use Rattle.settle.proofs.minishard.Lengths.{lengths-alone}
+use Rattle.settle.specs.minishard_length.Writing.{ReadableIndex, Stored, MayStand, Climbs, minishardLength}
+use Rattle.settle.proofs.minishard_length.Lengths.{lengths-alone}
 
 -- ---- whether the ids rise
 

@@ -16,8 +16,8 @@ use Rattle.endian.proofs.Part.{part-length}
 use Rattle.endian.proofs.Paste.{paste-nil, paste-on}
 use Rattle.endian.proofs.Ranges.{sum-none, sum-step, sum-grows, sum-done}
 use Rattle.shard.specs.index.Index.{sizes, chunkAt}
-use Rattle.settle.specs.minishard.Writing.{ReadableIndex, chunksFrom}
-use Rattle.settle.proofs.minishard.Walk.{Walk, walk-first, walk-chunk, walk-inside, walk-fits, walk-next}
+use Rattle.settle.specs.minishard_length.Writing.{ReadableIndex, chunksFrom}
+use Rattle.settle.proofs.minishard_length.Walk.{Walk, walk-first, walk-chunk, walk-inside, walk-fits, walk-next}
 
 next-chunk : (d : List ℕ) (s n i : ℕ) → i < n → chunksFrom d s n i (n - i) ≡ chunkAt d s n i ++ chunksFrom d s n (i + 1) (n - (i + 1))
 unfolding chunksFrom

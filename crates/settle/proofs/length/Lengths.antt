@@ -18,7 +18,7 @@ use Rattle.settled_form.specs.Form.{chunksLength, partLength, partsLength, sett
 use Rattle.settled_form.specs.Content.{itemsAt, itemsOf, byId, contentFrom, contentOf, formLength}
 use Rattle.settle.specs.length.Settleable.{Settleable, SettleableIn, SettleableParts, SettleableShard, oneLength, wholeLength}
 use Rattle.settled_form.proofs.Measures.{length-items, part-by-id, length-content}
-use Rattle.settle.specs.minishard.Writing.{ReadableIndex, LeadsIn, minishardLength, capped}
+use Rattle.settle.specs.minishard_length.Writing.{ReadableIndex, LeadsIn, minishardLength, capped}
 use Rattle.settle.proofs.stored.StoredRows.{items-none, items-all}
 
 -- ---- one minishard

@@ -19,7 +19,7 @@ use Rattle.index_sort.specs.three_rows.Rows.{idOf, noEntry}
 use Rattle.index_sort.specs.phases.Rows.{sortById}
 use Rattle.index_sort.proofs.three_rows.Cases.{Either, is, not, either, apart}
 use Rattle.index_sort.proofs.phases.Places.{at-mem, apart-distinct}
-use Rattle.settle.specs.minishard.Writing.{ReadableIndex, LeadsIn, Apart}
+use Rattle.settle.specs.minishard_length.Writing.{ReadableIndex, LeadsIn, Apart}
 use Rattle.settle.specs.item_runs.Named.{itemFrom, named, InData}
 use Rattle.settle.specs.sorted.Reordered.{storedAt, storedFrom, storedEntries}
 use Rattle.settle.proofs.sorted.Filling.{length-stored, nth-stored}

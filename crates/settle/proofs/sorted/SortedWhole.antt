@@ -23,7 +23,7 @@ use Rattle.index_sort.specs.declared.three_rows.Entry.{Entry}
 use Rattle.index_sort.specs.three_rows.Rows.{idOf, entriesAt, rowsOf, Only, noEntry, nth}
 use Rattle.index_sort.specs.phases.Rows.{sortById}
 use Rattle.index_sort.proofs.three_rows.Bytes.{length-entries, entry-is, only-then, rows-written}
-use Rattle.settle.specs.minishard.Writing.{ReadableIndex, LeadsIn, Apart, minishardLength, capped}
+use Rattle.settle.specs.minishard_length.Writing.{ReadableIndex, LeadsIn, Apart, minishardLength, capped}
 use Rattle.settle.specs.item_runs.Named.{itemFrom, named, InData}
 use Rattle.settle.specs.sorted.Reordered.{storedEntries, SortedRows, RisingRow, stepsFrom}
 use Rattle.settle.proofs.sorted.Naming.{named-sorted, length-sorted, distinct-stored, inside-sorted}

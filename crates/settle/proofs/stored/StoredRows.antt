@@ -21,8 +21,8 @@ use Rattle.shard.proofs.Chunks.{pair, item-pair}
 use Rattle.settled_form.specs.Form.{chunksOf, idRow, startRow, sizeRow, indexOf, partOf}
 use Rattle.settled_form.specs.Content.{itemsFrom, itemsAt}
 use Rattle.settled_form.proofs.Measures.{length-chunks}
-use Rattle.settle.specs.minishard.Writing.{ReadableIndex, Stored, chunksFrom}
-use Rattle.settle.proofs.minishard.Lengths.{lengths-alone}
+use Rattle.settle.specs.minishard_length.Writing.{ReadableIndex, Stored, chunksFrom}
+use Rattle.settle.proofs.minishard_length.Lengths.{lengths-alone}
 
 -- ---- the items of a minishard index, one after the other
 

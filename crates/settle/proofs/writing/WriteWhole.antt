@@ -24,7 +24,7 @@ use Rattle.settle.specs.length.Settleable.{SettleableIn, oneLength, whol
 use Rattle.settle.specs.writing.Entry.{settledEntry}
 use Rattle.settled_form.proofs.Measures.{length-part, length-items, chunks-by-id, length-by-id, part-by-id, length-shard-index, length-content-from}
 use Rattle.settle.proofs.length.Lengths.{stored-length, sorted-length, none-items, ordered-read, readable-read, leads-read, none-length-read, content-none, from, from-cons, length-next, length-none, each-at, entry-at, permitted-shard, whole-content, whole-length, parts-counted}
-use Rattle.settle.specs.minishard.Writing.{Apart, minishardLength}
+use Rattle.settle.specs.minishard_length.Writing.{Apart, minishardLength}
 use Rattle.settle.proofs.item_runs.Copying.{paste-both}
 
 -- ---- one minishard and its entry

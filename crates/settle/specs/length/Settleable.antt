@@ -11,7 +11,7 @@ use Rattle.shard.specs.index.Index.{entryStart, entryEnd, entryCount, idSteps, 
 use Rattle.shard.specs.Items.{Led}
 use Rattle.settled_form.specs.Form.{partsLength}
 use Rattle.settled_form.specs.Content.{contentFrom}
-use Rattle.settle.specs.minishard.Writing.{minishardLength}
+use Rattle.settle.specs.minishard_length.Writing.{minishardLength}
 
 -- of 7, 8, 9 and 11, and of leads, all that settling a minishard relies on, whose minishard index stands in d from s to e
 pub record Settleable (spec : Sharding) (d : List ℕ) (s e : ℕ) : Type 0 where

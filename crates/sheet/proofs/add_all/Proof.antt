@@ -1,6 +1,6 @@
 -- The measure is the number of turns that are left.
 use native.Mathlib.Omega.{arith}
-use Rattle.sheet.proofs.one_shard.Turning.{Turning, reaching}
+use Rattle.sheet.proofs.one_turn.Turning.{Turning, reaching}
 use Rattle.sheet.proofs.add_all.Statement.{statement}
 use Rattle.sheet.proofs.add_all.Tie as tie
 

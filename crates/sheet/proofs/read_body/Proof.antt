@@ -1,4 +1,4 @@
-use Rattle.sheet.proofs.one_shard.Turning.{reading}
+use Rattle.sheet.proofs.one_turn.Turning.{reading}
 use Rattle.sheet.proofs.read_body.Statement.{statement}
 use Rattle.sheet.proofs.read_body.Tie as tie
 

@@ -3,7 +3,7 @@ use Prim.Native.Nat.{_≤_}
 use mathlib.Core.Path.{_≡_}
 use native.Mathlib.Omega.{arith}
 use lib.ListN.{length, take}
-use Rattle.sheet.proofs.one_shard.Turning.{reading, part-long, head-read}
+use Rattle.sheet.proofs.one_turn.Turning.{reading, part-long, head-read}
 use Rattle.sheet.proofs.read_next.Statement.{statement}
 use Rattle.sheet.proofs.read_next.Tie as tie
 

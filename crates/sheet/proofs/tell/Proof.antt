@@ -1,4 +1,4 @@
-use Rattle.sheet.proofs.one_shard.Turning.{telling}
+use Rattle.sheet.proofs.one_turn.Turning.{telling}
 use Rattle.sheet.proofs.tell.Statement.{statement}
 use Rattle.sheet.proofs.tell.Tie as tie
 

@@ -17,7 +17,7 @@ use Rattle.shard.proofs.AfterCheck.{afterCheck}
 use Rattle.shard.proofs.Whole.{check-passes-sound}
 use Rattle.unlisted.specs.ranges.Covered.{unlistedBytes, fileUnlisted}
 use Rattle.refusal.specs.declared.CountAnswer.the-variants as U
-use Rattle.unlisted.specs.runs.Reading.{RangedShard}
+use Rattle.unlisted.specs.stretches.Reading.{RangedShard}
 use Rattle.unlisted.proofs.Counted.{sound-ranged, unlisted-by-check}
 use Rattle.split_shard.specs.seam.Pair.{pairChecks}
 use Rattle.split_shard.proofs.seam.Pairs.{seamed-front, seamed-back}
@@ -27,7 +27,7 @@ use Rattle.refusal.specs.declared.CountAnswer.{CountAnswer}
 use Rattle.settle.specs.answers.Answers.{answerOf, lengthIn, settleIn, leftIn}
 use Rattle.settle.specs.length.Settleable.{SettleableShard}
 use Rattle.settle.proofs.answers.Answered.{length-by-check, settle-by-check, left-by-check}
-use Rattle.settle.proofs.parts.WriteAnswers.{sound-settleable}
+use Rattle.settle.proofs.two_parts.WriteAnswers.{sound-settleable}
 use Rattle.split_shard.specs.form.Answers.{pairUnlisted, pairLength, pairSettle, pairSettleLeft}
 
 -- 1, 5 and 23 go before the check, or before what goes on after it

@@ -19,12 +19,12 @@ use Rattle.shard.specs.index.Index.{entryStart, entryEnd, entryCount}
 use Rattle.shard.specs.Items.{leadLength}
 use Rattle.unlisted.specs.declared.rising_walk.Run.{Run}
 use Rattle.unlisted.specs.ranges.Covered.{inItems, inMinishard, coveredBy, coveredIn, coveredAt}
-use Rattle.unlisted.specs.declared.runs.Stretch.{Stretch}
-use Rattle.unlisted.specs.runs.Reading.{Ranged}
-use Rattle.unlisted.specs.runs.Stretches.{Stretched}
+use Rattle.unlisted.specs.declared.stretches.Stretch.{Stretch}
+use Rattle.unlisted.specs.stretches.Reading.{Ranged}
+use Rattle.unlisted.specs.stretches.Stretches.{Stretched}
 use Rattle.unlisted.specs.rising_walk.Order.{Tells, Extends, inPart, partBy, partAt}
-use Rattle.unlisted.proofs.runs.Covering.{items-none, each-ranged}
-use Rattle.unlisted.proofs.runs.Walk.{Walk, walk-first, walk-inside, walk-led, walk-fits, walk-next, walk-test}
+use Rattle.unlisted.proofs.stretches.Covering.{items-none, each-ranged}
+use Rattle.unlisted.proofs.stretches.Walk.{Walk, walk-first, walk-inside, walk-led, walk-fits, walk-next, walk-test}
 use Rattle.unlisted.proofs.rising_walk.Runs.{tells-as, extends-as, extends-none, extends-then, extends-broken}
 
 -- ---- entries

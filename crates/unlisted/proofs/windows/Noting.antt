@@ -20,10 +20,10 @@ use Rattle.sharding.specs.Specification.{minishardCount}
 use Rattle.shard.specs.index.Index.{entryStart, entryEnd, mostShardBytes}
 use Rattle.shard.specs.Items.{leadLength, MayLead}
 use Rattle.unlisted.specs.ranges.Covered.{inItems, inMinishard, coveredIn, coveredAt}
-use Rattle.unlisted.specs.runs.Reading.{Ranged}
+use Rattle.unlisted.specs.stretches.Reading.{Ranged}
 use Rattle.unlisted.specs.windows.Windows.{Limit, Meets}
-use Rattle.unlisted.proofs.runs.Covering.{items-none, none-read, some-read, covered-none, covered-next, each-ranged}
-use Rattle.unlisted.proofs.runs.Walk.{Walk, walk-all, walk-inside, walk-led, walk-fits, walk-next, walk-test}
+use Rattle.unlisted.proofs.stretches.Covering.{items-none, none-read, some-read, covered-none, covered-next, each-ranged}
+use Rattle.unlisted.proofs.stretches.Walk.{Walk, walk-all, walk-inside, walk-led, walk-fits, walk-next, walk-test}
 
 after-then : (lo : ℕ) (f g h : ℕ → Bool) → ((p : ℕ) → f p || g p ≡ h p) → (i : ℕ) → after lo f i || after lo g i ≡ after lo h i
 unfolding after

@@ -1,7 +1,7 @@
 use Prim.Native.Nat.{_-_}
 use Rattle.unlisted.specs.ranges.Covered.{inItems}
 use Rattle.unlisted.specs.rising_walk.Order.{Extends}
-use Rattle.unlisted.proofs.runs.Walk.{Walk, walk-inside, walk-led, walk-next}
+use Rattle.unlisted.proofs.stretches.Walk.{Walk, walk-inside, walk-led, walk-next}
 use Rattle.unlisted.proofs.rising_walk.Parts.{items-next, going}
 use Rattle.unlisted.proofs.rising_walk.over_each.Statement.{statement}
 use Rattle.unlisted.proofs.rising_walk.over_each.Tie as tie

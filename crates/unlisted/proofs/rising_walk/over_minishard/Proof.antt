@@ -1,5 +1,5 @@
 use borrow.Author.Needs.{needs}
-use Rattle.unlisted.proofs.runs.Covering.{read-ranged}
+use Rattle.unlisted.proofs.stretches.Covering.{read-ranged}
 use Rattle.unlisted.proofs.rising_walk.Parts.{over-none, over-some}
 use Rattle.unlisted.proofs.rising_walk.over_minishard.Statement.{statement}
 use Rattle.unlisted.proofs.rising_walk.over_minishard.Tie as tie

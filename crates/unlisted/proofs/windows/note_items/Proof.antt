@@ -3,7 +3,7 @@ use borrow.Author.Needs.{needs}
 use Rattle.bitmap.specs.Positions.{after}
 use Rattle.bitmap.specs.window.Window.{Notes}
 use Rattle.unlisted.specs.ranges.Covered.{inItems}
-use Rattle.unlisted.proofs.runs.Walk.{Walk, walk-inside, walk-led, walk-next}
+use Rattle.unlisted.proofs.stretches.Walk.{Walk, walk-inside, walk-led, walk-next}
 use Rattle.unlisted.proofs.windows.Noting.{items-next, going}
 use Rattle.unlisted.proofs.windows.note_items.Statement.{statement}
 use Rattle.unlisted.proofs.windows.note_items.Tie as tie

@@ -1,5 +1,5 @@
 use borrow.Author.Needs.{needs}
-use Rattle.unlisted.proofs.runs.Covering.{read-ranged}
+use Rattle.unlisted.proofs.stretches.Covering.{read-ranged}
 use Rattle.unlisted.proofs.windows.Noting.{minishard-none, minishard-some}
 use Rattle.unlisted.proofs.windows.note_minishard.Statement.{statement}
 use Rattle.unlisted.proofs.windows.note_minishard.Tie as tie

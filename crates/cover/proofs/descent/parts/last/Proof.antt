@@ -1,7 +1,0 @@
--- `cover::descent::parts::last` meets its contract.
-use Rattle.cover.proofs.descent.Ways.{ways}
-use Rattle.cover.proofs.descent.parts.last.Statement.{statement}
-use Rattle.cover.proofs.descent.parts.last.Tie as tie
-
-pub last-spec : {M : Type 1} → statement M
-last-spec = tie.close (tie.spec (λ c. search ways) (λ c. search ways) (λ c. search ways) (λ c. search ways))

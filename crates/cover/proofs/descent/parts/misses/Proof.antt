@@ -1,7 +1,0 @@
--- `cover::descent::parts::misses` meets its contract.
-use Rattle.cover.proofs.descent.Ways.{ways}
-use Rattle.cover.proofs.descent.parts.misses.Statement.{statement}
-use Rattle.cover.proofs.descent.parts.misses.Tie as tie
-
-pub misses-spec : {M : Type 1} → statement M
-misses-spec = tie.close (tie.spec (λ c. search ways) (λ c. search ways) (λ c. search ways))

@@ -1,8 +1,0 @@
-use Rattle.settle.proofs.parts.WriteAnswers.{measuring}
-use Rattle.settle.proofs.parts.length_answer.Statement.{statement}
-use Rattle.settle.proofs.parts.length_answer.Tie as tie
-
-pub length-answer-spec : {M : Type 1} → statement M
-length-answer-spec =
-    tie.close
-    (tie.spec (λ c κs. search measuring) (λ c. search measuring) (λ c κs. search measuring) (λ c. search measuring) (λ c. search measuring))

@@ -1,9 +1,0 @@
-use Rattle.unlisted.proofs.runs.Stretches.{joined-or}
-use Rattle.unlisted.proofs.runs.joined.Statement.{statement}
-use Rattle.unlisted.proofs.runs.joined.Tie as tie
-
-pub joined-spec : {M : Type 1} → statement M
-joined-spec =
-    tie.close
-    (tie.spec
-    (λ c. search joined-or))
