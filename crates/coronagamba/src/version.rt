@@ -10,5 +10,5 @@ ghost use Rattle.coronagamba.specs.Version.{version};
 pub extern "C" fn coronagamba_version() -> u64
     ensures answer { λ r. ⌜ r ≡ version ⌝ }
 {
-    65536 * 5 + 1
+    65536 * 6
 }

@@ -87,6 +87,24 @@ saidHashed preshift hash x =
 abbrev pub said : ℕ → ℤ → CardAnswer
 said preshift x = saidHashed preshift 0 x
 
+-- all numbers different, so that none stands for another: size 7,11,13, chunk size 2,3,5, offset -1,2,-3, preshift 1, minishard bits 2, shard bits 3
+abbrev pub different : List ℕ
+different =
+    file (object (
+    pair sizeName (array ((55 ∷ []) ∷ (49 ∷ 49 ∷ []) ∷ (49 ∷ 51 ∷ []) ∷ []))
+    ∷ pair chunksName (array (array ((50 ∷ []) ∷ (51 ∷ []) ∷ (53 ∷ []) ∷ []) ∷ []))
+    ∷ pair offsetName (array ((45 ∷ 49 ∷ []) ∷ (50 ∷ []) ∷ (45 ∷ 51 ∷ []) ∷ []))
+    ∷ pair shardingName (object (pair typeName (quoted typeText) ∷ pair preshiftName (49 ∷ []) ∷ pair hashName (quoted identityText) ∷ pair minishardBitsName (50 ∷ []) ∷ pair shardBitsName (51 ∷ []) ∷ []))
+    ∷ []
+    ) ∷ [])
+
+abbrev pub saidDifferent : CardAnswer
+saidDifferent =
+    Says (record {
+      sharding = record { preshift = 1; hash = 0; «minishard_bits» = 2; «shard_bits» = 3; kind = volume };
+      volume = record { size = record { x = 7; y = 11; z = 13 }; chunk = record { x = 2; y = 3; z = 5 }; offset = record { x = negsuc 0; y = pos 2; z = negsuc 2 } };
+    })
+
 -- ---- the table
 
 pub record Case : Type 0 where
@@ -123,6 +141,7 @@ spelt =
 unfoldable pub cases : List Case
 cases =
     case plain 0 (said 0 (pos 0))
+    ∷ case different 0 saidDifferent
     -- there is no scale 1
     ∷ case plain 1 (Refused 20)
     -- scale 1 is the second
