@@ -1,6 +1,6 @@
 -- Whether a minishard may be written as it stands.
 use Prim.Native.Nat.{ℕ, suc, _+_, _*_, _-_, _%_, _^_, _≤_, _<_}
-use mathlib.Core.Path.{_≡_, sym, ap, _∙_}
+use mathlib.Core.Path.{_≡_, refl, sym, ap, _∙_}
 use mathlib.Core.Bool.{Bool, true, false, false≢true}
 use mathlib.Core.List.{List}
 use native.Mathlib.Omega.{arith}
@@ -15,7 +15,7 @@ use Rattle.settled_form.specs.Form.{partOf}
 use Rattle.settled_form.specs.Content.{itemsAt, byId}
 use Rattle.settled_form.proofs.Stored.{by-id-stored}
 use Rattle.index_sort.proofs.three_rows.Cases.{Either, is, not, either}
-use Rattle.settle.specs.minishard_length.Writing.{ReadableIndex, Stored, MayStand, Climbs, minishardLength}
+use Rattle.settle.specs.minishard_length.Writing.{ReadableIndex, Stored, MayStand, IdsRise, Climbs, minishardLength}
 use Rattle.settle.proofs.minishard_length.Lengths.{lengths-alone}
 
 -- ---- whether the ids rise
@@ -40,19 +40,33 @@ climb-start d s n {id} e b =
     let f : idSteps d s 0 ≡ id = ap (leAt 8 d) z ∙ sym e in
     record { from = omega arith; before = sym (first-id (idSteps d s) (omega arith) ∙ f); passed = λ j l. absurd (omega arith) }
 
-pub climb-false : (steps : ℕ → ℕ) (n : ℕ) → Climbs steps n false
-climb-false steps n = record { up = λ e. absurd (false≢true e) }
+next-id : (d : List ℕ) (s : ℕ) {n i id x next : ℕ} → Climbing (idSteps d s) n i id → x ≡ leAt 8 d (s + 8 * i) → next ≡ (id + x) % 2 ^ 64 → idAt (idSteps d s) i ≡ next
+next-id d s {n} {i} h e w =
+    let o = h .from in
+    let a : suc (i - 1) ≡ i = omega arith in
+    let f = idSteps d s in
+    ap (idAt f) (sym a) ∙ id-after f (i - 1) ∙ rw (← h .before, a, ← e) (sym w)
+
+pub climb-false : (d : List ℕ) (s : ℕ) {n i id x next : ℕ} → Climbing (idSteps d s) n i id → i < n → x ≡ leAt 8 d (s + 8 * i) → next ≡ (id + x) % 2 ^ 64 → next ≤ id → Climbs (idSteps d s) n false
+climb-false d s {n} {i} {id} {x} {next} h l e w down = record { up = λ q. absurd (false≢true q); all = λ g. absurd (falls g) }
+  where
+    falls : IdsRise (idSteps d s) n → ⊥
+    falls g =
+        let o = h .from in
+        let a : suc (i - 1) ≡ i = omega arith in
+        let t = next-id d s h e w in
+        let b = h .before in
+        let u : idAt (idSteps d s) (suc (i - 1)) ≡ idAt (idSteps d s) i = ap (idAt (idSteps d s)) a in
+        omega (arith, g (i - 1) (omega arith))
 
 pub climb-next : (d : List ℕ) (s : ℕ) {n i id x next : ℕ} → Climbing (idSteps d s) n i id → i < n → x ≡ leAt 8 d (s + 8 * i) → next ≡ (id + x) % 2 ^ 64 → id < next → Climbing (idSteps d s) n (i + 1) next
 climb-next d s {n} {i} {id} {x} {next} h l e w up =
     let o = h .from in
-    let a : suc (i - 1) ≡ i = omega arith in
-    let f = idSteps d s in
-    let t : idAt f i ≡ next = ap (idAt f) (sym a) ∙ id-after f (i - 1) ∙ rw (← h .before, a, ← e) (sym w) in
+    let t = next-id d s h e w in
     let z : i + 1 - 1 ≡ i = omega arith in
     record {
       from = omega arith;
-      before = sym (ap (idAt f) z ∙ t);
+      before = sym (ap (idAt (idSteps d s)) z ∙ t);
       passed = λ j k. go j k (either j (i - 1)) t;
     }
   where
@@ -64,18 +78,18 @@ climb-next d s {n} {i} {id} {x} {next} h l e w up =
     go j k (not ne) t = let o = h .from in h .passed j (omega (arith, ne))
 
 pub climb-true : {steps : ℕ → ℕ} {n i id : ℕ} → Climbing steps n i id → n ≤ i → Climbs steps n true
-climb-true h l = record { up = λ e j k. h .passed j (omega arith) }
+climb-true h l = record { up = λ e j k. h .passed j (omega arith); all = λ g. refl }
 
 pub ruleset climbing = (climb-start, climb-false, climb-next, climb-true, needs)
 
 -- ---- and no chunk has a lead
 
 module _ (spec : Sharding) (d : List ℕ) (s n : ℕ) where
-  pub stands-not : MayStand spec d s n false
-  stands-not = record { stored = λ e. absurd (false≢true e) }
+  pub stands-not : {a : Bool} → MayLead spec a → a ≡ true → MayStand spec d s n false
+  stands-not m e = record { stored = λ q. absurd (false≢true q); all = λ v g. absurd (false≢true (sym v ∙ sym (m .mesh) ∙ e)) }
 
   pub stands : {a b : Bool} → MayLead spec a → a ≡ false → Climbs (idSteps d s) n b → MayStand spec d s n b
-  stands m e h = record { stored = λ f. record { alone = m .none e; up = h .up f } }
+  stands m e h = record { stored = λ f. record { alone = m .none e; up = h .up f }; all = λ v g. h .all g }
 
   -- it is then settled as it stands
   pub stored-is : {b : Bool} → MayStand spec d s n b → b ≡ true → Stored spec d s n
