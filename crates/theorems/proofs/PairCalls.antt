@@ -20,7 +20,7 @@ use Rattle.lookup.specs.Find.{lookupChecks, lookupResult}
 use Rattle.lookup.proofs.Refused.{lookup-decided}
 use Rattle.lookup.specs.fragments.Fragment.{fragmentChecks}
 use Rattle.lookup.proofs.fragments.Refused.{fragment-decided}
-use Rattle.lookup.specs.listings.Listing.{askedChecks, countChecks, listingChecks}
+use Rattle.lookup.specs.listings.Listing.{askedChecks, countChecks, countAnswer, listingChecks, listingAnswer}
 use Rattle.lookup.proofs.listings.Refused.{count-decided, listing-decided}
 use Rattle.unlisted.proofs.Counted.{unlisted-decided}
 use Rattle.settle.specs.answers.Answers.{settledLengthChecks, settleChecks}
@@ -44,17 +44,17 @@ module _ (spec : Sharding) (shard : ℕ) (index d : List ℕ) where
     fragment-decided-pair level node = pair-decided lookupResult L.Refused (λ k. refl) spec (otherShard spec shard id) index (fragment-decided spec shard (index ++ d) id level node)
 
   module _ (m : ℕ) where
-    asked-decided : {cs : List Check} {x : CountAnswer} → DecidedBy cs (countResult x) → DecidedBy (pairAskedChecks spec shard m index ++ cs) (countResult (answered N.Refused (pairAskedChecks spec shard m index) x))
+    asked-decided : {cs : List Check} (x : CountAnswer) → DecidedBy cs (countResult x) → DecidedBy (pairAskedChecks spec shard m index ++ cs) (countResult (answered N.Refused (pairAskedChecks spec shard m index) x))
     unfolding pairAskedChecks askedChecks
-    asked-decided {cs} {x} h = decided-after countResult N.Refused (λ k. refl) (pairAskedChecks spec shard m index) cs x (all-in (pairAskedChecks spec shard m index) refl) (refl, (refl, (refl, (refl, tt)))) h
+    asked-decided {cs} x h = decided-after countResult N.Refused (λ k. refl) (pairAskedChecks spec shard m index) cs x (all-in (pairAskedChecks spec shard m index) refl) (refl, (refl, (refl, (refl, tt)))) h
 
     pub count-decided-pair : DecidedBy (pairAskedChecks spec shard m index ++ countChecks spec shard (index ++ d) m) (countResult (pairCount spec shard index d m))
     unfolding pairCount
-    count-decided-pair = asked-decided (count-decided spec shard (index ++ d) m)
+    count-decided-pair = asked-decided (countAnswer spec shard (index ++ d) m) (count-decided spec shard (index ++ d) m)
 
     pub listing-decided-pair : (out : List ℕ) → DecidedBy (pairAskedChecks spec shard m index ++ listingChecks spec shard (index ++ d) m out) (countResult (pairListing spec shard index d m out))
     unfolding pairListing
-    listing-decided-pair out = asked-decided (listing-decided spec shard (index ++ d) m out)
+    listing-decided-pair out = asked-decided (listingAnswer spec shard (index ++ d) m out) (listing-decided spec shard (index ++ d) m out)
 
   pub unlisted-decided-pair : DecidedBy (pairChecks spec (noSuchShard spec shard) index ++ shardChecks spec shard (index ++ d)) (countResult (pairUnlisted spec shard index d))
   unfolding pairUnlisted
