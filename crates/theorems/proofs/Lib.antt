@@ -2,6 +2,7 @@ pub mod Calls
 pub mod Measures
 pub mod Carried
 pub mod Entry
+pub mod Keyed
 pub mod Named
 pub mod Laid
 pub mod Relaid
