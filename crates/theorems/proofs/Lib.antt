@@ -3,6 +3,7 @@ pub mod Measures
 pub mod PairCalls
 pub mod Carried
 pub mod Entry
+pub mod Keyed
 pub mod Named
 pub mod Laid
 pub mod Relaid

@@ -1,4 +1,4 @@
--- Demand 2's first sentence holds: places and names from Named, manifests from Laid and Relaid, pairs from split_shard's laws.
+-- Demand 2's first sentence holds: keys from Keyed, places and names from Named, manifests from Laid and Relaid, pairs from split_shard's laws.
 use mathlib.Core.Path.{refl, ap, _∙_}
 use mathlib.Core.List.{_++_}
 use Rattle.lookup.specs.Find.{partBytes}
@@ -7,12 +7,14 @@ use Rattle.split_shard.proofs.Laws.{lookup-as-joined, fragment-as-joined}
 use Rattle.split_shard.proofs.Parts.{lookup-bytes}
 use Rattle.split_shard.proofs.Fragments.{node-bytes}
 use Rattle.theorems.specs.Published.{Published}
+use Rattle.theorems.proofs.Keyed.{key-bits}
 use Rattle.theorems.proofs.Named.{place-is, file-name-is, chunk-name-is}
 use Rattle.theorems.proofs.Laid.{header-is, field-is, node-is, corners-are}
 use Rattle.theorems.proofs.Relaid.{verdict, relaid}
 
 pub published : Published
 published = record {
+  key = key-bits;
   place = place-is;
   fileName = file-name-is;
   chunkName = chunk-name-is;

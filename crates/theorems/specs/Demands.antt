@@ -194,7 +194,7 @@ ChosenListsItem spec file item = ListsItem spec (indexPart spec file) (dataPart 
 
 -- RULES D2, G7, L3
 pub record Demand2 : Type 0 where
-  -- Places, names, manifest fields and the parts of a pair are those of the published format.
+  -- Keys, places, names, manifest fields and the parts of a pair are those of the published format.
   pub published : Published
   -- Where a grid has at most 64 key bits, a cell of it is answered with its key, and that key is answered with the cell.
   pub keyed : (v : Volume) (c : Cell) → InU32 (v .size) → noCell v c ≡ false → keyBits (gridOf v) ≤ 64

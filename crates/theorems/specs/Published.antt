@@ -1,6 +1,6 @@
 -- Demand 2's first sentence: "Keys, shard and minishard numbers, file names, byte ranges and manifest fields are those of the published format." Each field
--- says it of one thing, in the words of sources 000, 001 and 002, from another side than the definition that the contracts cite: a place is put
--- together, a name is read back, a manifest is laid out.
+-- says it of one thing, in the words of sources 000, 001 and 002, from another side than the definition that the contracts cite: the bits of a key are
+-- told by their places, a place is put together, a name is read back, a manifest is laid out.
 use Prim.Native.Nat.{ℕ, suc, _+_, _*_, _^_, _≤_, _<_}
 use mathlib.Core.Path.{_≡_}
 use mathlib.Core.Bool.{true, false}
@@ -13,7 +13,13 @@ use lib.ListN.{length, getD, take}
 use Rattle.refusal.specs.Choice.{pick}
 use Rattle.refusal.specs.declared.Written.the-variants.{Length}
 use Rattle.morton.specs.declared.grid.Volume.{Volume}
+use Rattle.endian.specs.Range.{sumTo}
 use Rattle.morton.specs.declared.grid.Cell.{Cell}
+use Rattle.morton.specs.declared.grid.Extents.{Extents}
+use Rattle.morton.specs.declared.KeyAnswer.the-variants.{Key}
+use Rattle.morton.specs.grid.Grid.{gridOf}
+use Rattle.morton.specs.axis.Axis.{bitOf, used, count}
+use Rattle.morton.specs.Answers.{keyAnswer}
 use Rattle.morton.specs.declared.bounds.Bounds.{Bounds}
 use Rattle.morton.specs.bounds.Bounds.{boundsOf}
 use Rattle.murmur3.specs.Murmur.{murmurHash}
@@ -41,6 +47,19 @@ use Rattle.mesh_manifest.specs.declared.corners.Corners.{Corners}
 use Rattle.mesh_manifest.specs.declared.corners.CornersAnswer.the-variants as C
 use Rattle.mesh_manifest.specs.corners.Boxes.{cornersAnswer}
 use Rattle.theorems.specs.Manifests.{fieldOf, Fragment, Level, Manifest, entriesOf, bytesOf, Fits, sizesOf}
+
+-- ---- keys
+
+-- how many output bits the turns before turn i give: "If 2**i < grid_size[dim]", an axis gives one
+abbrev pub bitsBefore : Extents → ℕ → ℕ
+bitsBefore g i = sumTo (λ k. count (used (g .x) k) + (count (used (g .y) k) + count (used (g .z) k))) i
+
+-- bit i of each coordinate is the output bit that comes next in turn i, "for dim in 0, 1, 2 (corresponding to x, y, z)", and there is no bit above all of these
+pub record HasBits (g : Extents) (c : Cell) (key : ℕ) : Type 0 where
+  pub x : (i : ℕ) → i < 32 → used (g .x) i ≡ true → bitOf key (bitsBefore g i) ≡ bitOf (c .x) i
+  pub y : (i : ℕ) → i < 32 → used (g .y) i ≡ true → bitOf key (bitsBefore g i + count (used (g .x) i)) ≡ bitOf (c .y) i
+  pub z : (i : ℕ) → i < 32 → used (g .z) i ≡ true → bitOf key (bitsBefore g i + (count (used (g .x) i) + count (used (g .y) i))) ≡ bitOf (c .z) i
+  pub below : key < 2 ^ bitsBefore g 32
 
 -- ---- places
 
@@ -136,13 +155,15 @@ pub record Stands (m : Manifest) (l i : ℕ) (f : Fragment) (start : ℕ) : Type
   -- "the sum of all prior fragment_offsets values"
   pub starts : start ≡ sizesOf (flatMap (λ level. level .fragments) before ++ earlier)
 
--- ---- Keys are source 000's numbered steps themselves (crates/morton/specs/Key.antt); the byte ranges of listed chunks and fragments are `found`, `fragment` and
--- `listed` of Demand2. What an opened shard or pair is asked it is answered by the plain calls' definitions: the contracts of crates/opened/src/lib.rt and
--- crates/opened/src/pair.rt are equations with them, on the bytes that were lent.
--- (RULES D2, S2, S5, S6, G8, M1, M6, M7, M8, P3)
+-- ---- The byte ranges of listed chunks and fragments are `found`, `fragment` and `listed` of Demand2. What an opened shard or pair is asked has no field: it is
+-- answered by the plain calls' definitions, on the bytes that were lent. The contracts of crates/opened/src/lib.rt and crates/opened/src/pair.rt are equations
+-- with them; those of `lookup_in` and `part_in` say it of opening and asking together.
+-- (RULES D2, G5, S2, S5, S6, G8, M1, M6, M7, M8, P3)
 pub record Published : Type 0 where
+  -- The key of a cell has each bit of the cell where the steps of source 000 put it, and no other.
+  pub key : (v : Volume) (c : Cell) (k : ℕ) → keyAnswer v c ≡ Key k → HasBits (gridOf v) c k
   -- "The hashed chunk ID is computed as hash(chunk_id >> preshift_bits)"; "the minishard number is equal to bits [0, minishard_bits)" of it, and "the shard number
-  -- is equal to bits [minishard_bits, minishard_bits+shard_bits)". So, put together from these bits:
+  -- is equal to bits [minishard_bits, minishard_bits+shard_bits)". So of an id put together from these bits, as every id is:
   pub place : (spec : Sharding) (shifted low minishard shard rest : ℕ) → allowed spec ≡ true → low < 2 ^ spec .preshift → minishard < 2 ^ minishardBits spec → shard < 2 ^ shardBits spec
       → hashOf spec shifted ≡ minishard + 2 ^ minishardBits spec * (shard + 2 ^ shardBits spec * rest)
       → placeAnswer spec (shifted * 2 ^ spec .preshift + low) ≡ At (record { shard = shard; minishard = minishard })
