@@ -376,9 +376,8 @@ impl<'a> Chunks<'a> {
     fn advance(&mut self) -> Option<()> {
         let next = self.minishard + 1;
         let listed = match self.shard.listing(next) {
-            // The shard number has passed the check, so 5 speaks of the
-            // minishard.
-            Err(refusal) if refusal.number == 5 => return None,
+            // Behind the last minishard there is none.
+            Err(refusal) if refusal.number == Refusal::NO_SUCH_MINISHARD => return None,
             listed => listed.expect("the minishards of a sound shard are sound"),
         };
         self.minishard = next;
