@@ -1,14 +1,16 @@
 -- What each call refuses, by its checks, and that a refusal leaves each lent buffer as it was.
-use Prim.Native.Nat.{ℕ}
+use Prim.Native.Nat.{ℕ, zero, suc}
 use mathlib.Core.Path.{_≡_, refl}
 use mathlib.Core.Bool.{Bool, true, false}
-use mathlib.Core.List.{List}
+use mathlib.Core.List.{List, _++_}
 use lib.Ieee.{binary32, toBits}
 use Rattle.refusal.specs.Choice.{pick}
+use Rattle.refusal.specs.Checks.{firstNumber, unless}
 use Rattle.refusal.specs.Result.{success, writtenResult, DecidedBy}
 use Rattle.refusal.specs.declared.Written.the-variants.{Refused}
 use Rattle.refusal.proofs.Refusing.{keeping}
-use Rattle.refusal.proofs.Results.{decided}
+use Rattle.refusal.proofs.Picks.{all-in}
+use Rattle.refusal.proofs.Results.{decided, decided-after}
 use Rattle.morton.specs.declared.grid.Volume.{Volume}
 use Rattle.morton.specs.declared.grid.Cell.{Cell}
 use Rattle.morton.specs.declared.bounds.Point.{Point}
@@ -48,6 +50,7 @@ use Rattle.compressed_segmentation.specs.declared.Shape.{Shape}
 use Rattle.compressed_segmentation.specs.declared.LabelAnswer.the-variants as E
 use Rattle.compressed_segmentation.specs.Labels.{labelChecks, labelAnswer, labelResult}
 use Rattle.compressed_segmentation.specs.raw_form.Raw.{unpackChecks, unpackAnswer, unpackLeft, unpackedLengthChecks, lengthAnswer}
+use Rattle.coronagamba.specs.Labels.{widthChecks, labelBy, writtenBy, labelsLeftBy}
 
 -- ---- grids, places and names
 
@@ -191,3 +194,22 @@ unpacked-length-decided sh = decided writtenResult Refused (λ k. refl) (unpacke
 pub unpack-kept : (s : List ℕ) (sh : Shape) (out : List ℕ) (k : ℕ) → unpackAnswer s sh out ≡ Refused k → unpackLeft s sh out ≡ out
 unfolding unpackAnswer unpackLeft
 unpack-kept s sh out k e = keeping Refused (unpackChecks s sh out) _ _ out k (λ h. cc) e
+
+-- ---- labels in C: 2 of the width, then those of the call
+
+module _ (bits : ℕ) (s : List ℕ) (sh : Shape) where
+  pub label-decided-in-c : (x y z c : ℕ) → DecidedBy (widthChecks bits ++ labelChecks s sh x y z c) (labelResult (labelBy bits (labelAnswer s sh x y z c)))
+  label-decided-in-c x y z c = decided-after labelResult E.Refused (λ k. refl) (widthChecks bits) _ _ (all-in (widthChecks bits) refl) (refl, tt) (label-decided s sh x y z c)
+
+  pub unpack-decided-in-c : (out : List ℕ) → DecidedBy (widthChecks bits ++ unpackChecks s sh out) (writtenResult (writtenBy bits (unpackAnswer s sh out)))
+  unpack-decided-in-c out = decided-after writtenResult Refused (λ k. refl) (widthChecks bits) _ _ (all-in (widthChecks bits) refl) (refl, tt) (unpack-decided s sh out)
+
+  pub unpack-kept-in-c : (out : List ℕ) (k : ℕ) → writtenBy bits (unpackAnswer s sh out) ≡ Refused k → labelsLeftBy bits (unpackLeft s sh out) out ≡ out
+  unpack-kept-in-c out k = go (firstNumber (widthChecks bits))
+    where
+      go : (n : ℕ) → unless Refused n (unpackAnswer s sh out) ≡ Refused k → unless (λ j. out) n (unpackLeft s sh out) ≡ out
+      go zero e = unfold unless in unpack-kept s sh out k e
+      go (suc n) e = unfold unless in refl
+
+pub unpacked-length-decided-in-c : (bits : ℕ) (sh : Shape) → DecidedBy (widthChecks bits ++ unpackedLengthChecks sh) (writtenResult (writtenBy bits (lengthAnswer sh)))
+unpacked-length-decided-in-c bits sh = decided-after writtenResult Refused (λ k. refl) (widthChecks bits) _ _ (all-in (widthChecks bits) refl) (refl, tt) (unpacked-length-decided sh)

@@ -1,9 +1,13 @@
 pub mod Calls
 pub mod Measures
+pub mod FixedOrder
+pub mod Minishards
 pub mod PairCalls
 pub mod Carried
 pub mod Entry
 pub mod Keyed
+pub mod Told
+pub mod Writers
 pub mod Named
 pub mod Laid
 pub mod Relaid

@@ -1,5 +1,5 @@
 -- The three demands, sentence by sentence, of the definitions that the entry points' contracts cite. Proved in proofs/Demands.antt.
-use Prim.Native.Nat.{ℕ, _*_, _≤_, _<_}
+use Prim.Native.Nat.{ℕ, _+_, _*_, _≤_, _<_}
 use mathlib.Core.Path.{_≡_}
 use mathlib.Core.Bool.{Bool, true, false}
 use mathlib.Core.Logic.{_↔_, _⊎_}
@@ -7,15 +7,13 @@ use mathlib.Core.List.{List, [], _∷_, _++_}
 use mathlib.Core.Option.{Option, none}
 use lib.ListN.{length}
 use Rattle.refusal.specs.Checks.{Check, check, refusal}
-use Rattle.refusal.specs.Result.{writtenResult, countResult, DecidedBy}
+use Rattle.refusal.specs.Result.{success, refused as refusedBy, writtenResult, countResult, DecidedBy}
 use Rattle.refusal.specs.Buffer.{over}
 use Rattle.refusal.specs.declared.Written.the-variants.{Refused}
 use Rattle.endian.specs.Place.{Holds}
 use Rattle.morton.specs.declared.grid.Volume.{Volume}
 use Rattle.morton.specs.declared.grid.Cell.{Cell}
 use Rattle.morton.specs.declared.bounds.Point.{Point}
-use Rattle.morton.specs.declared.KeyAnswer.the-variants as K
-use Rattle.morton.specs.declared.CellAnswer.the-variants as C
 use Rattle.morton.specs.grid.Grid.{gridOf, InU32}
 use Rattle.morton.specs.Key.{keyBits, keyOf}
 use Rattle.morton.specs.grid.Answers.{noCell, gridChecks, gridAnswer, gridResult}
@@ -26,25 +24,25 @@ use Rattle.cover.specs.overlap.Cover.{coverChecks, coverAnswer, coverLeft}
 use Rattle.sharding.specs.declared.Sharding.{Sharding}
 use Rattle.sharding.specs.Specification.{isMesh, noSuchShard}
 use Rattle.sharding.specs.placement.Place.{minishardOf, placeChecks, placeAnswer, placeResult}
-use Rattle.sharding.specs.batch.Batch.{placesChecks, placesAnswer, shardsLeft, minishardsLeft}
+use Rattle.sharding.specs.batch.Batch.{shardsOf, minishardsOf, placesChecks, placesAnswer, shardsLeft, minishardsLeft}
 use Rattle.names.specs.chunks.Chunks.{chunkNameChecks, chunkNameAnswer, chunkNameLeft}
 use Rattle.names.specs.Shards.{fileNameChecks, fileNameAnswer, fileNameLeft}
 use Rattle.names.specs.declared.FileKind.{FileKind}
-use Rattle.shard.specs.declared.CheckAnswer.the-variants.{Sound, Faulty}
+use Rattle.shard.specs.declared.CheckAnswer.the-variants.{Sound}
 use Rattle.shard.specs.index.Index.{mostShardBytes}
 use Rattle.shard.specs.File.{indexLength, indexPart, dataPart, shardChecks, checkAnswer, checkResult}
-use Rattle.shard.specs.Sound.{SoundMinishard, SoundShard, FirstFaultIs}
+use Rattle.shard.specs.Sound.{SoundMinishard, SoundShard}
 use Rattle.shard.specs.Items.{Item}
 use Rattle.shard.specs.Lists.{ListsAt, ListsIn, ListsItem, SameListing, SameChunks}
 use Rattle.unlisted.specs.ranges.Ranges.{Unlisted}
 use Rattle.unlisted.specs.Answers.{unlistedAnswer}
 use Rattle.lookup.specs.declared.id_search.LookupAnswer.the-variants as L
 use Rattle.lookup.specs.Find.{lookupChecks, lookupAnswer, lookupResult}
-use Rattle.lookup.specs.Lookups.{Asked, HandsOut, entryBytes, AgreeFor, SameAnswer}
+use Rattle.lookup.specs.Lookups.{Asked, chunkStart, HandsOut, entryBytes, AgreeFor, SameAnswer}
 use Rattle.lookup.specs.fragments.Fragment.{fragmentChecks, fragmentAnswer}
 use Rattle.lookup.specs.fragments.Fragments.{HandsOutFragment, LacksFragment, SameFragment}
 use Rattle.refusal.specs.declared.CountAnswer.the-variants as N
-use Rattle.lookup.specs.listings.Listing.{listingOf, countChecks, countAnswer, listingChecks, listingAnswer, listingLeft}
+use Rattle.lookup.specs.listings.Listing.{listingOf, listedCount, countChecks, countAnswer, listingChecks, listingAnswer, listingLeft}
 use Rattle.lookup.specs.listings.Triples.{Says}
 use Rattle.settled_form.specs.Content.{fileForm, fileFormLength}
 use Rattle.settle.specs.answers.Answers.{settledLengthChecks, lengthAnswer, settleChecks, settleAnswer, settleLeft}
@@ -57,7 +55,6 @@ use Rattle.intake.specs.admission.Refusals.{openChecks, announceChecks, partChe
 use Rattle.intake.specs.declared.IntakeAnswer.the-variants as I
 use Rattle.intake.specs.declared.CloseAnswer.the-variants as X
 use Rattle.intake.specs.Calls.{openAnswer, openLeft, announceAnswer, announceLeft, announceWaiting, partAnswer, partLeft, closeAnswer, closeLeft, intakeResult, closeResult}
-use Rattle.holdings.specs.declared.measures.MeasureAnswer.the-variants as Ms
 use Rattle.holdings.specs.measures.Measures.{chunkBytes}
 use Rattle.holdings.specs.chunk_sums.Totals.{passes}
 use Rattle.holdings.specs.measures.Answers.{measureAnswer, pairMeasure, measureResult}
@@ -81,6 +78,9 @@ use Rattle.mesh_manifest.specs.corners.Boxes.{cornersChecks, cornersAnswer, cor
 use Rattle.compressed_segmentation.specs.declared.Shape.{Shape}
 use Rattle.compressed_segmentation.specs.Labels.{labelChecks, labelAnswer, labelResult}
 use Rattle.compressed_segmentation.specs.raw_form.Raw.{unpackChecks, unpackAnswer, unpackLeft, unpackedLengthChecks as lengthChecksOfLabels, lengthAnswer as lengthAnswerOfLabels}
+use Rattle.coronagamba.specs.Labels.{widthChecks, labelBy, writtenBy, labelsLeftBy}
+use Rattle.theorems.specs.FixedOrder.{FixedOrder}
+use Rattle.theorems.specs.Minishards.{Minishards}
 use Rattle.theorems.specs.Published.{Published}
 
 -- ---- Demand 1
@@ -112,15 +112,12 @@ pub record Demand1 : Type 0 where
   pub fragment : (spec : Sharding) (shard : ℕ) (file : List ℕ) (id level node : ℕ) → DecidedBy (fragmentChecks spec shard file id level node) (lookupResult (fragmentAnswer spec shard file id level node))
   pub count : (spec : Sharding) (shard : ℕ) (file : List ℕ) (m : ℕ) → DecidedBy (countChecks spec shard file m) (countResult (countAnswer spec shard file m))
   pub listing : (spec : Sharding) (shard : ℕ) (file : List ℕ) (m : ℕ) (out : List ℕ) → DecidedBy (listingChecks spec shard file m out) (countResult (listingAnswer spec shard file m out))
-  -- (of the whole-shard check: 1, 5 and 6 come alone, the others also with the first minishard, in number order, that has a fault)
   pub check : (spec : Sharding) (shard : ℕ) (file : List ℕ) → DecidedBy (shardChecks spec shard file) (checkResult (checkAnswer spec shard file))
-  pub named : (spec : Sharding) (shard : ℕ) (file : List ℕ) (k m p : ℕ) → (checkAnswer spec shard file ≡ Faulty k m p) ↔ FirstFaultIs spec shard file k m p
   pub formLength : (spec : Sharding) (shard : ℕ) (file : List ℕ) (dropping : Bool) → DecidedBy (settledLengthChecks spec shard file dropping) (countResult (lengthAnswer spec shard file dropping))
   pub settle : (spec : Sharding) (shard : ℕ) (file : List ℕ) (dropping : Bool) (out : List ℕ) → DecidedBy (settleChecks spec shard file dropping out) (countResult (settleAnswer spec shard file dropping out))
   pub unlisted : (spec : Sharding) (shard : ℕ) (file : List ℕ) → DecidedBy (shardChecks spec shard file) (countResult (unlistedAnswer spec shard file))
   -- (of a pair: 1, 5, 23, of a listing 1, 5, 33, 23, then those of the joined file, whose 1, 5 and 33 are the same tests; order 10)
   pub checkOfPair : (spec : Sharding) (shard : ℕ) (index d : List ℕ) → DecidedBy (pairChecks spec (noSuchShard spec shard) index ++ shardChecks spec shard (index ++ d)) (checkResult (pairCheck spec shard index d))
-  pub namedOfPair : (spec : Sharding) (shard : ℕ) (index d : List ℕ) (k m p : ℕ) → (pairCheck spec shard index d ≡ Faulty k m p) ↔ ((length index ≡ indexLength spec) × FirstFaultIs spec shard (index ++ d) k m p)
   pub lookupOfPair : (spec : Sharding) (shard : ℕ) (index d : List ℕ) (id : ℕ) → DecidedBy (pairChecks spec (otherShard spec shard id) index ++ lookupChecks spec shard (index ++ d) id) (lookupResult (pairLookup spec shard index d id))
   pub fragmentOfPair : (spec : Sharding) (shard : ℕ) (index d : List ℕ) (id level node : ℕ) → DecidedBy (pairChecks spec (otherShard spec shard id) index ++ fragmentChecks spec shard (index ++ d) id level node) (lookupResult (pairFragment spec shard index d id level node))
   pub countOfPair : (spec : Sharding) (shard : ℕ) (index d : List ℕ) (m : ℕ) → DecidedBy (pairAskedChecks spec shard m index ++ countChecks spec shard (index ++ d) m) (countResult (pairCount spec shard index d m))
@@ -128,11 +125,9 @@ pub record Demand1 : Type 0 where
   pub unlistedOfPair : (spec : Sharding) (shard : ℕ) (index d : List ℕ) → DecidedBy (pairChecks spec (noSuchShard spec shard) index ++ shardChecks spec shard (index ++ d)) (countResult (pairUnlisted spec shard index d))
   pub formLengthOfPair : (spec : Sharding) (shard : ℕ) (index d : List ℕ) (dropping : Bool) → DecidedBy (pairChecks spec (noSuchShard spec shard) index ++ settledLengthChecks spec shard (index ++ d) dropping) (countResult (pairLength spec shard index d dropping))
   pub settleOfPair : (spec : Sharding) (shard : ℕ) (index d : List ℕ) (dropping : Bool) (out : List ℕ) → DecidedBy (pairChecks spec (noSuchShard spec shard) index ++ settleChecks spec shard (index ++ d) dropping out) (countResult (pairSettle spec shard index d dropping out))
-  -- (of a measure: those of the check, with minishard and position as there, then 27; of a sheet: 27 alone, where a total would pass; order 13)
+  -- (of a measure: those of the check, then 27; of a sheet: 27 alone, where a total would pass; order 13)
   pub measure : (spec : Sharding) (shard : ℕ) (file : List ℕ) → DecidedBy (measureChecks spec shard file) (measureResult (measureAnswer spec shard file))
-  pub measureNamed : (spec : Sharding) (shard : ℕ) (file : List ℕ) (k m p : ℕ) → (measureAnswer spec shard file ≡ Ms.Faulty k m p) ↔ FirstFaultIs spec shard file k m p
   pub measureOfPair : (spec : Sharding) (shard : ℕ) (index d : List ℕ) → DecidedBy (pairChecks spec (noSuchShard spec shard) index ++ measureChecks spec shard (index ++ d)) (measureResult (pairMeasure spec shard index d))
-  pub measureNamedOfPair : (spec : Sharding) (shard : ℕ) (index d : List ℕ) (k m p : ℕ) → (pairMeasure spec shard index d ≡ Ms.Faulty k m p) ↔ ((length index ≡ indexLength spec) × FirstFaultIs spec shard (index ++ d) k m p)
   pub sheetAdd : (sheet : Sheet) (spec : Sharding) (shard : ℕ) (file : List ℕ) → DecidedBy (joinChecks sheet (sheetOf spec shard file)) (sheetResult (addAnswer sheet spec shard file))
   pub sheetAddPair : (sheet : Sheet) (spec : Sharding) (shard : ℕ) (index d : List ℕ) → DecidedBy (joinChecks sheet (pairSheet spec shard index d)) (sheetResult (pairAddAnswer sheet spec shard index d))
   pub sheetJoin : (a b : Sheet) → DecidedBy (joinChecks a b) (sheetResult (joinAnswer a b))
@@ -155,6 +150,14 @@ pub record Demand1 : Type 0 where
   pub label : (s : List ℕ) (sh : Shape) (x y z c : ℕ) → DecidedBy (labelChecks s sh x y z c) (labelResult (labelAnswer s sh x y z c))
   pub unpack : (s : List ℕ) (sh : Shape) (out : List ℕ) → DecidedBy (unpackChecks s sh out) (writtenResult (unpackAnswer s sh out))
   pub unpackedLength : (sh : Shape) → DecidedBy (lengthChecksOfLabels sh) (writtenResult (lengthAnswerOfLabels sh))
+  -- (in C, where the label width is a number, 2 of the width comes before all else: RULES E1)
+  pub labelInC : (bits : ℕ) (s : List ℕ) (sh : Shape) (x y z c : ℕ) → DecidedBy (widthChecks bits ++ labelChecks s sh x y z c) (labelResult (labelBy bits (labelAnswer s sh x y z c)))
+  pub unpackInC : (bits : ℕ) (s : List ℕ) (sh : Shape) (out : List ℕ) → DecidedBy (widthChecks bits ++ unpackChecks s sh out) (writtenResult (writtenBy bits (unpackAnswer s sh out)))
+  pub unpackedLengthInC : (bits : ℕ) (sh : Shape) → DecidedBy (widthChecks bits ++ lengthChecksOfLabels sh) (writtenResult (writtenBy bits (lengthAnswerOfLabels sh)))
+  -- (The order is the same for all inputs.)
+  pub fixed : FixedOrder
+  -- It gives nothing else, but the whole-shard check adds the minishard.
+  pub minishards : Minishards
   -- And it changes no byte of a buffer that was lent. (A sheet stays: order 13's stays.)
   pub keysKept : (v : Volume) (cells : List Cell) (out : List ℕ) (k : ℕ) → keysAnswer v cells out ≡ Refused k → keysLeft v cells out ≡ out
   pub coverKept : (v : Volume) (lower upper : Point) (out : List ℕ) (k : ℕ) → coverAnswer v lower upper out ≡ Refused k → coverLeft v lower upper out ≡ out
@@ -175,6 +178,7 @@ pub record Demand1 : Type 0 where
   pub intakeCloseKept : (s : Intake) (out waiting : List ℕ) (k : ℕ) → closeAnswer s out waiting ≡ X.Refused k → closeLeft s out waiting ≡ out
   pub nodesKept : (s : List ℕ) (l : ℕ) (out : List ℕ) (k : ℕ) → nodesAnswer s l out ≡ Refused k → nodesLeft s l out ≡ out
   pub unpackKept : (s : List ℕ) (sh : Shape) (out : List ℕ) (k : ℕ) → unpackAnswer s sh out ≡ Refused k → unpackLeft s sh out ≡ out
+  pub unpackInCKept : (bits : ℕ) (s : List ℕ) (sh : Shape) (out : List ℕ) (k : ℕ) → writtenBy bits (unpackAnswer s sh out) ≡ Refused k → labelsLeftBy bits (unpackLeft s sh out) out ≡ out
 
 -- ---- Demand 2
 
@@ -198,13 +202,17 @@ pub record Demand2 : Type 0 where
   pub published : Published
   -- Where a grid has at most 64 key bits, a cell of it is answered with its key, and that key is answered with the cell.
   pub keyed : (v : Volume) (c : Cell) → InU32 (v .size) → noCell v c ≡ false → keyBits (gridOf v) ≤ 64
-      → (keyAnswer v c ≡ K.Key (keyOf (gridOf v) c)) × (cellAnswer v (keyOf (gridOf v) c) ≡ C.At c)
+      → (keyResult (keyAnswer v c) ≡ success (keyOf (gridOf v) c)) × (cellResult (cellAnswer v (keyOf (gridOf v) c)) ≡ success c)
   -- Nor is a key answered with a cell that has another key.
-  pub celled : (v : Volume) (k : ℕ) (c : Cell) → cellAnswer v k ≡ C.At c → keyAnswer v c ≡ K.Key k
+  pub celled : (v : Volume) (k : ℕ) (c : Cell) → cellResult (cellAnswer v k) ≡ success c → keyResult (keyAnswer v c) ≡ success k
   -- Where the chosen minishard is sound and its entry i lists the id, a lookup finds the bytes listed at the very place that the
   -- entry gives, within the file, and hands these out.
   pub found : (spec : Sharding) (shard : ℕ) (file : List ℕ) (id i : ℕ) (bytes : List ℕ) → Asked spec shard file id
       → ChosenSound spec shard file id → ChosenListsAt spec file i id bytes → HandsOut spec shard file id i bytes
+  -- The call beside it gives that place and their length.
+  pub foundAt : (spec : Sharding) (shard : ℕ) (file : List ℕ) (id i : ℕ) (bytes : List ℕ) → Asked spec shard file id
+      → ChosenSound spec shard file id → ChosenListsAt spec file i id bytes
+      → lookupResult (lookupAnswer spec shard file id) ≡ success (indexLength spec + chunkStart (indexPart spec file) (dataPart spec file) (minishardOf spec id) i, length bytes)
   -- It says absent, 12, exactly when the chosen minishard is sound and lists the id with no bytes.
   pub absent : (spec : Sharding) (shard : ℕ) (file : List ℕ) (id : ℕ) → Asked spec shard file id
       → (lookupAnswer spec shard file id ≡ L.Refused 12)
@@ -235,8 +243,21 @@ pub record Demand2 : Type 0 where
   -- The numbers of a listing say exactly what the entries of the minishard list.
   pub listed : (spec : Sharding) (file : List ℕ) (m : ℕ) → indexLength spec ≤ length file → (i id : ℕ) (bytes : List ℕ)
       → ListsAt (indexPart spec file) (dataPart spec file) m i id bytes ↔ Says (listingOf spec file m) file i id bytes
+  -- They are three for each entry; where the listing is not refused, they stand at the front of what is lent, which is as it was past them, and the count
+  -- returned is how many they are. The call that counts the entries gives their count.
+  pub listingLong : (spec : Sharding) (file : List ℕ) (m : ℕ) → length (listingOf spec file m) ≡ 3 * listedCount spec file m
+  pub listingWritten : (spec : Sharding) (shard : ℕ) (file : List ℕ) (m : ℕ) (out : List ℕ) (n : ℕ) → countResult (listingAnswer spec shard file m out) ≡ success n
+      → (n ≡ length (listingOf spec file m)) × (listingLeft spec shard file m out ≡ over (listingOf spec file m) out)
+  pub counted : (spec : Sharding) (shard : ℕ) (file : List ℕ) (m n : ℕ) → countResult (countAnswer spec shard file m) ≡ success n → n ≡ listedCount spec file m
   -- The numbers of a level are those of its nodes in turn.
   pub levelled : (s : List ℕ) (l i : ℕ) (past : List ℕ) → i < countOf s l → Holds (nodesOf s l ++ past) (5 * i) (numbersOf (nodeAt s l i))
+  -- They are five for each node, written as the numbers of a listing are;
+  pub levelLong : (s : List ℕ) (l : ℕ) → length (nodesOf s l) ≡ 5 * countOf s l
+  pub levelWritten : (s : List ℕ) (l : ℕ) (out : List ℕ) (n : ℕ) → writtenResult (nodesAnswer s l out) ≡ success n
+      → (n ≡ length (nodesOf s l)) × (nodesLeft s l out ≡ over (nodesOf s l) out)
+  -- so are the shards of many ids and their minishards, each in its own buffer.
+  pub placesWritten : (spec : Sharding) (ids shards minishards : List ℕ) (n : ℕ) → writtenResult (placesAnswer spec ids shards minishards) ≡ success n
+      → (n ≡ length ids) × (shardsLeft spec ids shards minishards ≡ over (shardsOf spec ids) shards) × (minishardsLeft spec ids shards minishards ≡ over (minishardsOf spec ids) minishards)
   -- One meaning has one card.
   pub card : OneCard
   -- (order 1) The settings read from an info file are those that its document says, by the members that the rules name alone, and the card written of them reads back.
@@ -256,7 +277,7 @@ TooLong spec a out = (length out < length (fileForm spec a)) ⊎ (mostShardBytes
 
 -- settling `a` into `out` reports the length of `form` and writes exactly it: past it the output is as it was
 abbrev pub Settles : Sharding → ℕ → List ℕ → Bool → List ℕ → List ℕ → Type 0
-Settles spec shard a dropping form out = (settleAnswer spec shard a dropping out ≡ N.Count (length form)) × (settleLeft spec shard a dropping out ≡ over form out)
+Settles spec shard a dropping form out = (countResult (settleAnswer spec shard a dropping out) ≡ success (length form)) × (settleLeft spec shard a dropping out ≡ over form out)
 
 -- "Demand 3 holds as before when dropping is asked, and otherwise for shards with no unlisted byte." (order 8) (RULES D3)
 abbrev pub Ready : Sharding → List ℕ → Bool → Type 0
@@ -290,5 +311,5 @@ pub record Demand3 : Type 0 where
   -- The form is as long as its length, a whole number of any size, says; the settled length of a sound shard is answered with it, or
   -- with 13 where it is above 1 GiB.
   pub long : (spec : Sharding) (a : List ℕ) → length (fileForm spec a) ≡ fileFormLength spec a
-  pub measured : (spec : Sharding) (shard : ℕ) (a : List ℕ) (dropping : Bool) → SoundShard spec shard a → Ready spec a dropping → Short spec a → lengthAnswer spec shard a dropping ≡ N.Count (fileFormLength spec a)
-  pub unmeasured : (spec : Sharding) (shard : ℕ) (a : List ℕ) (dropping : Bool) → SoundShard spec shard a → Ready spec a dropping → mostShardBytes < fileFormLength spec a → lengthAnswer spec shard a dropping ≡ N.Refused 13
+  pub measured : (spec : Sharding) (shard : ℕ) (a : List ℕ) (dropping : Bool) → SoundShard spec shard a → Ready spec a dropping → Short spec a → countResult (lengthAnswer spec shard a dropping) ≡ success (fileFormLength spec a)
+  pub unmeasured : (spec : Sharding) (shard : ℕ) (a : List ℕ) (dropping : Bool) → SoundShard spec shard a → Ready spec a dropping → mostShardBytes < fileFormLength spec a → countResult (lengthAnswer spec shard a dropping) ≡ refusedBy 13

@@ -3,6 +3,8 @@ pub mod cases
 pub mod mesh_cases
 pub mod Manifests
 pub mod Published
+pub mod FixedOrder
+pub mod Minishards
 pub mod Demands
 pub mod Hash
 pub mod Kept

@@ -11,22 +11,21 @@ use lib.IntN.{ℤ, pos, negsuc}
 use lib.Ieee.{Float, fin, binary32, add, mul, ofInt, ofBits}
 use lib.ListN.{length, getD, take}
 use Rattle.refusal.specs.Choice.{pick}
+use Rattle.refusal.specs.Result.{success}
 use Rattle.refusal.specs.declared.Written.the-variants.{Length}
 use Rattle.morton.specs.declared.grid.Volume.{Volume}
 use Rattle.endian.specs.Range.{sumTo}
 use Rattle.morton.specs.declared.grid.Cell.{Cell}
 use Rattle.morton.specs.declared.grid.Extents.{Extents}
-use Rattle.morton.specs.declared.KeyAnswer.the-variants.{Key}
 use Rattle.morton.specs.grid.Grid.{gridOf}
 use Rattle.morton.specs.axis.Axis.{bitOf, used, count}
-use Rattle.morton.specs.Answers.{keyAnswer}
+use Rattle.morton.specs.Answers.{keyAnswer, keyResult}
 use Rattle.morton.specs.declared.bounds.Bounds.{Bounds}
 use Rattle.morton.specs.bounds.Bounds.{boundsOf}
 use Rattle.murmur3.specs.Murmur.{murmurHash}
 use Rattle.sharding.specs.declared.Sharding.{Sharding}
-use Rattle.sharding.specs.declared.placement.PlaceAnswer.the-variants.{At}
 use Rattle.sharding.specs.Specification.{murmur, allowed, minishardBits, shardBits}
-use Rattle.sharding.specs.placement.Place.{placeAnswer}
+use Rattle.sharding.specs.placement.Place.{placeAnswer, placeResult}
 use Rattle.names.specs.digits.Digits.{value}
 use Rattle.names.specs.chunks.Chunks.{chunkNameAnswer, chunkNameLeft}
 use Rattle.names.specs.Shards.{suffixOf, fileNameAnswer, fileNameLeft}
@@ -36,16 +35,13 @@ use Rattle.lookup.specs.Find.{lookupAnswer, partBytes}
 use Rattle.lookup.specs.fragments.Fragment.{fragmentAnswer}
 use Rattle.split_shard.specs.Answers.{pairLookup, pairFragment, inData}
 use Rattle.mesh_manifest.specs.declared.sound.ManifestAnswer.the-variants.{Sound}
-use Rattle.mesh_manifest.specs.declared.HeaderAnswer.the-variants as H
 use Rattle.mesh_manifest.specs.declared.Field.the-variants as F
 use Rattle.mesh_manifest.specs.sound.Verdict.{manifestAnswer}
-use Rattle.mesh_manifest.specs.Fields.{headerAnswer, fieldAnswer}
-use Rattle.mesh_manifest.specs.declared.nodes.NodeAnswer.the-variants as O
-use Rattle.mesh_manifest.specs.nodes.Nodes.{nodeAnswer}
+use Rattle.mesh_manifest.specs.Fields.{headerAnswer, headerResult, fieldAnswer}
+use Rattle.mesh_manifest.specs.nodes.Nodes.{nodeAnswer, nodeResult}
 use Rattle.mesh_manifest.specs.declared.corners.Corner.{Corner}
 use Rattle.mesh_manifest.specs.declared.corners.Corners.{Corners}
-use Rattle.mesh_manifest.specs.declared.corners.CornersAnswer.the-variants as C
-use Rattle.mesh_manifest.specs.corners.Boxes.{cornersAnswer}
+use Rattle.mesh_manifest.specs.corners.Boxes.{cornersAnswer, cornersResult}
 use Rattle.theorems.specs.Manifests.{fieldOf, Fragment, Level, Manifest, entriesOf, bytesOf, Fits, sizesOf}
 
 -- ---- keys
@@ -161,12 +157,12 @@ pub record Stands (m : Manifest) (l i : ℕ) (f : Fragment) (start : ℕ) : Type
 -- (RULES D2, G5, S2, S5, S6, G8, M1, M6, M7, M8, P3)
 pub record Published : Type 0 where
   -- The key of a cell has each bit of the cell where the steps of source 000 put it, and no other.
-  pub key : (v : Volume) (c : Cell) (k : ℕ) → keyAnswer v c ≡ Key k → HasBits (gridOf v) c k
+  pub key : (v : Volume) (c : Cell) (k : ℕ) → keyResult (keyAnswer v c) ≡ success k → HasBits (gridOf v) c k
   -- "The hashed chunk ID is computed as hash(chunk_id >> preshift_bits)"; "the minishard number is equal to bits [0, minishard_bits)" of it, and "the shard number
   -- is equal to bits [minishard_bits, minishard_bits+shard_bits)". So of an id put together from these bits, as every id is:
   pub place : (spec : Sharding) (shifted low minishard shard rest : ℕ) → allowed spec ≡ true → low < 2 ^ spec .preshift → minishard < 2 ^ minishardBits spec → shard < 2 ^ shardBits spec
       → hashOf spec shifted ≡ minishard + 2 ^ minishardBits spec * (shard + 2 ^ shardBits spec * rest)
-      → placeAnswer spec (shifted * 2 ^ spec .preshift + low) ≡ At (record { shard = shard; minishard = minishard })
+      → placeResult (placeAnswer spec (shifted * 2 ^ spec .preshift + low)) ≡ success (record { shard = shard; minishard = minishard })
   -- What a call that names a file leaves at the front of the output is the file's name,
   pub fileName : (kind : FileKind) (spec : Sharding) (shard : ℕ) (out : List ℕ) (n : ℕ) → fileNameAnswer kind spec shard out ≡ Length n → NamesFile kind spec shard (take n (fileNameLeft kind spec shard out))
   -- and what one that names a chunk leaves there is the name of the chunk's bounds.
@@ -175,7 +171,7 @@ pub record Published : Type 0 where
   pub manifest : (s : List ℕ) → ((i : ℕ) → getD s i 0 < 256) → manifestAnswer s ≡ Sound → (m : Manifest) × Laid m × (bytesOf m ≡ s)
   -- and of one that is laid out so: the header is its chunk shape and its grid origin;
   pub header : (m : Manifest) → Laid m
-      → headerAnswer (bytesOf m) ≡ H.Header (record {
+      → headerResult (headerAnswer (bytesOf m)) ≡ success (record {
         «shape_x» = real (m .shape .x);
         «shape_y» = real (m .shape .y);
         «shape_z» = real (m .shape .z);
@@ -187,9 +183,9 @@ pub record Published : Type 0 where
   pub field : (m : Manifest) → Laid m → (i : ℕ) → fieldAnswer (bytesOf m) i ≡ getD (map fieldOf (entriesOf m)) i (F.Refused 18)
   -- a node has its fragment's position, start and size;
   pub node : (m : Manifest) → Laid m → (l i start : ℕ) (f : Fragment) → Stands m l i f start
-      → nodeAnswer (bytesOf m) l i ≡ O.Node (record { x = f .x; y = f .y; z = f .z; start = start; size = f .size })
+      → nodeResult (nodeAnswer (bytesOf m) l i) ≡ success (record { x = f .x; y = f .y; z = f .z; start = start; size = f .size })
   -- its corners, where they are given, are those of source 001.
-  pub corners : (m : Manifest) → Laid m → (l i start : ℕ) (f : Fragment) → Stands m l i f start → (c : Corners) → cornersAnswer (bytesOf m) l i ≡ C.Corners c
+  pub corners : (m : Manifest) → Laid m → (l i start : ℕ) (f : Fragment) → Stands m l i f start → (c : Corners) → cornersResult (cornersAnswer (bytesOf m) l i) ≡ success c
       → (c .near ≡ corner nearEnd m l f) × (c .far ≡ corner farEnd m l f)
   -- "the <shard>.shard file is equivalent to the concatenation of the <shard>.index and <shard>.data files": the part of the data file that a pair's lookup hands
   -- out has the bytes that the joined file's hands out, and so has a fragment.

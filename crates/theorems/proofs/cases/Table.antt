@@ -1,19 +1,22 @@
 -- The cases marked P hold, all of them together.
 use Prim.Native.Nat.{ℕ}
-use mathlib.Core.Path.{_≡_, refl}
+use mathlib.Core.Path.{_≡_, refl, ap, _∙_}
+use mathlib.Core.Bool.{Bool, true, false}
 use mathlib.Core.List.{List, [], _∷_, map}
 use lib.Dec.{eqb}
 use lib.Ieee.{ofBits, toBits, add, mul, ofInt}
 use Rattle.refusal.specs.Choice.{pick}
 use Rattle.refusal.specs.Checks.{firstNumber, firstPosition, unless}
+use Rattle.refusal.specs.Result.{success, refused}
 use Rattle.endian.specs.Little.{le, leAt, row, row32}
 use Rattle.endian.specs.Range.{sumTo, every, anyBelow, first}
+use Rattle.morton.specs.declared.grid.Cell.{Cell}
 use Rattle.morton.specs.grid.Grid.{gridSize, gridOf, hasZero, zeroExtent, inGrid}
 use Rattle.morton.specs.axis.Axis.{bitOf, used, count}
 use Rattle.morton.specs.Key.{step, steps, keyOf, keyBits, tooManyBits, into, stepBack, stepsBack, cellOf, isKey}
 use Rattle.morton.specs.bounds.Bounds.{cellBegin, cellEnd, beginPoint, endPoint, boundsOf}
 use Rattle.morton.specs.grid.Answers.{noCell, gridChecks, gridAnswer}
-use Rattle.morton.specs.Answers.{keyChecks, keyAnswer, cellChecks, cellAnswer}
+use Rattle.morton.specs.Answers.{keyChecks, keyAnswer, cellChecks, cellAnswer, cellResult}
 use Rattle.morton.specs.bounds.Answers.{boundsChecks, boundsAnswer}
 use Rattle.morton.specs.declared.CellAnswer.the-variants.{At, Refused as NoCell}
 use Rattle.morton.proofs.Laws.{only-key-0}
@@ -48,8 +51,12 @@ use Rattle.mesh_manifest.specs.corners.Boxes.{nearCorner, farCorner, boxOf, pla
 use Rattle.theorems.specs.cases.Cases.{Case, answered, table, cells, at, voxels, shifted, buffer, content, settledFile, otherFile, zeros, real, manifest}
 
 -- a grid of one cell has no key but 0
-only : (k : ℕ) → cellAnswer (voxels 1 1 1) k ≡ pick (eqb k 0) (At (at 0 0 0)) (NoCell 4)
-only = only-key-0 (voxels 1 1 1) (unfold zeroExtent hasZero voxels in refl) (unfold gridOf gridSize voxels in refl)
+told : (b : Bool) (c : Cell) → cellResult (pick b (At c) (NoCell 4)) ≡ pick b (success c) (refused 4)
+told true c = refl
+told false c = refl
+
+only : (k : ℕ) → cellResult (cellAnswer (voxels 1 1 1) k) ≡ pick (eqb k 0) (success (at 0 0 0)) (refused 4)
+only k = ap cellResult (only-key-0 (voxels 1 1 1) (unfold zeroExtent hasZero voxels in refl) (unfold gridOf gridSize voxels in refl) k) ∙ told (eqb k 0) (at 0 0 0)
 
 -- the table without its first row, which speaks of all keys
 unfoldable others : List Case → List Case
