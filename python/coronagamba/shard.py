@@ -138,7 +138,8 @@ class Stored(Releasing):
         """The chunks that a sound shard lists: the minishards in number order,
         the chunks of each in stored order. Refused as `check` is at this call,
         and on the way only where the bytes were changed. It holds the listing
-        of one minishard at a time, and each of them is judged again."""
+        of one minishard at a time; each is judged again, once for its count
+        and once for its entries."""
         self.check()
         return self._entries()
 
