@@ -3,11 +3,13 @@
 from __future__ import annotations
 
 import ctypes
+import struct
 from array import array
 from ctypes import c_char_p, c_int, c_ssize_t, c_void_p
 from itertools import chain
 from types import TracebackType
-from typing import TYPE_CHECKING, Any, Optional, Tuple, Type, TypeVar
+from typing import TYPE_CHECKING, Any, Iterator, NoReturn, Optional, Tuple
+from typing import Type, TypeVar
 
 from ._numbers import three_u32, u64
 
@@ -80,7 +82,7 @@ class Lent:
     @property
     def address(self) -> int:
         """Where the bytes are; 0 may stand for no bytes."""
-        return self._buffer.buf or 0
+        return int(self._buffer.buf or 0)
 
     @property
     def count(self) -> int:
@@ -141,10 +143,23 @@ class Loan:
         return any(lent.overlaps(other) for lent in self._all)
 
 
+class Uncopied:
+    """What stands over bytes of a caller: neither copied nor pickled, as two
+    objects would then release or write the same bytes."""
+
+    __slots__ = ()
+
+    def __reduce__(self) -> NoReturn:
+        kind = type(self).__name__
+        raise TypeError(
+            f"a {kind} is neither copied nor pickled: make another one"
+        )
+
+
 Self = TypeVar("Self", bound="Releasing")
 
 
-class Releasing:
+class Releasing(Uncopied):
     """What holds a caller's bytes until `release` or the end of a `with`
     block."""
 
@@ -183,6 +198,17 @@ class Held(Releasing):
 
     def _lent(self) -> Lent:
         return Lent(self._NAME, self._view)
+
+    def __repr__(self) -> str:
+        return f"<{type(self).__name__}: {lengths(self._view)}>"
+
+
+def lengths(*views: memoryview) -> str:
+    """How many bytes these views have, for a reader."""
+    try:
+        return " and ".join(f"{view.nbytes} bytes" for view in views)
+    except ValueError:
+        return "released"
 
 
 def byte_view(name: str, data: ReadableBuffer) -> memoryview:
@@ -227,23 +253,48 @@ def zeros(code: str, count: int) -> Numbers:
 
 
 def u64s(name: str, values: Any) -> ReadableBuffer:
-    """A buffer of 64-bit numbers as it stands, or integers as an array."""
-    view = _number_view(name, "Q", values)
-    if view is not None:
+    """64-bit numbers: a buffer of them as it stands, that of other integers
+    and any iterable of integers as an array."""
+    view = _integers(name, values)
+    if view is None:
+        each = _iterator(name, values)
+        return array("Q", (u64(f"{name}[{i}]", v) for i, v in enumerate(each)))
+    if _stands(view, 8):
         return _aligned("Q", view)
-    return array("Q", (u64(f"{name}[{i}]", v) for i, v in enumerate(values)))
+    numbers = _unpacked(view)
+    if _beyond(numbers, 8):
+        for i, number in enumerate(numbers):
+            u64(f"{name}[{i}]", number)
+    return array("Q", numbers)
 
 
 def u32_triples(name: str, values: Any) -> ReadableBuffer:
-    """A buffer of 32-bit numbers, three for each item, as it stands, or
-    triples of integers as an array."""
-    view = _number_view(name, "I", values)
+    """32-bit numbers, three for each item: a buffer of them as it stands, that
+    of other integers and any iterable of triples as an array."""
+    view = _integers(name, values)
     if view is None:
-        triples = (three_u32(f"{name}[{i}]", v) for i, v in enumerate(values))
+        each = enumerate(_iterator(name, values))
+        triples = (three_u32(f"{name}[{i}]", v) for i, v in each)
         return array("I", chain.from_iterable(triples))
     if not _holds_triples(view):
         raise ValueError(f"{name} must hold x, y, z of each item in turn")
-    return _aligned("I", view)
+    if _stands(view, 4):
+        return _aligned("I", view)
+    numbers = _unpacked(view)
+    if _beyond(numbers, 4):
+        for i in range(0, len(numbers), 3):
+            three_u32(f"{name}[{i // 3}]", numbers[i:i + 3])
+    return array("I", numbers)
+
+
+def _iterator(name: str, values: Any) -> Iterator[Any]:
+    try:
+        return iter(values)
+    except TypeError:
+        raise TypeError(
+            f"{name} must be a buffer or an iterable of integers, not"
+            f" {type(values).__name__}"
+        ) from None
 
 
 def _holds_triples(view: memoryview) -> bool:
@@ -252,21 +303,61 @@ def _holds_triples(view: memoryview) -> bool:
     return (view.shape or ())[-1:] == (3,)
 
 
-def _number_view(name: str, code: str, values: Any) -> Optional[memoryview]:
-    """The numbers of a buffer, which must be unsigned and as wide as those of
-    an array of this code. None where there is no buffer."""
+def _integers(name: str, values: Any) -> Optional[memoryview]:
+    """A buffer whose items are integers of any width and byte order. None
+    where there is no buffer. Plain bytes are no integers: whether they are
+    numbers of 8 bits or parts of longer ones, only an array tells."""
     try:
         view = memoryview(values)
     except TypeError:
         return None
-    width = array(code).itemsize
-    unsigned = view.format.lstrip("@=<") in ("I", "L", "Q", "N")
-    if not (unsigned and view.itemsize == width and view.c_contiguous):
+    except (BufferError, ValueError) as error:
+        raise type(error)(f"{name} cannot be read: {error}") from None
+    kind = view.format.lstrip("@=<>!")
+    if kind not in _INTEGERS:
         raise TypeError(
-            f"{name} must be a C-contiguous buffer of unsigned {8 * width}-bit"
-            " numbers, or an iterable of integers"
+            f"{name} must be integers, not items of the format {view.format!r}"
         )
+    typed = hasattr(values, "dtype") or hasattr(values, "typecode")
+    if view.itemsize == 1 and not typed:
+        raise TypeError(f"{name} must be integers, not plain bytes")
     return view
+
+
+# The formats of integers, those of signed ones in small letters.
+_INTEGERS = tuple("bBhHiIlLqQnN")
+
+
+def _signed(view: memoryview) -> bool:
+    return view.format[-1].islower()
+
+
+def _swapped(view: memoryview) -> bool:
+    """Whether the greatest byte is the first; this module is for x86-64."""
+    return view.format[0] in ">!"
+
+
+def _stands(view: memoryview, width: int) -> bool:
+    """Whether the items are unsigned numbers of so many bytes, one behind the
+    other, as the library takes them."""
+    other = _signed(view) or _swapped(view) or view.itemsize != width
+    return view.c_contiguous and not other
+
+
+def _unpacked(view: memoryview) -> Tuple[int, ...]:
+    """The integers of a buffer. Their width is the item's: a letter has
+    another one in `struct` than in ctypes."""
+    letter = {1: "B", 2: "H", 4: "I", 8: "Q"}[view.itemsize]
+    letter = letter.lower() if _signed(view) else letter
+    order = ">" if _swapped(view) else "<"
+    count = view.nbytes // view.itemsize
+    return struct.unpack(f"{order}{count}{letter}", view.tobytes())
+
+
+def _beyond(numbers: Tuple[int, ...], width: int) -> bool:
+    """Whether a number is none of so many bytes."""
+    least, most = min(numbers, default=0), max(numbers, default=0)
+    return least < 0 or most >= 2 ** (8 * width)
 
 
 def _aligned(code: str, view: memoryview) -> ReadableBuffer:

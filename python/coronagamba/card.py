@@ -4,7 +4,7 @@ from __future__ import annotations
 
 from ctypes import byref, c_int32, c_uint8, c_uint32, c_uint64
 from dataclasses import dataclass
-from typing import Any
+from typing import Any, SupportsIndex, Union
 
 from ._buffers import Lent, ReadableBuffer
 from ._library import library
@@ -52,12 +52,15 @@ class Card:
             )
 
     @classmethod
-    def read_info(cls, text: ReadableBuffer, scale: int) -> Card:
+    def read_info(
+        cls, text: Union[str, ReadableBuffer], scale: SupportsIndex
+    ) -> Card:
         """What the text of an info file says of its scale number `scale`,
-        from 0, as a card of a volume. Refusals 19, 20, 1, 2, 3.
+        from 0, as a card of a volume. The text is a str, or its bytes in
+        UTF-8. Refusals 19, 20, 1, 2, 3.
 
         >>> from coronagamba import Card, Refused
-        >>> text = b'''{"type": "image", "scales": [{
+        >>> text = '''{"type": "image", "scales": [{
         ...     "size": [100, 1, 1], "chunk_sizes": [[64, 1, 1]],
         ...     "sharding": {"@type": "neuroglancer_uint64_sharded_v1",
         ...         "preshift_bits": 0, "hash": "murmurhash3_x86_128",
@@ -71,6 +74,9 @@ class Card:
         refused 20: The info file does not give the settings of this scale.
         """
         number = u64("scale", scale)
+        if isinstance(text, str):
+            # Half a pair of surrogates is for the library to refuse.
+            text = text.encode("utf-8", "surrogatepass")
         with Lent("text", text) as lent:
             return cls._said(
                 library.coronagamba_info_read, lent.bytes, lent.count, number

@@ -4,7 +4,7 @@ from __future__ import annotations
 
 from ctypes import byref, c_int64, c_uint8, c_uint32, c_uint64
 from dataclasses import dataclass
-from typing import Iterable, NamedTuple, Union
+from typing import Iterable, NamedTuple, SupportsIndex, Union
 
 from . import _declared
 from ._buffers import Lent, Numbers, ReadableBuffer, own, u32_triples, zeros
@@ -82,9 +82,9 @@ class Volume:
 
     def __init__(
         self,
-        size: Iterable[int],
-        chunk: Iterable[int],
-        offset: Iterable[int] = (0, 0, 0),
+        size: Iterable[SupportsIndex],
+        chunk: Iterable[SupportsIndex],
+        offset: Iterable[SupportsIndex] = (0, 0, 0),
     ) -> None:
         fields = {
             "size": Extents(*three_u32("size", size)),
@@ -103,7 +103,7 @@ class Volume:
         answer(library.coronagamba_grid_of(self._struct(), byref(grid)))
         return Extents(*grid)
 
-    def key(self, cell: Iterable[int]) -> int:
+    def key(self, cell: Iterable[SupportsIndex]) -> int:
         """The key of a cell, its compressed Morton code. Refusals 2, 3."""
         key = c_uint64()
         answer(
@@ -114,11 +114,12 @@ class Volume:
         return key.value
 
     def keys(
-        self, cells: Union[Iterable[Iterable[int]], ReadableBuffer]
+        self,
+        cells: Union[Iterable[Iterable[SupportsIndex]], ReadableBuffer],
     ) -> Numbers:
         """The keys of many cells, in their order, as an array of code Q. A
         buffer of unsigned 32-bit numbers, x, y, z of each cell in turn, is
-        not copied. Refusals 2, 3."""
+        not copied; one of other integers is. Refusals 2, 3."""
         with Lent("cells", u32_triples("cells", cells)) as lent:
             count = lent.count // 12
             keys = zeros("Q", count)
@@ -134,7 +135,13 @@ class Volume:
             )
         return keys
 
-    def row_keys(self, start: int, stop: int, y: int, z: int) -> Numbers:
+    def row_keys(
+        self,
+        start: SupportsIndex,
+        stop: SupportsIndex,
+        y: SupportsIndex,
+        z: SupportsIndex,
+    ) -> Numbers:
         """The keys of a row of cells, those with x from `start` up to `stop`,
         `stop` excluded, at one y and z, as an array of code Q. A row whose
         stop is not past its start has no cell. Refusals 2, 3.
@@ -143,18 +150,17 @@ class Volume:
         >>> Volume((5, 3, 1), (1, 1, 1)).row_keys(2, 5, 2, 0).tolist()
         [12, 13, 24]
         """
-        start, stop = u32("start", start), u32("stop", stop)
-        y, z = u32("y", y), u32("z", z)
+        first, past = u32("start", start), u32("stop", stop)
+        row = u32("y", y), u32("z", z)
         # A row that reaches past the grid is refused without room for any.
-        room = max(stop - start, 0) if stop <= self.grid().x else 0
+        room = max(past - first, 0) if past <= self.grid().x else 0
         keys = zeros("Q", room)
         answer(
             library.coronagamba_row_keys(
                 self._struct(),
-                start,
-                stop,
-                y,
-                z,
+                first,
+                past,
+                *row,
                 own(c_uint64, keys),
                 room,
                 byref(c_uint64()),
@@ -164,9 +170,9 @@ class Volume:
 
     def cover(
         self,
-        lower: Iterable[int],
-        upper: Iterable[int],
-        most: int = 2**24,
+        lower: Iterable[SupportsIndex],
+        upper: Iterable[SupportsIndex],
+        most: SupportsIndex = 2**24,
     ) -> Numbers:
         """The keys of all cells that share a voxel with the box from `lower`
         up to `upper`, `upper` excluded, as a rising array of code Q: none
@@ -181,12 +187,12 @@ class Volume:
         >>> volume.cover((36, 0, 0), (99, 1, 1)).tolist()
         []
         """
-        most = u64("most", most)
+        limit = u64("most", most)
         begin = _declared.Point(*three_i64("lower", lower))
         end = _declared.Point(*three_i64("upper", upper))
         # More than `most` are refused without room for any.
         cells = self._cells_within(begin, end)
-        room, length = cells if cells <= most else 0, c_uint64()
+        room, length = cells if cells <= limit else 0, c_uint64()
         keys = zeros("Q", room)
         answer(
             library.coronagamba_cover(
@@ -212,7 +218,7 @@ class Volume:
             cells *= (past - 1 - offset) // chunk - (first - offset) // chunk + 1
         return cells
 
-    def cell(self, key: int) -> Cell:
+    def cell(self, key: SupportsIndex) -> Cell:
         """The cell of a key. Refusals 2, 3, 4."""
         cell = _ThreeU32()
         answer(
@@ -222,7 +228,7 @@ class Volume:
         )
         return Cell(*cell)
 
-    def bounds(self, cell: Iterable[int]) -> Bounds:
+    def bounds(self, cell: Iterable[SupportsIndex]) -> Bounds:
         """The voxels of a cell. Refusal 2."""
         begin, end = _ThreeI64(), _ThreeI64()
         answer(
@@ -232,7 +238,7 @@ class Volume:
         )
         return Bounds(Point(*begin), Point(*end))
 
-    def chunk_name(self, cell: Iterable[int]) -> str:
+    def chunk_name(self, cell: Iterable[SupportsIndex]) -> str:
         """The name of a cell's file where chunks are not sharded. Refusal 2.
         """
         name, length = _Name(), c_uint64()
@@ -248,5 +254,5 @@ class Volume:
         return bytes(name)[: length.value].decode("ascii")
 
 
-def _cell_struct(cell: Iterable[int]) -> _declared.Cell:
+def _cell_struct(cell: Iterable[SupportsIndex]) -> _declared.Cell:
     return _declared.Cell(*three_u32("cell", cell))

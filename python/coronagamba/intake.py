@@ -6,10 +6,11 @@ from __future__ import annotations
 from ctypes import byref, c_uint64
 from numbers import Integral
 from types import TracebackType
-from typing import Any, Optional, Type, Union
+from typing import Any, Optional, SupportsIndex, Type, Union
 
 from . import _declared
-from ._buffers import Lent, ReadableBuffer, WriteableBuffer, writable_view
+from ._buffers import Lent, ReadableBuffer, Uncopied, WriteableBuffer
+from ._buffers import lengths, writable_view
 from ._library import library
 from ._numbers import u64
 from .refusal import answer
@@ -25,7 +26,7 @@ _NEXT = 12
 _OWED = 13
 
 
-class Intake:
+class Intake(Uncopied):
     """A new volume shard that chunks are delivered to, by rising minishard,
     then rising id.
 
@@ -70,7 +71,7 @@ class Intake:
     def __init__(
         self,
         sharding: Sharding,
-        number: int,
+        number: SupportsIndex,
         out: Union[WriteableBuffer, int],
         waiting: Union[WriteableBuffer, int],
     ) -> None:
@@ -78,7 +79,7 @@ class Intake:
             raise TypeError(
                 f"sharding must be a Sharding, not {type(sharding).__name__}"
             )
-        number = u64("number", number)
+        shard = u64("number", number)
         self._out = _made("out", out)
         self._waiting = _made("waiting", waiting)
         self._state = _State()
@@ -86,7 +87,7 @@ class Intake:
         self._held = writable_view("out", self._out)
         self._room = writable_view("waiting", self._waiting)
         try:
-            self._open(sharding, number)
+            self._open(sharding, shard)
         except BaseException:
             self.release()
             raise
@@ -107,20 +108,19 @@ class Intake:
                 )
             )
 
-    def announce(self, id: int, size: int) -> None:
+    def announce(self, id: SupportsIndex, size: SupportsIndex) -> None:
         """Announces the next chunk and its number of bytes, which are owed
         from then on. Refusals 10 for an id of another shard; 25 where its
         minishard is below the open one, or the same and its id not above the
         last, and after the close; 26 while bytes of the chunk before are owed;
         13 where the form of all that was announced, this chunk included, would
         pass `out` or 1 GiB, or `waiting` has no 16 bytes left."""
-        id, size = u64("id", id), u64("size", size)
+        chunk = u64("id", id), u64("size", size)
         with self._lent_out() as out, self._lent_waiting() as waiting:
             answer(
                 library.coronagamba_intake_announce(
                     byref(self._state),
-                    id,
-                    size,
+                    *chunk,
                     out.bytes,
                     out.count,
                     waiting.bytes,
@@ -171,7 +171,7 @@ class Intake:
     @property
     def owed(self) -> int:
         """How many bytes are owed of the chunk that was announced last."""
-        return self._state[_OWED]
+        return int(self._state[_OWED])
 
     @property
     def length(self) -> int:
@@ -179,7 +179,7 @@ class Intake:
         bytes that are owed included; after the close, of the shard."""
         index = self.MINISHARD_BYTES << self._state[_MINISHARD_BITS]
         rows = self.CHUNK_BYTES * self._state[_COUNT]
-        return index + self._state[_NEXT] + self._state[_OWED] + rows
+        return int(index + self._state[_NEXT] + self._state[_OWED] + rows)
 
     @property
     def form(self) -> memoryview:
@@ -210,6 +210,10 @@ class Intake:
                 self.close()
         finally:
             self.release()
+
+    def __repr__(self) -> str:
+        state = "closed" if self._closed else f"out {lengths(self._held)}"
+        return f"<Intake: length {self.length}, owed {self.owed}, {state}>"
 
     def _lent_out(self) -> Lent:
         return Lent("out", self._held, True)

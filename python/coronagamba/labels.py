@@ -4,10 +4,11 @@ from __future__ import annotations
 
 import sys
 from ctypes import byref, c_uint64
-from typing import Any, Iterable, List, Tuple
+from typing import Any, Iterable, List, SupportsIndex, Tuple
 
 from . import _declared
-from ._buffers import Held, Lent, ReadableBuffer, WriteableBuffer
+from ._arrays import numpy_for
+from ._buffers import Held, Lent, ReadableBuffer, WriteableBuffer, lengths
 from ._library import library
 from ._numbers import three_u32, u32, u64
 from .grid import Extents
@@ -47,10 +48,10 @@ class Labels(Held):
         self,
         chunk: ReadableBuffer,
         *,
-        size: Iterable[int],
-        block: Iterable[int],
-        channels: int,
-        bits: int,
+        size: Iterable[SupportsIndex],
+        block: Iterable[SupportsIndex],
+        channels: SupportsIndex,
+        bits: SupportsIndex,
     ) -> None:
         self._size = Extents(*three_u32("size", size))
         self._block = Extents(*three_u32("block", block))
@@ -80,6 +81,13 @@ class Labels(Held):
         """The bits of a label, 32 or 64."""
         return self._bits
 
+    def __repr__(self) -> str:
+        return (
+            f"<Labels of size={tuple(self._size)}, block={tuple(self._block)},"
+            f" channels={self._channels}, bits={self._bits}:"
+            f" {lengths(self._view)}>"
+        )
+
     def _shape(self) -> Tuple[Any, ...]:
         """The shape as every call takes it."""
         return (
@@ -89,7 +97,9 @@ class Labels(Held):
             self._bits,
         )
 
-    def label(self, voxel: Iterable[int], channel: int = 0) -> int:
+    def label(
+        self, voxel: Iterable[SupportsIndex], channel: SupportsIndex = 0
+    ) -> int:
         """The label of a voxel, three integers that count from 0 in the
         chunk, and a channel. Refusal 2 where an extent, a block size or the
         number of channels is 0, or the voxel or channel is outside; 29 where
@@ -178,20 +188,15 @@ class Labels(Held):
         """All labels as unsigned numbers of their width, in a memoryview of
         four axes, indexed [channel, z, y, x]: x is the fastest. Refused as
         `unpacked` is."""
-        raw = memoryview(self.unpacked())
-        return raw.cast("I" if self._bits == 32 else "Q", self._axes())
+        raw, axes = memoryview(self.unpacked()), self._axes()
+        return raw.cast("I", axes) if self._bits == 32 else raw.cast("Q", axes)
 
     def array(self) -> Any:
         """The same as a numpy array of type uint32 or uint64, with the shape
         (channels, z, y, x): x is the fastest axis, the array is C-contiguous,
         and `array().T` is indexed [x, y, z, channel] without a copy. Needs
-        numpy, which nothing else here does; refused as `unpacked` is."""
-        try:
-            import numpy
-        except ImportError:
-            raise ImportError(
-                "array needs numpy; view and unpacked do without it"
-            ) from None
+        numpy; refused as `unpacked` is."""
+        numpy = numpy_for("array", "view and unpacked do")
         raw = self.unpacked()
         kind = "<u4" if self._bits == 32 else "<u8"
         return numpy.frombuffer(raw, dtype=kind).reshape(self._axes())

@@ -5,7 +5,8 @@ from __future__ import annotations
 import struct
 from ctypes import byref, c_uint32, c_uint64
 from itertools import count
-from typing import Any, Iterable, Iterator, List, NamedTuple, Tuple, Union
+from typing import Iterable, Iterator, List, NamedTuple, SupportsIndex
+from typing import Tuple, Union
 
 from ._buffers import Held, Numbers, own, zeros
 from ._declared import FIELD_REAL
@@ -92,7 +93,7 @@ class Manifest(Held):
             )
         return Header(_reals(bits[:3]), _reals(bits[3:]))
 
-    def field(self, number: int) -> Union[float, int]:
+    def field(self, number: SupportsIndex) -> Union[float, int]:
         """A field by its number, counted from 0 in file order: a float where
         it is a real, an int where it is a whole number. Refusals 15 to 18."""
         kind, value = c_uint32(), c_uint32()
@@ -109,7 +110,7 @@ class Manifest(Held):
         real = kind.value == FIELD_REAL
         return _real(value.value) if real else value.value
 
-    def node(self, level: int, node: int) -> Node:
+    def node(self, level: SupportsIndex, node: SupportsIndex) -> Node:
         """A node by its level and its index in it, both counted from 0.
         Refusals 15 to 18."""
         position, start, size = _ThreeU32(), c_uint64(), c_uint32()
@@ -128,7 +129,7 @@ class Manifest(Held):
         x, y, z = position
         return Node((x, y, z), start.value, size.value)
 
-    def corners(self, level: int, node: int) -> Corners:
+    def corners(self, level: SupportsIndex, node: SupportsIndex) -> Corners:
         """The corners of a node's box. Refusals 15 to 18."""
         near, far = _ThreeU32(), _ThreeU32()
         with self._lent() as lent:
@@ -144,12 +145,12 @@ class Manifest(Held):
             )
         return Corners(_reals(near), _reals(far))
 
-    def nodes_of(self, level: int) -> List[Node]:
+    def nodes_of(self, level: SupportsIndex) -> List[Node]:
         """The nodes of a level, counted from 0, in their order. Refusals 15
         to 18."""
-        level = item("level", level)
+        number = item("level", level)
         self.check()
-        return self._nodes_of(level, self._room())
+        return self._nodes_of(number, self._room())
 
     def nodes(self) -> Iterator[Visit]:
         """All nodes, level by level. Refusals 15, 16, 17 at this call, and on

@@ -4,10 +4,11 @@ from __future__ import annotations
 
 import enum
 from ctypes import byref, c_uint32, c_uint64
-from typing import NamedTuple
+from typing import NamedTuple, SupportsIndex, Tuple, Type, TypeVar
 
-from . import _declared
+from . import _declared, _files
 from ._buffers import Lent, Loan, ReadableBuffer, byte_view
+from ._files import StrOrBytesPath
 from ._library import library
 from ._numbers import u64
 from .refusal import answer
@@ -29,6 +30,9 @@ class Held(NamedTuple):
     file: Half
     start: int
     length: int
+
+
+Made = TypeVar("Made", bound="Pair")
 
 
 class Pair(Stored):
@@ -65,7 +69,7 @@ class Pair(Stored):
     def __init__(
         self,
         sharding: Sharding,
-        number: int,
+        number: SupportsIndex,
         index: ReadableBuffer,
         data: ReadableBuffer,
     ) -> None:
@@ -73,12 +77,32 @@ class Pair(Stored):
         self._index = byte_view("index", index)
         self._data = byte_view("data", data)
 
+    @classmethod
+    def from_paths(
+        cls: Type[Made],
+        index: StrOrBytesPath,
+        data: StrOrBytesPath,
+        sharding: Sharding,
+        number: SupportsIndex,
+    ) -> Made:
+        """The shard in the index file and the data file of these paths, which
+        are read as `Shard.from_path` reads. An OSError names the path, every
+        refusal both."""
+        index_path, index_file = _files.read("index", index)
+        data_path, data_file = _files.read("data", data)
+        pair = cls(sharding, number, index_file, data_file)
+        pair._paths = index_path, data_path
+        return pair
+
     def release(self) -> None:
         """Lets the caller's two buffers go. Every later call raises
         ValueError; chunks and ranges handed out before hold theirs for
         themselves."""
         self._index.release()
         self._data.release()
+
+    def _views(self) -> Tuple[memoryview, ...]:
+        return self._index, self._data
 
     def _lent(self) -> Loan:
         return Loan(Lent("index", self._index), Lent("data", self._data))
@@ -88,7 +112,7 @@ class Pair(Stored):
         start = span.start - len(self._index)
         return self._data[start:start + span.length]
 
-    def locate_range(self, start: int, end: int) -> Held:
+    def locate_range(self, start: SupportsIndex, end: SupportsIndex) -> Held:
         """Which file holds the bytes of the joined file from `start` up to
         `end`, end excluded, and where in that file they are. An empty range
         at the seam is the data file's. No minishard is judged, and the shard
@@ -105,11 +129,12 @@ class Pair(Stored):
                     byref(file),
                     byref(place),
                     byref(length),
-                )
+                ),
+                self._paths,
             )
         return Held(Half(file.value), place.value, length.value)
 
-    def range(self, start: int, end: int) -> memoryview:
+    def range(self, start: SupportsIndex, end: SupportsIndex) -> memoryview:
         """The bytes of the joined file from `start` up to `end`, end excluded,
         as a read-only part of the caller's index file or data file, refused
         as `locate_range` is."""

@@ -2,16 +2,18 @@
 
 from __future__ import annotations
 
-from typing import Optional
+from typing import Optional, Tuple
 
 from ._refusals import SENTENCES, Numbers
+
 
 class Refused(Numbers, Exception):
     """A call was refused: a number from the archive's table, as in
     `Refused.NOT_LISTED`; of a shard, with 7 to 11, 15 to 17 and 21, the
     position, which is the byte to look at, counted from the start of the
     shard; and, from the whole-shard check and the measure, the minishard with
-    the fault.
+    the fault. `paths` names the files of a shard that `from_path` or
+    `from_paths` read, and is empty of another.
 
     With 7 and 8 the minishard's entry in the shard index begins at the
     position, 16 bytes; with 9 and 10 the id step of the first entry that
@@ -37,6 +39,7 @@ class Refused(Numbers, Exception):
         self.number = number
         self.minishard = minishard
         self.position = position
+        self.paths: Tuple[str, ...] = ()
 
     @property
     def sentence(self) -> str:
@@ -45,6 +48,8 @@ class Refused(Numbers, Exception):
 
     def __str__(self) -> str:
         told = f"refused {self.number}: {self.sentence}"
+        if self.paths:
+            told = f"{' and '.join(self.paths)}: {told}"
         places = []
         if self.minishard is not None:
             places.append(f"in minishard {self.minishard}")
@@ -66,11 +71,16 @@ class Absent(Refused, KeyError):
     """
 
 
-def answer(word: int) -> None:
-    """Raises the refusal of an answer word, where it is one. The low byte is
-    the number. The next 24 bits are 0 where the word names no minishard, else
-    one more than it; the last 32 do the same for a position."""
+def answer(word: int, paths: Tuple[str, ...] = ()) -> None:
+    """Raises the refusal of an answer word, where it is one, with the paths of
+    the files that were asked. The low byte is the number. The next 24 bits are
+    0 where the word names no minishard, else one more than it; the last 32 do
+    the same for a position."""
     if word:
         number, parts = word & 0xFF, (word >> 8 & 0xFFFFFF, word >> 32)
-        refused = Absent if number == Refused.NOT_LISTED else Refused
-        raise refused(number, *(part - 1 if part else None for part in parts))
+        kind = Absent if number == Refused.NOT_LISTED else Refused
+        refused = kind(
+            number, *(part - 1 if part else None for part in parts)
+        )
+        refused.paths = paths
+        raise refused

@@ -4,7 +4,7 @@ from __future__ import annotations
 
 from ctypes import byref, c_uint8, c_uint64
 from dataclasses import dataclass, fields
-from typing import Any, Iterable, NamedTuple, Tuple, Union
+from typing import Any, Iterable, NamedTuple, SupportsIndex, Tuple, Union
 
 from . import _declared
 from ._buffers import Lent, Numbers, ReadableBuffer, own, u64s, zeros
@@ -71,7 +71,21 @@ class Sharding:
             self.kind,
         )
 
-    def place(self, id: int) -> Place:
+    def check(self) -> None:
+        """Passes exactly the specifications that are allowed. Refusal 1, which
+        every call with this specification would give. Making one judges
+        nothing, so that any numbers may be handed to the library.
+
+        >>> from coronagamba import IDENTITY, VOLUME, Sharding
+        >>> Sharding(0, IDENTITY, 17, 0, VOLUME).check()
+        Traceback (most recent call last):
+        coronagamba.refusal.Refused: refused 1: The sharding specification \
+has a field that is not allowed.
+        """
+        # This call gives refusal 1 and no other.
+        self.place(0)
+
+    def place(self, id: SupportsIndex) -> Place:
         """The shard and minishard of an id. Refusal 1."""
         shard, minishard = c_uint64(), c_uint64()
         answer(
@@ -82,11 +96,11 @@ class Sharding:
         return Place(shard.value, minishard.value)
 
     def places(
-        self, ids: Union[Iterable[int], ReadableBuffer]
+        self, ids: Union[Iterable[SupportsIndex], ReadableBuffer]
     ) -> Tuple[Numbers, Numbers]:
         """The shards and the minishards of many ids, in their order, as two
-        arrays of code Q. A buffer of unsigned 64-bit numbers is not copied.
-        Refusal 1."""
+        arrays of code Q. A buffer of unsigned 64-bit numbers, such as a numpy
+        array, is not copied; one of other integers is. Refusal 1."""
         with Lent("ids", u64s("ids", ids)) as lent:
             count = lent.count // 8
             shards, minishards = zeros("Q", count), zeros("Q", count)
@@ -104,20 +118,20 @@ class Sharding:
             )
         return shards, minishards
 
-    def shard_name(self, shard: int) -> str:
+    def shard_name(self, shard: SupportsIndex) -> str:
         """The file name of a shard. Refusals 1, 5."""
         return self._name(library.coronagamba_shard_name, shard)
 
-    def index_name(self, shard: int) -> str:
+    def index_name(self, shard: SupportsIndex) -> str:
         """The name of the index file that a shard has in the earlier edition.
         Refusals 1, 5."""
         return self._name(library.coronagamba_index_name, shard)
 
-    def data_name(self, shard: int) -> str:
+    def data_name(self, shard: SupportsIndex) -> str:
         """The name of the data file beside it. Refusals 1, 5."""
         return self._name(library.coronagamba_data_name, shard)
 
-    def _name(self, write: Any, shard: int) -> str:
+    def _name(self, write: Any, shard: SupportsIndex) -> str:
         """The name of a shard's file, as this function writes it."""
         name, length = _Name(), c_uint64()
         answer(

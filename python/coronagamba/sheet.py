@@ -3,7 +3,7 @@
 from __future__ import annotations
 
 from ctypes import byref, c_uint64
-from typing import Dict, Iterable, Tuple
+from typing import Any, Dict, Iterable, SupportsIndex, Tuple
 
 from . import _declared
 from ._library import library
@@ -47,7 +47,7 @@ class Sheet:
     NUMBERS = (1, 5, 6, 7, 8, 9, 10, 11, 15, 16, 17, 21, 23)
 
     def __init__(
-        self, rows: Iterable[int] = (0,) * _declared.SHEET_ROWS
+        self, rows: Iterable[SupportsIndex] = (0,) * _declared.SHEET_ROWS
     ) -> None:
         found = [u64(f"rows[{i}]", row) for i, row in enumerate(rows)]
         if len(found) != _declared.SHEET_ROWS:
@@ -113,13 +113,15 @@ class Sheet:
         rows = _Rows(*other.rows)
         answer(library.coronagamba_sheet_join(byref(self._rows), byref(rows)))
 
+    # A sheet changes, and a class with this method alone has no hash.
     def __eq__(self, other: object) -> bool:
         if not isinstance(other, Sheet):
             return NotImplemented
         return self.rows == other.rows
 
-    # A sheet changes.
-    __hash__ = None  # type: ignore[assignment]
+    def __reduce__(self) -> Tuple[Any, ...]:
+        # A copy has rows of its own.
+        return type(self), (self.rows,)
 
     def __repr__(self) -> str:
         return f"Sheet({list(self.rows)})"

@@ -1,6 +1,6 @@
 """Runs all tests. The last line is 'N passed, M failed'; a test that is
-skipped counts as failed. Where numpy is not there, the tests with it are not
-among them, and the line before says so."""
+skipped counts as failed. Where numpy or mypy is not there, the tests with it
+are not among them, and a line before says so."""
 
 import sys
 import unittest
@@ -32,8 +32,9 @@ def main():
         + len(result.expectedFailures)
         + len(result.unexpectedSuccesses)
     )
-    if find_spec("numpy") is None:
-        print("numpy is not there: the tests with it were not run")
+    for module in ("numpy", "mypy"):
+        if find_spec(module) is None:
+            print(f"{module} is not there: the tests with it were not run")
     print(f"{result.passed} passed, {failed} failed")
     return 0 if failed == 0 and result.passed > 0 else 1
 

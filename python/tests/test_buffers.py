@@ -159,9 +159,48 @@ if numpy is not None:
             self.assertEqual(volume.keys(cells).tolist(), [24, 7])
             self.assertEqual(volume.keys(cells[:0]).tolist(), [])
             self.assertEqual(volume.key(cells[0]), 24)
-            for other in (cells.T, cells.astype(numpy.int64)):
-                with self.assertRaisesRegex(TypeError, "^cells must be"):
-                    volume.keys(other)
+            with self.assertRaisesRegex(ValueError, "^cells must hold"):
+                volume.keys(cells.T)
+
+        def test_integers_of_every_type(self):
+            volume = Volume((5, 3, 1), (1, 1, 1))
+            for kind in "bBhHiIlLqQ":
+                for order in "<>":
+                    dtype = numpy.dtype(kind).newbyteorder(order)
+                    ids = numpy.array([4, 7, 2], dtype)
+                    _, minishards = SHARDING.places(ids)
+                    self.assertEqual(minishards.tolist(), [0, 1, 0])
+                    _, minishards = SHARDING.places(ids[::-2])
+                    self.assertEqual(minishards.tolist(), [0, 0])
+                    cells = numpy.array([(4, 2, 0), (3, 1, 0)], dtype)
+                    self.assertEqual(volume.keys(cells).tolist(), [24, 7])
+                    turned = numpy.asfortranarray(cells)
+                    self.assertEqual(volume.keys(turned).tolist(), [24, 7])
+                    self.assertEqual(volume.key(cells[0]), 24)
+                    self.assertIn(ids[0], Shard(SHARDING, 0, FILE))
+
+        def test_other_arrays(self):
+            for kind in ("f", "d", "?", "c", "O", "M8[s]"):
+                array = numpy.zeros(3, kind)
+                with self.assertRaisesRegex((TypeError, ValueError), "^ids "):
+                    SHARDING.places(array)
+            with self.assertRaisesRegex(OverflowError, r"^ids\[1\] must"):
+                SHARDING.places(numpy.array([1, -1]))
+            with self.assertRaisesRegex(TypeError, "^id must be an integer"):
+                SHARDING.place(numpy.float64(1))
+            with self.assertRaisesRegex(TypeError, "^cell x must be an int"):
+                Volume((5, 3, 1), (1, 1, 1)).key(numpy.zeros(3))
+
+        def test_a_listing(self):
+            shard = Shard(SHARDING, 0, FILE)
+            for minishard in (0, 1):
+                found = shard.listing_array(minishard)
+                self.assertEqual(found.dtype.names, ("id", "start", "length"))
+                self.assertEqual(found["id"].dtype, numpy.uint64)
+                expected = [(id, *span) for id, span in shard.listing(minishard)]
+                self.assertEqual(found.tolist(), expected)
+            empty = Shard(SHARDING, 0, bytes(32)).listing_array(0)
+            self.assertEqual(empty.shape, (0,))
 
 
 class Uncopied(unittest.TestCase):

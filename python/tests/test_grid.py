@@ -135,15 +135,38 @@ class ManyKeys(unittest.TestCase):
         with self.assertRaisesRegex(ValueError, r"^cells\[0\] must be three"):
             CASE.keys([(0, 0), (0, 0, 0, 0)])
 
-    def test_buffers_of_other_numbers(self):
+    def test_integers_of_every_width(self):
+        flat = list(itertools.chain.from_iterable(CELLS))
+        doubled = [number for number in flat for _ in range(2)]
         for given in (
-            bytes(12),
-            array("i", [0, 0, 0]),
-            array("Q", [0, 0, 0]),
-            memoryview(array("I", range(6)))[::2],
+            *(array(code, flat) for code in "bBhHilLqQ"),
+            (ctypes.c_int64 * 9)(*flat),
+            (ctypes.c_uint16.__ctype_be__ * 9)(*flat),
+            memoryview(array("I", doubled))[::2],
+            memoryview(array("q", flat)).cast("B").cast("q", [3, 3]),
         ):
-            with self.assertRaisesRegex(TypeError, "^cells must be"):
+            with self.subTest(kind=type(given)):
+                self.assertEqual(CASE.keys(given), array("Q", KEYS))
+
+    def test_a_number_of_a_buffer_that_is_out_of_range(self):
+        for given, name in (
+            (array("b", [0, 0, -1]), "cells[0] z"),
+            (array("q", [0, 0, 0, 0, 2**32, 0]), "cells[1] y"),
+            (array("Q", [2**64 - 1, 0, 0]), "cells[0] x"),
+        ):
+            with self.assertRaises(OverflowError) as caught:
                 CASE.keys(given)
+            told = str(caught.exception)
+            self.assertTrue(told.startswith(f"{name} must be from 0 "), told)
+
+    def test_buffers_of_no_numbers(self):
+        for given in (bytes(12), bytearray(12), array("d", [0, 0, 0])):
+            with self.assertRaisesRegex(TypeError, "^cells must be integers"):
+                CASE.keys(given)
+        with self.assertRaisesRegex(TypeError, "^cells must be a buffer or"):
+            CASE.keys(7)
+        with self.assertRaisesRegex(ValueError, "^cells must hold"):
+            CASE.keys(array("q", [1, 2]))
 
 
 class Rows(unittest.TestCase):

@@ -118,9 +118,19 @@ class InfoFiles(unittest.TestCase):
         for length in range(len(TEXT)):
             self.assertEqual(answered(TEXT[:length], 1), 19)
 
-    def test_a_text_is_bytes(self):
-        with self.assertRaises(TypeError):
-            Card.read_info(TEXT.decode(), 1)
+    def test_a_text_is_bytes_or_a_str(self):
+        self.assertEqual(Card.read_info(TEXT.decode(), 1), CARD)
+        wide = json.dumps(INFO, ensure_ascii=False)
+        self.assertGreater(len(wide.encode()), len(wide))
+        self.assertEqual(Card.read_info(wide, 1), CARD)
+        for text in (None, 7, [TEXT], ["{", "}"]):
+            with self.assertRaisesRegex(TypeError, "^text must be"):
+                Card.read_info(text, 1)
+
+    def test_a_str_is_judged_by_the_library_alone(self):
+        for text in ("", "{", "\ud800", '"\udcff"', "\ufeff" + TEXT.decode()):
+            self.assertEqual(answered(text, 1), 19)
+        self.assertEqual(answered("[]", 1), 20)
 
     def test_json_is_of_the_same_opinion(self):
         rng = random.Random(8259)

@@ -2,11 +2,13 @@
 
 import ctypes
 import dataclasses
+import mmap
 import random
 import unittest
 from array import array
 
-from coronagamba import IDENTITY, MESH, MURMUR, VOLUME, Place, Sharding
+from coronagamba import IDENTITY, MESH, MURMUR, VOLUME, Place, Refused
+from coronagamba import Sharding
 
 from . import shards
 
@@ -61,20 +63,52 @@ class Places(unittest.TestCase):
         for given in ([], array("Q"), memoryview(b"").cast("Q")):
             self.assertEqual(CASE.places(given), (array("Q"), array("Q")))
 
-    def test_buffers_of_other_numbers(self):
-        numbers = array("Q", range(8))
+    def test_integers_of_every_width(self):
+        numbers = memoryview(array("Q", [2, 4, 3, 4, 4, 4]))
+        for given in (
+            *(array(code, [2, 3, 4]) for code in "bBhHiIlLqQ"),
+            (ctypes.c_int32 * 3)(2, 3, 4),
+            (ctypes.c_long * 3)(2, 3, 4),
+            (ctypes.c_uint64.__ctype_be__ * 3)(2, 3, 4),
+            (ctypes.c_int16.__ctype_be__ * 3)(2, 3, 4),
+            numbers[::2],
+            memoryview(array("Q", [4, 3, 2]))[::-1],
+        ):
+            with self.subTest(kind=type(given)):
+                _, minishards = CASE.places(given)
+                self.assertEqual(minishards, array("Q", [1, 1, 0]))
+
+    def test_a_number_of_a_buffer_that_is_out_of_range(self):
+        for code in "bhilq":
+            for place in range(3):
+                ids = array(code, [1, 1, 1])
+                ids[place] = -1
+                with self.assertRaises(OverflowError) as caught:
+                    CASE.places(ids)
+                told = str(caught.exception)
+                self.assertTrue(told.startswith(f"ids[{place}] must"), told)
+
+    def test_buffers_of_no_numbers(self):
         for given in (
             bytes(16),
             bytearray(16),
-            array("q", [1]),
-            array("I", [1, 2]),
+            memoryview(bytes(16)),
+            mmap.mmap(-1, 16),
+            array("f", [1.0]),
             array("d", [1.0]),
-            memoryview(numbers)[::2],
-            memoryview(numbers)[::-1],
+            memoryview(b"\1").cast("?"),
+            memoryview(bytes(16)).cast("c"),
         ):
             with self.subTest(kind=type(given)):
-                with self.assertRaisesRegex(TypeError, "^ids must be"):
+                with self.assertRaisesRegex(TypeError, "^ids must be integer"):
                     CASE.places(given)
+        for given in (7, None, 1.5):
+            with self.assertRaisesRegex(TypeError, "^ids must be a buffer or"):
+                CASE.places(given)
+        released = memoryview(array("Q", [1]))
+        released.release()
+        with self.assertRaisesRegex(ValueError, "^ids cannot be read"):
+            CASE.places(released)
 
 
 class Names(unittest.TestCase):
@@ -88,6 +122,22 @@ class Names(unittest.TestCase):
         ):
             sharding = Sharding(0, IDENTITY, 0, bits, VOLUME)
             self.assertEqual(sharding.shard_name(shard), name)
+
+
+class Allowed(unittest.TestCase):
+    def test_each_field_at_its_edge(self):
+        most = (63, 1, 16, 32, 1)
+        Sharding(0, 0, 0, 0, 0).check()
+        Sharding(*most).check()
+        for place in range(5):
+            for value in (most[place] + 1, 255):
+                fields = list(most)
+                fields[place] = value
+                # Any numbers make one.
+                sharding = Sharding(*fields)
+                with self.assertRaises(Refused) as caught:
+                    sharding.check()
+                self.assertEqual(caught.exception.args, (1, None, None))
 
 
 class Values(unittest.TestCase):
