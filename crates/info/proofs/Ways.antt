@@ -7,17 +7,17 @@ use borrow.Author.Rules.{rules}
 use borrow.Author.Tests.{not-true, not-false}
 use Rattle.refusal.specs.Choice.{pick}
 use Rattle.refusal.specs.Checks.{first_number, unless}
-use Rattle.json.specs.tokens.Parts.{ws}
-use Rattle.json.specs.Grammar.{deepest, is_json}
+use Rattle.json_text.specs.tokens.Parts.{ws}
+use Rattle.json_text.specs.Grammar.{deepest, is_json}
 use Rattle.card.specs.declared.Card.{Card}
 use Rattle.card.specs.declared.CardAnswer.{CardAnswer}
 use Rattle.card.specs.declared.CardAnswer.TheVariants.{Says, Refused}
 use Rattle.card.specs.Answers.{fault}
-use Rattle.json.specs.declared.tokens.Found.{Found}
-use Rattle.json.specs.declared.tokens.Found.TheVariants.{At, Nothing}
+use Rattle.json_text.specs.declared.tokens.Found.{Found}
+use Rattle.json_text.specs.declared.tokens.Found.TheVariants.{At, Nothing}
 use Rattle.info.specs.declared.scale.Settings.{Settings}
 use Rattle.info.specs.declared.scale.Settings.TheVariants.{Are as SettingsAre, UnknownHash as NoKnownHash, Wrong as NoSettings}
-use Rattle.json.specs.members.Places.{needed, element}
+use Rattle.json_text.specs.members.Places.{needed, element}
 use Rattle.info.specs.sharding_members.Words.{scales_name}
 use Rattle.info.specs.scale.Scale.{settings_at}
 use Rattle.info.specs.Settings.{scale_at, settings_of}

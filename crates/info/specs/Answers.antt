@@ -1,7 +1,7 @@
 -- What reading the settings of scale k from an info file answers (order 'read the settings from the info file').
 use Rattle.std.specs.Prelude.{ℕ, Bool, true, false, not, List, ◌∷◌}
 use Rattle.refusal.specs.Checks.{Check, check, answered}
-use Rattle.json.specs.Grammar.{deepest, is_json}
+use Rattle.json_text.specs.Grammar.{deepest, is_json}
 use Rattle.sharding.specs.Specification.{volume}
 use Rattle.card.specs.Answers.{record_checks}
 use Rattle.card.specs.Reading.{zeros}

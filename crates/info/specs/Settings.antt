@@ -1,11 +1,11 @@
 -- The settings of scale k that an info file says, as the record of a card (order 1).
 use Rattle.std.specs.Prelude.{ℕ, List}
-use Rattle.json.specs.tokens.Parts.{ws}
-use Rattle.json.specs.declared.tokens.Found.{Found}
-use Rattle.json.specs.declared.tokens.Found.TheVariants.{Nothing}
+use Rattle.json_text.specs.tokens.Parts.{ws}
+use Rattle.json_text.specs.declared.tokens.Found.{Found}
+use Rattle.json_text.specs.declared.tokens.Found.TheVariants.{Nothing}
 use Rattle.info.specs.declared.scale.Settings.{Settings}
 use Rattle.info.specs.declared.scale.Settings.TheVariants.{Wrong as NoSettings}
-use Rattle.json.specs.members.Places.{needed, element}
+use Rattle.json_text.specs.members.Places.{needed, element}
 use Rattle.info.specs.sharding_members.Words.{scales_name}
 use Rattle.info.specs.scale.Scale.{when_at, settings_at}
 

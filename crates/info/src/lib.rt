@@ -29,7 +29,7 @@ fn judged(card: Card) -> CardAnswer
 pub fn read_info(text: &[u8], scale: u64) -> CardAnswer
     ensures answer { result ≡ info_answer text.now scale }
 {
-    if !json::is_json(text) {
+    if !json_text::is_json(text) {
         return CardAnswer::Refused(19);
     }
     match settings::settings_of(text, scale) {

@@ -1,7 +1,7 @@
 // Whole numbers in a JSON text, written without fraction or exponent.
 
 ghost use Rattle.std.specs.Prelude.{◌≡◌, true, ◌-◌, ◌<◌};
-ghost use Rattle.json.specs.tokens.Bytes.{is_digit};
+ghost use Rattle.json_text.specs.tokens.Bytes.{is_digit};
 ghost use Rattle.info.specs.numbers.Numbers.{goes_on_of, digits_from_of, whole_from, natural_at, above_of, below_of, coordinate_at};
 
 // A whole number of 32 bits, if one is written there.
@@ -33,8 +33,8 @@ fn digits_from(s: &[u8], p: usize) -> Number
     let mut v: u64 = 0;
     let mut i = p;
     loop {
-        let b = json::tokens::byte(s, i);
-        if !json::tokens::is_digit(b) {
+        let b = json_text::tokens::byte(s, i);
+        if !json_text::tokens::is_digit(b) {
             if goes_on(b) {
                 return Number::Wrong;
             }
@@ -52,7 +52,7 @@ fn digits_from(s: &[u8], p: usize) -> Number
 fn whole_from(s: &[u8], p: usize) -> Number
     ensures { result ≡ whole_from s.now p }
 {
-    if !json::tokens::is_digit(json::tokens::byte(s, p)) {
+    if !json_text::tokens::is_digit(json_text::tokens::byte(s, p)) {
         return Number::Wrong;
     }
     digits_from(s, p)
@@ -62,7 +62,7 @@ fn whole_from(s: &[u8], p: usize) -> Number
 pub fn natural(s: &[u8], p: usize) -> Number
     ensures { result ≡ natural_at s.now p }
 {
-    if json::tokens::byte(s, p) != b'-' {
+    if json_text::tokens::byte(s, p) != b'-' {
         return whole_from(s, p);
     }
     let Number::Is(n) = whole_from(s, p + 1) else {
@@ -105,7 +105,7 @@ fn below(s: &[u8], p: usize) -> Number
 pub fn coordinate(s: &[u8], p: usize) -> Number
     ensures { result ≡ coordinate_at s.now p }
 {
-    if json::tokens::byte(s, p) != b'-' {
+    if json_text::tokens::byte(s, p) != b'-' {
         return above(s, p);
     }
     below(s, p + 1)

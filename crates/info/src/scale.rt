@@ -7,8 +7,8 @@ ghost use Rattle.info.specs.scale.Parts.{size_by, chunk_by, volume_by, typed_by,
 use crate::numbers::Number;
 use crate::sharding_members::{HashIn, ShardingIn, hash_at, raw, sharding_of};
 use card::Card;
-use json::members::{Given, Threes};
-use json::tokens::Found;
+use json_text::members::{Given, Threes};
+use json_text::tokens::Found;
 use morton::grid::{Extents, Offset, Volume};
 
 // Parts of the settings, if the text has them.
@@ -56,7 +56,7 @@ fn extents_of(p: Number, q: Number, r: Number) -> ExtentsIn
 fn extents_at(s: &[u8], p: usize) -> ExtentsIn
     ensures { result ≡ extents_at s.now p }
 {
-    let Threes::Are(t) = json::members::just_three(s, p) else {
+    let Threes::Are(t) = json_text::members::just_three(s, p) else {
         return ExtentsIn::Wrong;
     };
     let x = crate::numbers::natural(s, t.x);
@@ -87,7 +87,7 @@ fn offset_of(p: Number, q: Number, r: Number) -> OffsetIn
 fn offset_at(s: &[u8], p: usize) -> OffsetIn
     ensures { result ≡ offset_at_of s.now p }
 {
-    let Threes::Are(t) = json::members::just_three(s, p) else {
+    let Threes::Are(t) = json_text::members::just_three(s, p) else {
         return OffsetIn::Wrong;
     };
     let x = crate::numbers::coordinate(s, t.x);
@@ -100,7 +100,7 @@ fn offset_at(s: &[u8], p: usize) -> OffsetIn
 fn size_by(s: &[u8], given: Given) -> ExtentsIn
     ensures { result ≡ size_by s.now given }
 {
-    let Found::At(v) = json::members::once(given) else {
+    let Found::At(v) = json_text::members::once(given) else {
         return ExtentsIn::Wrong;
     };
     extents_at(s, v)
@@ -110,10 +110,10 @@ fn size_by(s: &[u8], given: Given) -> ExtentsIn
 fn chunk_by(s: &[u8], given: Given) -> ExtentsIn
     ensures { result ≡ chunk_by s.now given }
 {
-    let Found::At(v) = json::members::once(given) else {
+    let Found::At(v) = json_text::members::once(given) else {
         return ExtentsIn::Wrong;
     };
-    let Found::At(e) = json::members::just_one(s, v) else {
+    let Found::At(e) = json_text::members::just_one(s, v) else {
         return ExtentsIn::Wrong;
     };
     extents_at(s, e)
@@ -153,17 +153,17 @@ fn volume_by(s: &[u8], sizes: Given, chunks: Given, offsets: Given) -> VolumeIn
 fn typed(s: &[u8], given: Given) -> bool
     ensures { result ≡ typed_by s.now given }
 {
-    let Found::At(v) = json::members::once(given) else {
+    let Found::At(v) = json_text::members::once(given) else {
         return false;
     };
-    json::members::is_text(s, v, b"neuroglancer_uint64_sharded_v1")
+    json_text::members::is_text(s, v, b"neuroglancer_uint64_sharded_v1")
 }
 
 // The sharding at p is of the type and in the encodings that are read. A walk tells of four names, one of which is not used.
 fn formed(s: &[u8], p: usize) -> bool
     ensures { result ≡ formed s.now p }
 {
-    let found = json::members::four_members(
+    let found = json_text::members::four_members(
         s,
         p,
         b"@type",
@@ -180,7 +180,7 @@ fn formed(s: &[u8], p: usize) -> bool
 fn hash_by(s: &[u8], given: Given) -> HashIn
     ensures { result ≡ hash_by s.now given }
 {
-    let Found::At(v) = json::members::once(given) else {
+    let Found::At(v) = json_text::members::once(given) else {
         return HashIn::Wrong;
     };
     hash_at(s, v)
@@ -190,7 +190,7 @@ fn hash_by(s: &[u8], given: Given) -> HashIn
 fn number_by(s: &[u8], given: Given) -> Number
     ensures { result ≡ number_by s.now given }
 {
-    let Found::At(v) = json::members::once(given) else {
+    let Found::At(v) = json_text::members::once(given) else {
         return Number::Wrong;
     };
     crate::numbers::natural(s, v)
@@ -214,7 +214,7 @@ fn numbers_of(p: Number, h: HashIn, r: Number, t: Number) -> ShardingIn
 fn numbers_in(s: &[u8], p: usize) -> ShardingIn
     ensures { result ≡ numbers_in s.now p }
 {
-    let found = json::members::four_members(
+    let found = json_text::members::four_members(
         s,
         p,
         b"preshift_bits",
@@ -246,7 +246,7 @@ fn sharding_at(s: &[u8], p: usize) -> ShardingIn
 fn sharding_by(s: &[u8], given: Given) -> ShardingIn
     ensures { result ≡ sharding_by s.now given }
 {
-    let Found::At(v) = json::members::once(given) else {
+    let Found::At(v) = json_text::members::once(given) else {
         return ShardingIn::Wrong;
     };
     sharding_at(s, v)
@@ -256,7 +256,7 @@ fn sharding_by(s: &[u8], given: Given) -> ShardingIn
 pub fn settings_at(s: &[u8], p: usize) -> Settings
     ensures { result ≡ settings_at s.now p }
 {
-    let found = json::members::four_members(
+    let found = json_text::members::four_members(
         s,
         p,
         b"size",

@@ -3,7 +3,7 @@
 ghost use Rattle.std.specs.Prelude.{◌≡◌};
 ghost use Rattle.info.specs.sharding_members.Values.{raw_by, hash_at, sharding_of};
 
-use json::members::Given;
+use json_text::members::Given;
 use sharding::Sharding;
 
 // The hash that a text names, by its number: one that is not known is a case of its own.
@@ -27,7 +27,7 @@ pub fn raw(s: &[u8], given: Given) -> bool
     ensures { result ≡ raw_by s.now given }
 {
     match given {
-        Given::Once(v) => json::members::is_text(s, v, b"raw"),
+        Given::Once(v) => json_text::members::is_text(s, v, b"raw"),
         Given::Never => true,
         Given::Twice => false,
     }
@@ -37,13 +37,13 @@ pub fn raw(s: &[u8], given: Given) -> bool
 pub fn hash_at(s: &[u8], p: usize) -> HashIn
     ensures { result ≡ hash_at s.now p }
 {
-    if json::tokens::byte(s, p) != b'"' {
+    if json_text::tokens::byte(s, p) != b'"' {
         return HashIn::Wrong;
     }
-    if json::members::is_text(s, p, b"identity") {
+    if json_text::members::is_text(s, p, b"identity") {
         return HashIn::Known(0);
     }
-    if !json::members::is_text(s, p, b"murmurhash3_x86_128") {
+    if !json_text::members::is_text(s, p, b"murmurhash3_x86_128") {
         return HashIn::Unknown;
     }
     HashIn::Known(1)

@@ -8,21 +8,21 @@ use borrow.Author.Tests.{eq-eqb, ne_eqb, lt-leb}
 use lib.Dec.{eqb, leb}
 use lib.ListN.{length, get_or, drop, get_or-eq_default}
 use Rattle.refusal.specs.Choice.{pick}
-use Rattle.json.specs.tokens.Bytes.{byte_at, same, is_ws, is_digit, inside}
-use Rattle.json.specs.tokens.Parts.{ws, digits}
-use Rattle.json.specs.tokens.Numbers.{is_e, Digits, IntPart, FracPart, ExpPart, Numeral, decimal, int_value}
-use Rattle.json.specs.strings.Chars.{String}
-use Rattle.json.specs.strings.Names.{text_at}
-use Rattle.json.specs.Grammar.{deepest}
-use Rattle.json.specs.Rfc.{Ws, Items, Listed, Member, ValueOf, Value, JsonText}
-use Rattle.json.specs.members.Places.{value_of, elements, members}
-use Rattle.json.proofs.tokens.Laws.{is_same, digit_zero}
-use Rattle.json.proofs.tokens.Numerals.{digits-end, digits-first, digits_stop, numeral_complete}
-use Rattle.json.proofs.strings.Characters.{string-first}
-use Rattle.json.proofs.strings.Encoded.{or_case}
-use Rattle.json.proofs.strings.Unescaping.{text-own}
-use Rattle.json.proofs.Agree.{word_first, number-first, opens-ws, value-opens, ws-max}
-use Rattle.json.proofs.members.Own.{item_places, places, value_place, elements-own, members-own, value-own}
+use Rattle.json_text.specs.tokens.Bytes.{byte_at, same, is_ws, is_digit, inside}
+use Rattle.json_text.specs.tokens.Parts.{ws, digits}
+use Rattle.json_text.specs.tokens.Numbers.{is_e, Digits, IntPart, FracPart, ExpPart, Numeral, decimal, int_value}
+use Rattle.json_text.specs.strings.Chars.{String}
+use Rattle.json_text.specs.strings.Names.{text_at}
+use Rattle.json_text.specs.Grammar.{deepest}
+use Rattle.json_text.specs.Rfc.{Ws, Items, Listed, Member, ValueOf, Value, JsonText}
+use Rattle.json_text.specs.members.Places.{value_of, elements, members}
+use Rattle.json_text.proofs.tokens.Laws.{is_same, digit_zero}
+use Rattle.json_text.proofs.tokens.Numerals.{digits-end, digits-first, digits_stop, numeral_complete}
+use Rattle.json_text.proofs.strings.Characters.{string-first}
+use Rattle.json_text.proofs.strings.Encoded.{or_case}
+use Rattle.json_text.proofs.strings.Unescaping.{text-own}
+use Rattle.json_text.proofs.Agree.{word_first, number-first, opens-ws, value-opens, ws-max}
+use Rattle.json_text.proofs.members.Own.{item_places, places, value_place, elements-own, members-own, value-own}
 use Rattle.info.specs.numbers.Numbers.{decimal_on, decimal_at, goes_on_of, in32, digits_from_of, whole_from}
 use Rattle.info.specs.declared.numbers.Number.{Number}
 use Rattle.info.specs.declared.numbers.Number.TheVariants.{Wrong}

@@ -9,20 +9,20 @@ use lib.Dec.{ltb, leb, eqb}
 use lib.ListN.{get_or}
 use Rattle.refusal.specs.Choice.{pick}
 use Rattle.refusal.proofs.Tests.{neither}
-use Rattle.json.specs.tokens.Bytes.{is_digit}
-use Rattle.json.specs.tokens.Parts.{digits}
+use Rattle.json_text.specs.tokens.Bytes.{is_digit}
+use Rattle.json_text.specs.tokens.Parts.{digits}
 use Rattle.morton.specs.grid.Grid.{InU32}
 use Rattle.morton.specs.declared.grid.Offset.{Offset}
 use Rattle.sharding.specs.Specification.{volume}
 use Rattle.card.specs.fields.Twos.{bits32, InI32}
 use Rattle.card.specs.Layout.{Ranged}
 use Rattle.card.proofs.fields.Words.{signed_in}
-use Rattle.json.specs.declared.tokens.Found.{Found}
-use Rattle.json.specs.declared.tokens.Found.TheVariants.{At, Nothing}
-use Rattle.json.specs.declared.members.Given.{Given}
-use Rattle.json.specs.declared.members.Given.TheVariants.{Once, Never, Twice}
-use Rattle.json.specs.declared.members.Threes.{Threes}
-use Rattle.json.specs.declared.members.Threes.TheVariants.{Are as Threefold, Wrong as NotThree}
+use Rattle.json_text.specs.declared.tokens.Found.{Found}
+use Rattle.json_text.specs.declared.tokens.Found.TheVariants.{At, Nothing}
+use Rattle.json_text.specs.declared.members.Given.{Given}
+use Rattle.json_text.specs.declared.members.Given.TheVariants.{Once, Never, Twice}
+use Rattle.json_text.specs.declared.members.Threes.{Threes}
+use Rattle.json_text.specs.declared.members.Threes.TheVariants.{Are as Threefold, Wrong as NotThree}
 use Rattle.info.specs.declared.numbers.Number.{Number}
 use Rattle.info.specs.declared.numbers.Number.TheVariants.{Is, Wrong}
 use Rattle.info.specs.declared.scale.ExtentsIn.{ExtentsIn}
@@ -37,7 +37,7 @@ use Rattle.info.specs.declared.sharding_members.ShardingIn.{ShardingIn}
 use Rattle.info.specs.declared.sharding_members.ShardingIn.TheVariants.{Is as ShardingIs, UnknownHash, Wrong as NoSharding}
 use Rattle.info.specs.declared.scale.Settings.{Settings}
 use Rattle.info.specs.declared.scale.Settings.TheVariants.{Are as SettingsAre, UnknownHash as NoKnownHash, Wrong as NoSettings}
-use Rattle.json.specs.members.Places.{elements, is_text, member, needed, three_of, lone_of}
+use Rattle.json_text.specs.members.Places.{elements, is_text, member, needed, three_of, lone_of}
 use Rattle.info.specs.numbers.Numbers.{decimal_at, goes_on_of, in32, digits_from_of, whole_from, when_is, natural_at, negative, above_of, below_of, coordinate_at}
 use Rattle.info.specs.sharding_members.Words.{size_name, chunks_name, offset_name, sharding_name, preshift_name, hash_name, minishard_bits_name, shard_bits_name, identity_text, murmur_text}
 use Rattle.info.specs.scale.Scale.{when_at, when_three, when_extents, when_offset, when_volume, extents_of, extents_at, offset_of, offset_at_of, size_in, chunk_in, offset_by, offset_in, volume_in, formed, hash_in, number_in, numbers_of, numbers_in, sharding_at, sharding_in, settings_by, settings_at}

@@ -10,10 +10,10 @@ use Rattle.refusal.specs.Choice.{pick}
 use Rattle.refusal.specs.Checks.{first_number, unless}
 use Rattle.refusal.specs.declared.Written.TheVariants.{Length}
 use Rattle.refusal.proofs.Refusing.{Refuses, refuses}
-use Rattle.json.specs.Grammar.{deepest, is_json}
-use Rattle.json.specs.Rfc.{JsonText}
-use Rattle.json.proofs.Agree.{json_sound, json_complete}
-use Rattle.json.proofs.Encoded.{json_utf8}
+use Rattle.json_text.specs.Grammar.{deepest, is_json}
+use Rattle.json_text.specs.Rfc.{JsonText}
+use Rattle.json_text.proofs.Agree.{json_sound, json_complete}
+use Rattle.json_text.proofs.Encoded.{json_utf8}
 use Rattle.morton.specs.grid.Grid.{grid_of, zero_extent}
 use Rattle.morton.specs.Key.{too_many_bits}
 use Rattle.sharding.specs.Specification.{volume, allowed}

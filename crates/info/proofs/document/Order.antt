@@ -6,9 +6,9 @@ use mathlib.Core.List.{List, [], ◌∷◌, ◌++◌}
 use native.Mathlib.Omega.{arith}
 use lib.ListN.{length, get_or}
 use Rattle.refusal.specs.Choice.{pick}
-use Rattle.json.specs.tokens.Bytes.{choose, same}
-use Rattle.json.specs.strings.Names.{eq_list}
-use Rattle.json.proofs.tokens.Laws.{if_yes, if_no, is_same}
+use Rattle.json_text.specs.tokens.Bytes.{choose, same}
+use Rattle.json_text.specs.strings.Names.{eq_list}
+use Rattle.json_text.proofs.tokens.Laws.{if_yes, if_no, is_same}
 use Rattle.info.specs.declared.sharding_members.ShardingIn.TheVariants.{Wrong as NoSharding}
 use Rattle.info.specs.declared.scale.Settings.TheVariants.{Wrong as NoSettings}
 use Rattle.info.specs.sharding_members.Words.{scales_name, sharding_name, type_name}

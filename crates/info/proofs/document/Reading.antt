@@ -8,12 +8,12 @@ use borrow.Author.Tests.{eqb-true, eqb-false, eq-eqb, ne_eqb}
 use lib.Dec.{eqb}
 use lib.ListN.{get_or}
 use Rattle.refusal.specs.Choice.{pick}
-use Rattle.json.specs.tokens.Bytes.{is_digit, inside}
-use Rattle.json.specs.tokens.Parts.{ws}
-use Rattle.json.specs.declared.tokens.Found.{Found}
-use Rattle.json.specs.declared.tokens.Found.TheVariants.{At, Nothing}
-use Rattle.json.specs.strings.Names.{text_at, eq_list}
-use Rattle.json.specs.members.Places.{value_of, first_in, items_by, elements, members, is_text, keep, is_name, named, only, member, once_of, needed, pick_nth, element, three_of, lone_of}
+use Rattle.json_text.specs.tokens.Bytes.{is_digit, inside}
+use Rattle.json_text.specs.tokens.Parts.{ws}
+use Rattle.json_text.specs.declared.tokens.Found.{Found}
+use Rattle.json_text.specs.declared.tokens.Found.TheVariants.{At, Nothing}
+use Rattle.json_text.specs.strings.Names.{text_at, eq_list}
+use Rattle.json_text.specs.members.Places.{value_of, first_in, items_by, elements, members, is_text, keep, is_name, named, only, member, once_of, needed, pick_nth, element, three_of, lone_of}
 use Rattle.info.specs.numbers.Numbers.{when_is, whole_from, natural_at, above_of, below_of, coordinate_at}
 use Rattle.info.specs.declared.numbers.Number.{Number}
 use Rattle.info.specs.declared.numbers.Number.TheVariants.{Is, Wrong}

@@ -3,14 +3,14 @@ use Prim.Native.Nat.{ℕ}
 use mathlib.Core.Path.{◌≡◌, refl, ◌∙◌}
 use mathlib.Core.List.{List, [], ◌∷◌, map}
 use Rattle.refusal.specs.Checks.{first_number, unless}
-use Rattle.json.specs.tokens.Bytes.{choose, same, under, inside, is_ws, is_digit, span_in}
-use Rattle.json.specs.tokens.Parts.{and_then, follow, mark_at, close_at, word_at}
-use Rattle.json.specs.tokens.Numbers.{some_digits, int_at, frac_at, is_sign, is_e, sign_at, exp_at, unsigned_at, number_at}
-use Rattle.json.specs.characters.Chars.{is_hex, is_short, is_tail, is_second, utf8_len, escape_len, char_len}
-use Rattle.json.specs.strings.Chars.{chars_at, string_at}
-use Rattle.json.specs.strings.Names.{hex_value, unit_at, utf8, short_byte, lone_unit, is_pair, unit_bytes, char_bytes, unescaped, eq_list}
-use Rattle.json.specs.Grammar.{scalar_at, items_at, list_at, member_at, value_at, end_of, ends_at, is_json}
-use Rattle.json.specs.members.Places.{next_element, next_member, value_of, first_in, items_by, elements, members, is_text, keep, is_name, named, only, member, once_of, needed, pick_nth, element, three_of, lone_of}
+use Rattle.json_text.specs.tokens.Bytes.{choose, same, under, inside, is_ws, is_digit, span_in}
+use Rattle.json_text.specs.tokens.Parts.{and_then, follow, mark_at, close_at, word_at}
+use Rattle.json_text.specs.tokens.Numbers.{some_digits, int_at, frac_at, is_sign, is_e, sign_at, exp_at, unsigned_at, number_at}
+use Rattle.json_text.specs.characters.Chars.{is_hex, is_short, is_tail, is_second, utf8_len, escape_len, char_len}
+use Rattle.json_text.specs.strings.Chars.{chars_at, string_at}
+use Rattle.json_text.specs.strings.Names.{hex_value, unit_at, utf8, short_byte, lone_unit, is_pair, unit_bytes, char_bytes, unescaped, eq_list}
+use Rattle.json_text.specs.Grammar.{scalar_at, items_at, list_at, member_at, value_at, end_of, ends_at, is_json}
+use Rattle.json_text.specs.members.Places.{next_element, next_member, value_of, first_in, items_by, elements, members, is_text, keep, is_name, named, only, member, once_of, needed, pick_nth, element, three_of, lone_of}
 use Rattle.info.specs.numbers.Numbers.{decimal_on, decimal_at, goes_on_of, in32, digits_from_of, whole_from, natural_at, negative, above_of, below_of, coordinate_at}
 use Rattle.morton.specs.grid.Grid.{grid_size, grid_of, has_zero, zero_extent}
 use Rattle.morton.specs.axis.Axis.{bit_of, used}

@@ -14,10 +14,10 @@ use mir.Syntax.{w32, w64}
 use mir.Val.{Fits}
 use Rattle.refusal.specs.Choice.{pick}
 use Rattle.refusal.proofs.Tests.{both}
-use Rattle.json.specs.tokens.Bytes.{is_digit, inside}
-use Rattle.json.specs.tokens.Parts.{digits}
-use Rattle.json.proofs.tokens.Laws.{in_text, digit_zero, span-on, span_stop}
-use Rattle.json.proofs.tokens.Steps.{mark_room}
+use Rattle.json_text.specs.tokens.Bytes.{is_digit, inside}
+use Rattle.json_text.specs.tokens.Parts.{digits}
+use Rattle.json_text.proofs.tokens.Laws.{in_text, digit_zero, span-on, span_stop}
+use Rattle.json_text.proofs.tokens.Steps.{mark_room}
 use Rattle.card.specs.fields.Twos.{bits32}
 use Rattle.info.specs.declared.numbers.Number.{Number}
 use Rattle.info.specs.declared.numbers.Number.TheVariants.{Is, Wrong}

@@ -13,14 +13,14 @@ use Rattle.morton.specs.declared.grid.Offset.{Offset}
 use Rattle.morton.specs.declared.grid.Volume.{Volume}
 use Rattle.sharding.specs.declared.Sharding.{Sharding}
 use Rattle.card.specs.fields.Twos.{signed32}
-use Rattle.json.specs.declared.tokens.Found.{Found}
-use Rattle.json.specs.declared.tokens.Found.TheVariants.{At, Nothing}
-use Rattle.json.specs.declared.members.Given.{Given}
-use Rattle.json.specs.declared.members.Given.TheVariants.{Once, Never, Twice}
-use Rattle.json.specs.declared.members.Four.{Four}
-use Rattle.json.specs.declared.members.Three.{Three}
-use Rattle.json.specs.declared.members.Threes.{Threes}
-use Rattle.json.specs.declared.members.Threes.TheVariants.{Are as Threefold, Wrong as NotThree}
+use Rattle.json_text.specs.declared.tokens.Found.{Found}
+use Rattle.json_text.specs.declared.tokens.Found.TheVariants.{At, Nothing}
+use Rattle.json_text.specs.declared.members.Given.{Given}
+use Rattle.json_text.specs.declared.members.Given.TheVariants.{Once, Never, Twice}
+use Rattle.json_text.specs.declared.members.Four.{Four}
+use Rattle.json_text.specs.declared.members.Three.{Three}
+use Rattle.json_text.specs.declared.members.Threes.{Threes}
+use Rattle.json_text.specs.declared.members.Threes.TheVariants.{Are as Threefold, Wrong as NotThree}
 use Rattle.info.specs.declared.numbers.Number.{Number}
 use Rattle.info.specs.declared.numbers.Number.TheVariants.{Is, Wrong}
 use Rattle.info.specs.declared.scale.ExtentsIn.{ExtentsIn}
@@ -34,7 +34,7 @@ use Rattle.info.specs.declared.sharding_members.HashIn.TheVariants.{Wrong as NoH
 use Rattle.info.specs.declared.sharding_members.ShardingIn.{ShardingIn}
 use Rattle.info.specs.declared.sharding_members.ShardingIn.TheVariants.{Is as ShardingIs, UnknownHash, Wrong as NoSharding}
 use Rattle.info.specs.declared.scale.Settings.TheVariants.{Are as SettingsAre, UnknownHash as NoKnownHash, Wrong as NoSettings}
-use Rattle.json.specs.members.Places.{elements, is_text, once_of, needed, three_of, lone_of, four_of}
+use Rattle.json_text.specs.members.Places.{elements, is_text, once_of, needed, three_of, lone_of, four_of}
 use Rattle.info.specs.numbers.Numbers.{natural_at, coordinate_at}
 use Rattle.info.specs.sharding_members.Words.{size_name, chunks_name, offset_name, sharding_name, type_name, preshift_name, hash_name, minishard_bits_name, shard_bits_name, index_name, data_name, type_text}
 use Rattle.info.specs.scale.Scale.{extents_of, extents_at, offset_of, offset_at_of, size_in, chunk_in, offset_by, offset_in, volume_in, typed, formed, hash_in, number_in, numbers_of, numbers_in, sharding_at, sharding_in, settings_by, settings_at}

@@ -11,12 +11,12 @@ use lib.ListN.{get_or}
 use mir.Syntax.{w8}
 use mir.Val.{Fits}
 use Rattle.refusal.proofs.Tests.{neither}
-use Rattle.json.specs.declared.members.Given.{Given}
-use Rattle.json.specs.declared.members.Given.TheVariants.{Once, Never, Twice}
+use Rattle.json_text.specs.declared.members.Given.{Given}
+use Rattle.json_text.specs.declared.members.Given.TheVariants.{Once, Never, Twice}
 use Rattle.info.specs.declared.sharding_members.HashIn.{HashIn}
 use Rattle.info.specs.declared.sharding_members.HashIn.TheVariants.{Known, Unknown, Wrong as NoHash}
 use Rattle.info.specs.declared.sharding_members.ShardingIn.TheVariants.{Is as ShardingIs, UnknownHash, Wrong as NoSharding}
-use Rattle.json.specs.members.Places.{is_text}
+use Rattle.json_text.specs.members.Places.{is_text}
 use Rattle.info.specs.sharding_members.Words.{raw_text, identity_text, murmur_text}
 use Rattle.info.specs.sharding_members.Values.{raw_by, hash_at, hashed_by, sharding_of}
 

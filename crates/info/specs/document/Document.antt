@@ -1,11 +1,11 @@
 -- What a JSON text says, apart from how it is written: no white space, escapes undone, and a number as far as the settings use it.
 use Rattle.std.specs.Prelude.{ℕ, zero, suc, Bool, true, false, List, [], ◌∷◌}
 use Rattle.refusal.specs.Choice.{pick}
-use Rattle.json.specs.tokens.Numbers.{FracPart, ExpPart, Numeral, int_value}
-use Rattle.json.specs.strings.Names.{eq_list}
-use Rattle.json.specs.strings.Unescaped.{string_text}
-use Rattle.json.specs.Grammar.{deepest}
-use Rattle.json.specs.Rfc.{Items, Listed, Member, ValueOf, Value, JsonText}
+use Rattle.json_text.specs.tokens.Numbers.{FracPart, ExpPart, Numeral, int_value}
+use Rattle.json_text.specs.strings.Names.{eq_list}
+use Rattle.json_text.specs.strings.Unescaped.{string_text}
+use Rattle.json_text.specs.Grammar.{deepest}
+use Rattle.json_text.specs.Rfc.{Items, Listed, Member, ValueOf, Value, JsonText}
 use Rattle.info.specs.numbers.Numbers.{in32}
 use Rattle.info.specs.declared.numbers.Number.{Number}
 use Rattle.info.specs.declared.numbers.Number.TheVariants.{Wrong}

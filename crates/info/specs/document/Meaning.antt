@@ -2,9 +2,9 @@
 use Rattle.std.specs.Prelude.{ℕ, ◌≤◌, ◌≡◌, ◌↔◌, List, ◌∷◌, ◌++◌, length, take}
 use Rattle.refusal.specs.Checks.{first_number}
 use Rattle.refusal.specs.declared.Written.TheVariants.{Length}
-use Rattle.json.specs.characters.Chars.{Utf8}
-use Rattle.json.specs.Grammar.{deepest}
-use Rattle.json.specs.Rfc.{JsonText}
+use Rattle.json_text.specs.characters.Chars.{Utf8}
+use Rattle.json_text.specs.Grammar.{deepest}
+use Rattle.json_text.specs.Rfc.{JsonText}
 use Rattle.sharding.specs.Specification.{volume}
 use Rattle.card.specs.Layout.{card_bytes}
 use Rattle.card.specs.Answers.{record_checks, read_answer, write_answer, write_left}

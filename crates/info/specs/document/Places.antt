@@ -1,11 +1,11 @@
 -- What a JSON text says, as it is computed: by places in the text.
 use Rattle.std.specs.Prelude.{ℕ, zero, suc, ◌+◌, true, false, List, map, eqb}
 use Rattle.refusal.specs.Choice.{pick}
-use Rattle.json.specs.tokens.Bytes.{byte_at, is_digit}
-use Rattle.json.specs.tokens.Parts.{ws}
-use Rattle.json.specs.strings.Names.{text_at}
-use Rattle.json.specs.Grammar.{deepest}
-use Rattle.json.specs.members.Places.{elements, members, value_of}
+use Rattle.json_text.specs.tokens.Bytes.{byte_at, is_digit}
+use Rattle.json_text.specs.tokens.Parts.{ws}
+use Rattle.json_text.specs.strings.Names.{text_at}
+use Rattle.json_text.specs.Grammar.{deepest}
+use Rattle.json_text.specs.members.Places.{elements, members, value_of}
 use Rattle.info.specs.numbers.Numbers.{whole_from}
 use Rattle.info.specs.document.Document.{DocumentOf, Document}
 use Rattle.info.specs.document.Document.DocumentOf.{word, number, string, array, object}

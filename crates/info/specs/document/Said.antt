@@ -1,7 +1,7 @@
 -- The settings that a document says: what a reader believes of an info file (order 1; sources 000 and 002).
 use Rattle.std.specs.Prelude.{ℕ, Bool, true, false, ◌&&◌, List, eqb}
 use Rattle.refusal.specs.Choice.{pick}
-use Rattle.json.specs.strings.Names.{eq_list}
+use Rattle.json_text.specs.strings.Names.{eq_list}
 use Rattle.card.specs.Reading.{zeros}
 use Rattle.info.specs.numbers.Numbers.{when_is, above_of, below_of}
 use Rattle.info.specs.declared.numbers.Number.{Number}

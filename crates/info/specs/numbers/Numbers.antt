@@ -1,8 +1,8 @@
 -- Numbers of a JSON text that the settings use: "whole and written without fraction or exponent".
 use Rattle.std.specs.Prelude.{ℕ, zero, suc, ◌+◌, ◌-◌, ◌*◌, ◌^◌, Bool, ◌||◌, List, [], ◌∷◌, ltb, eqb, ℤ, pos, negsuc, drop}
 use Rattle.refusal.specs.Choice.{pick}
-use Rattle.json.specs.tokens.Bytes.{byte_at, is_digit}
-use Rattle.json.specs.tokens.Parts.{digits}
+use Rattle.json_text.specs.tokens.Bytes.{byte_at, is_digit}
+use Rattle.json_text.specs.tokens.Parts.{digits}
 use Rattle.card.specs.fields.Twos.{bits32}
 use Rattle.info.specs.declared.numbers.Number.{Number}
 use Rattle.info.specs.declared.numbers.Number.TheVariants.{Is, Wrong}

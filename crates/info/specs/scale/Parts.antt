@@ -1,7 +1,7 @@
 -- Parts of the settings by the members that a walk over their object found: what the functions compute on the way.
 use Rattle.std.specs.Prelude.{Bool, false, List, ℕ}
-use Rattle.json.specs.declared.members.Given.{Given}
-use Rattle.json.specs.members.Places.{elements, is_text, once_of, lone_of}
+use Rattle.json_text.specs.declared.members.Given.{Given}
+use Rattle.json_text.specs.members.Places.{elements, is_text, once_of, lone_of}
 use Rattle.info.specs.declared.numbers.Number.{Number}
 use Rattle.info.specs.declared.numbers.Number.TheVariants.{Wrong}
 use Rattle.info.specs.numbers.Numbers.{natural_at}

@@ -6,13 +6,13 @@ use Rattle.morton.specs.declared.grid.Offset.{Offset}
 use Rattle.morton.specs.declared.grid.Volume.{Volume}
 use Rattle.card.specs.fields.Twos.{signed32}
 use Rattle.card.specs.Reading.{zeros}
-use Rattle.json.specs.declared.tokens.Found.{Found}
-use Rattle.json.specs.declared.tokens.Found.TheVariants.{At, Nothing}
-use Rattle.json.specs.declared.members.Given.{Given}
-use Rattle.json.specs.declared.members.Given.TheVariants.{Once, Never, Twice}
-use Rattle.json.specs.declared.members.Three.{Three}
-use Rattle.json.specs.declared.members.Threes.{Threes}
-use Rattle.json.specs.declared.members.Threes.TheVariants.{Are as Threefold, Wrong as NotThree}
+use Rattle.json_text.specs.declared.tokens.Found.{Found}
+use Rattle.json_text.specs.declared.tokens.Found.TheVariants.{At, Nothing}
+use Rattle.json_text.specs.declared.members.Given.{Given}
+use Rattle.json_text.specs.declared.members.Given.TheVariants.{Once, Never, Twice}
+use Rattle.json_text.specs.declared.members.Three.{Three}
+use Rattle.json_text.specs.declared.members.Threes.{Threes}
+use Rattle.json_text.specs.declared.members.Threes.TheVariants.{Are as Threefold, Wrong as NotThree}
 use Rattle.info.specs.declared.numbers.Number.{Number}
 use Rattle.info.specs.declared.numbers.Number.TheVariants.{Wrong}
 use Rattle.info.specs.declared.scale.ExtentsIn.{ExtentsIn}
@@ -27,7 +27,7 @@ use Rattle.info.specs.declared.sharding_members.ShardingIn.{ShardingIn}
 use Rattle.info.specs.declared.sharding_members.ShardingIn.TheVariants.{Is as ShardingIs, UnknownHash, Wrong as NoSharding}
 use Rattle.info.specs.declared.scale.Settings.{Settings}
 use Rattle.info.specs.declared.scale.Settings.TheVariants.{Are as SettingsAre, UnknownHash as NoKnownHash, Wrong as NoSettings}
-use Rattle.json.specs.members.Places.{elements, is_text, member, needed, three_of, lone_of}
+use Rattle.json_text.specs.members.Places.{elements, is_text, member, needed, three_of, lone_of}
 use Rattle.info.specs.numbers.Numbers.{when_is, natural_at, coordinate_at}
 use Rattle.info.specs.sharding_members.Words.{size_name, chunks_name, offset_name, sharding_name, type_name, preshift_name, hash_name, minishard_bits_name, shard_bits_name, index_name, data_name, type_text}
 use Rattle.info.specs.sharding_members.Values.{raw_by, hash_at, sharding_of}

@@ -1,15 +1,15 @@
 -- Single values of a sharding in an info file: an encoding, a hash, four numbers (order 1).
 use Rattle.std.specs.Prelude.{ℕ, Bool, true, false, ◌||◌, List, leb, eqb}
 use Rattle.refusal.specs.Choice.{pick}
-use Rattle.json.specs.tokens.Bytes.{byte_at}
+use Rattle.json_text.specs.tokens.Bytes.{byte_at}
 use Rattle.sharding.specs.Specification.{volume}
-use Rattle.json.specs.declared.members.Given.{Given}
-use Rattle.json.specs.declared.members.Given.TheVariants.{Once, Never, Twice}
+use Rattle.json_text.specs.declared.members.Given.{Given}
+use Rattle.json_text.specs.declared.members.Given.TheVariants.{Once, Never, Twice}
 use Rattle.info.specs.declared.sharding_members.HashIn.{HashIn}
 use Rattle.info.specs.declared.sharding_members.HashIn.TheVariants.{Known, Unknown, Wrong as NoHash}
 use Rattle.info.specs.declared.sharding_members.ShardingIn.{ShardingIn}
 use Rattle.info.specs.declared.sharding_members.ShardingIn.TheVariants.{Is as ShardingIs, UnknownHash, Wrong as NoSharding}
-use Rattle.json.specs.members.Places.{is_text}
+use Rattle.json_text.specs.members.Places.{is_text}
 use Rattle.info.specs.sharding_members.Words.{raw_text, identity_text, murmur_text}
 
 -- "an index or data encoding other than raw" is refused; "If not specified, equivalent to "raw"."
