@@ -1,4 +1,6 @@
 // A map with a bit for each position, in words of 64 bits.
+#![tactic(auto)]
+
 pub mod visited;
 pub mod window;
 

@@ -1,5 +1,7 @@
 // The deposit card: what an archive's volume is and how its chunks are sharded, in 46 or 61 bytes,
 // of a mesh in 50 or 65.
+#![tactic(auto)]
+
 pub mod field_writing;
 pub mod fields;
 pub mod form;

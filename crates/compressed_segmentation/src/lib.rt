@@ -1,4 +1,6 @@
 // Labels inside a chunk, in the compressed segmentation encoding: the label of a voxel, a whole chunk unpacked.
+#![tactic(auto)]
+
 pub mod block;
 pub mod label_rows;
 pub mod label_runs;

@@ -1,4 +1,6 @@
 // The C interface. Each exported function hands its arguments to the library and carries the whole answer in its contract.
+#![tactic(auto)]
+
 mod answers;
 pub mod cards;
 pub mod cells;

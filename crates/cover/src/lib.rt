@@ -1,4 +1,6 @@
 // Which chunks cover a box of voxels.
+#![tactic(auto)]
+
 pub mod descent;
 pub mod halves;
 mod marked_count;

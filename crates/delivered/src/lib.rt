@@ -1,1 +1,3 @@
 // What an intake makes of what is delivered to it: statements, no function.
+
+#![tactic(auto)]

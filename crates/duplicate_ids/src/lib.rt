@@ -1,5 +1,7 @@
 // An id that stands twice in a minishard: none where the ids rise; else, up to 2^16 entries, a look through a filter, and passes
 // over the row where there are more or the filter tells too little.
+#![tactic(auto)]
+
 pub mod filter;
 pub mod heapsort;
 pub mod ids;

@@ -50,5 +50,5 @@ unfolding row
 holds_row [] i f h l = absurd (not-suc-le-zero l)
 holds_row (n ∷ ns) zero f h l =
     holds-le_at 8 0 h (omega (arith, length-append (le 8 n) (row ns), length-le 8 n)) ∙ le_at-le 8 n (row ns) f.0
-holds_row {d} (n ∷ ns) (suc i) f h l =
-    ap (le_at 8 d) (omega (arith, length-le 8 n)) ∙ holds_row ns i f.1 (holds_right (le 8 n) h) (omega arith)
+holds_row {d = d} {p = p} (n ∷ ns) (suc i) f h l =
+    ap (le_at 8 d) (omega (arith, length-le 8 n)) ∙ holds_row {p = p + length (le 8 n)} ns i f.1 (holds_right (le 8 n) h) (omega arith)

@@ -1,5 +1,5 @@
 -- A loop that writes f of each element of a list: what is left to write, written over what stands there now, gives what is to stand there in the end.
-use Prim.Native.Nat.{ℕ, suc, ◌+◌, ◌≤◌, ◌<◌}
+use Prim.Native.Nat.{ℕ, zero, suc, ◌+◌, ◌≤◌, ◌<◌}
 use mathlib.Core.Path.{◌≡◌, sym, ap, ◌∙◌}
 use mathlib.Core.List.{List, [], ◌∷◌, map}
 use native.Mathlib.Omega.{arith}
@@ -11,6 +11,7 @@ use Rattle.endian.proofs.Paste.{paste-nil, paste-cons}
 pub drop_all : {A : Type 0} (l : List A) (i : ℕ) → length l ≤ i → drop i l ≡ []
 drop_all [] i h = drop-nil i
 drop_all (x ∷ l) (suc i) h = drop_all l i (omega arith)
+drop_all {A = A} (x ∷ l) zero h = elim h [ ]
 
 module _ {A : Type 0} (f : A → ℕ) (xs : List A) (i : ℕ) (d : List ℕ) {e : List ℕ} (h : paste i (map f (drop i xs)) d ≡ e) where
   -- x is the element at i, v what is written for it

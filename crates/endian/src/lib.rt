@@ -1,4 +1,6 @@
 // Little-endian numbers at places of byte slices that the caller has tested: readers, writers, copies.
+#![tactic(auto)]
+
 pub mod copying;
 
 ghost use Rattle.std.specs.Prelude.{◌≡◌, [], ◌∷◌, ◌+◌, ◌%◌, ◌<◌, ◌≤◌, length};

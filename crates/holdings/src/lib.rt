@@ -1,4 +1,6 @@
 // The yearly holdings sheet: shards sound, shards refused for each number, and what the sound ones hold.
+#![tactic(auto)]
+
 mod adding;
 pub mod chunk_sums;
 pub mod measures;

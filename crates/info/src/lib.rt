@@ -1,4 +1,6 @@
 // Reading the settings of a volume from the text of its info file.
+#![tactic(auto)]
+
 pub mod document;
 pub mod numbers;
 pub mod scale;

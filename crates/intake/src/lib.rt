@@ -1,4 +1,6 @@
 // Intake from the scanner: a new volume shard, written in its settled form while its chunks come in parts.
+#![tactic(auto)]
+
 pub mod admission;
 pub mod call_tests;
 pub mod numbers;

@@ -1,4 +1,6 @@
 // JSON text (RFC 8259): where its values end, to a depth.
+#![tactic(auto)]
+
 pub mod characters;
 pub mod members;
 pub mod strings;

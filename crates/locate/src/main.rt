@@ -1,5 +1,7 @@
 // Reads a deposit card and then cells from standard input, and prints where each cell's chunk is stored: its key, the
 // shard's file and the minishard.
+#![tactic(auto)]
+
 pub mod lines;
 pub mod text;
 

@@ -1,4 +1,6 @@
 // One question of a judged minishard: the chunk of an id, a node's fragment, a listing; also by ranges of a file that is not in memory.
+#![tactic(auto)]
+
 pub mod chosen_minishard;
 pub mod entries;
 pub mod fragments;

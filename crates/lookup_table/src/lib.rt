@@ -1,5 +1,7 @@
 // A minishard index of a volume judged once: `fill_table` writes a table of its entries into lent memory, in which
 // `find_in_table` then finds ids.
+#![tactic(auto)]
+
 pub mod filling;
 pub mod finding;
 pub mod sorting;

@@ -1,4 +1,6 @@
 // The manifest of a multi-resolution mesh: its check, its header and fields, its nodes and their corners.
+#![tactic(auto)]
+
 pub mod corners;
 mod field_kinds;
 pub mod fragment_sums;

@@ -1,4 +1,6 @@
 // Volumes, their grids, the key of each cell and the cell of each key: by the steps, and by a table for many cells.
+#![tactic(auto)]
+
 pub mod axis;
 pub mod batch;
 pub mod bounds;

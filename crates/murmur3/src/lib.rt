@@ -1,5 +1,7 @@
 // MurmurHash3_x86_128 of 8 bytes with seed 0, of which the first 8 result bytes are kept.
 
+#![tactic(auto)]
+
 ghost use Rattle.std.specs.Prelude.{◌≡◌, ◌+◌, ◌*◌, ◌^◌, ◌<◌};
 ghost use Rattle.endian.specs.Little.{le_at};
 ghost use Rattle.murmur3.specs.Murmur.{add32, mul32, rotl32, fmix32, tail1, tail2, finished, murmur_hash};

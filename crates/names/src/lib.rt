@@ -1,4 +1,6 @@
 // The names of chunks and of shard files, written into lent buffers.
+#![tactic(auto)]
+
 pub mod chunks;
 pub mod digits;
 pub mod lengths;

@@ -1,4 +1,6 @@
 // The reading room's opened shard: the borrowed bytes with the specification and the shard number, opened once and asked many times.
+#![tactic(auto)]
+
 pub mod pair;
 
 ghost use Rattle.std.specs.Prelude.{◌≡◌, ◌+◌};

@@ -1,1 +1,3 @@
 // What the position of a refusal points at. No function of its own.
+
+#![tactic(auto)]

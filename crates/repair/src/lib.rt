@@ -1,4 +1,6 @@
 // Repair of a shard from two damaged copies.
+#![tactic(auto)]
+
 pub mod copies;
 pub mod form;
 pub mod same_listing;

@@ -1,4 +1,6 @@
 // Settling a shard: writing it in its settled form.
+#![tactic(auto)]
+
 pub mod answers;
 pub mod as_it_stands;
 pub mod chunk_runs;

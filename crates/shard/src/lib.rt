@@ -1,4 +1,6 @@
 // A shard: its layout, the leads of its chunks, the judge of its minishards, the whole-shard check.
+#![tactic(auto)]
+
 pub mod checking;
 pub mod faults;
 pub mod index;

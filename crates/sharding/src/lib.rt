@@ -1,4 +1,6 @@
 // The sharding specification, its limits, and the place that it gives to an id: shard and minishard.
+#![tactic(auto)]
+
 pub mod batch;
 pub mod limits;
 pub mod placement;

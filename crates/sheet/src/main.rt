@@ -1,4 +1,6 @@
 // Reads shards from standard input and prints the holdings sheet over them: docs/SHEET.md fixes the input and the lines.
+#![tactic(auto)]
+
 pub mod input_end;
 pub mod one_turn;
 

@@ -1,4 +1,6 @@
 // A shard of the earlier edition, an index file and a data file: each call answered as for the two joined.
+#![tactic(auto)]
+
 pub mod data_part;
 pub mod form;
 pub mod held_range;

@@ -1,4 +1,6 @@
 // How many bytes of a shard lie in none of its ranges.
+#![tactic(auto)]
+
 mod checked_walk;
 pub mod counting;
 pub mod ranges;

@@ -1,6 +1,8 @@
 // Prints hashed ids under murmur. A line is the preshift, the id and the hashed id, in decimal, with a space between; the
 // ids are 0, each power of two below 2^64, 2^64-1 and 32 numbers of an xorshift generator, under each of four preshifts.
 
+#![tactic(auto)]
+
 ghost use Rattle.std.specs.Prelude.{◌≡◌, ◌≤◌};
 ghost use Rattle.sharding.specs.Specification.{most_preshift};
 ghost use Rattle.sharding.specs.placement.Place.{hashed_id};
