@@ -19,13 +19,13 @@ use sharding::Sharding;
 pub use writing::write_card;
 
 #[repr(C)]
-#[derive(Drop)]
+#[derive(Clone, Copy)]
 pub struct Card {
     pub sharding: Sharding,
     pub volume: Volume,
 }
 
-#[derive(Drop)]
+#[derive(Clone, Copy)]
 pub enum CardAnswer {
     Says(Card),
     Refused(u8),

@@ -19,7 +19,7 @@ pub use unpacking::{unpack, unpacked_length};
 pub use voxel::label_of;
 
 // How a chunk's labels are laid out: its extents and those of a block in voxels, its channels, and whether a label has 64 bits or 32.
-#[derive(Drop)]
+#[derive(Clone, Copy)]
 pub struct Shape {
     pub extents: Extents,
     pub block: Extents,
@@ -27,7 +27,7 @@ pub struct Shape {
     pub wide: bool,
 }
 
-#[derive(Drop)]
+#[derive(Clone, Copy)]
 pub enum LabelAnswer {
     Label(u64),
     Refused(u8),

@@ -11,7 +11,7 @@ use crate::LabelAnswer;
 use endian::{read_u32, read_u64};
 
 // The number low + step * high, which may pass 64 bits.
-#[derive(Drop)]
+#[derive(Clone, Copy)]
 pub struct Far {
     pub low: u64,
     pub step: u64,
@@ -19,7 +19,7 @@ pub struct Far {
 }
 
 // A sum below a limit, or none.
-#[derive(Drop)]
+#[derive(Clone, Copy)]
 pub enum Sum {
     Below(u64),
     Past,

@@ -16,7 +16,7 @@ use sharding::Sharding;
 // volume, 1 is mesh. Any numbers; each call judges them. The fields are wider than a card's, so that
 // a greater number is not cut off: above 255 each is refused with 1.
 #[repr(C)]
-#[derive(Drop)]
+#[derive(Clone, Copy)]
 pub struct CSharding {
     pub preshift: u32,
     pub hash: u32,

@@ -7,20 +7,20 @@ ghost use Rattle.cover.specs.halves.Box.{BoxCorners, Beside, Misses, SplitAt, Ax
 ghost use Rattle.cover.specs.halves.Halving.{Halvable, Halved, CutBox};
 
 // A half of what the higher bits leave of the grid: its first key, and whether no key of the box is in it.
-#[derive(Drop)]
+#[derive(Clone, Copy)]
 pub struct Half {
     pub first: u64,
     pub misses: bool,
 }
 
-#[derive(Drop)]
+#[derive(Clone, Copy)]
 pub struct Halves {
     pub lower: Half,
     pub upper: Half,
 }
 
 // Of a box with cells in both halves, the last key in the lower half and the first one in the upper half.
-#[derive(Drop)]
+#[derive(Clone, Copy)]
 pub struct Cut {
     pub last: u64,
     pub first: u64,

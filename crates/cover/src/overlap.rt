@@ -2,7 +2,7 @@
 pub mod spans;
 
 // Along one axis: 2 to the bits cells, of which those from `from` up to `to` are marked.
-#[derive(Drop)]
+#[derive(Clone, Copy)]
 pub struct Along {
     pub bits: u32,
     pub from: u32,
@@ -10,7 +10,7 @@ pub struct Along {
 }
 
 // The same along each axis of a grid.
-#[derive(Drop)]
+#[derive(Clone, Copy)]
 pub struct Part {
     pub x: Along,
     pub y: Along,

@@ -35,7 +35,7 @@ fn note(words: &mut [u64], x: u64) -> bool
 }
 
 // What a look through the filter tells: the answer, if it is sure; else `at` tells nothing.
-#[derive(Drop)]
+#[derive(Clone, Copy)]
 pub struct Told {
     pub at: usize,
     pub sure: bool,

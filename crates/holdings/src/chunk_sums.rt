@@ -57,7 +57,7 @@ fn sizes_in(index: &[u8], data: &[u8], m: u64) -> u64
 }
 
 // A sum, or that it passes 2^64 - 1. That of one minishard can't, but minishard indexes may share bytes.
-#[derive(Drop)]
+#[derive(Clone, Copy)]
 pub struct Total {
     pub passed: bool,
     pub sum: u64,

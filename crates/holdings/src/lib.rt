@@ -17,7 +17,7 @@ pub use measures::{measure, measure_pair};
 use sharding::Sharding;
 
 // The new sheet, or 27.
-#[derive(Drop)]
+#[derive(Clone, Copy)]
 pub enum SheetAnswer {
     Total(Sheet),
     Refused(u8),

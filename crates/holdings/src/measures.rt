@@ -10,7 +10,7 @@ use sharding::Sharding;
 
 // Of a sound shard: how many chunks it lists, the sum of their sizes, how many bytes are unlisted, and how many its settled form has,
 // 1,073,741,825 where that would pass 1 GiB.
-#[derive(Drop)]
+#[derive(Clone, Copy)]
 pub struct Counts {
     pub chunks: u64,
     pub bytes: u64,
@@ -19,7 +19,7 @@ pub struct Counts {
 }
 
 // The measure, or the refusal: as the check gives it, or 27.
-#[derive(Drop)]
+#[derive(Clone, Copy)]
 pub enum MeasureAnswer {
     Sound(Counts),
     Refused(u8),

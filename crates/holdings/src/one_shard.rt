@@ -7,7 +7,7 @@ use crate::measures::Counts;
 
 // Plain numbers: how many shards were sound, how many were refused with each number that the check gives, and over the sound ones the
 // chunks listed, the sum of their sizes and the unlisted bytes. An empty sheet has 0 in each row.
-#[derive(Drop)]
+#[derive(Clone, Copy)]
 pub struct Sheet {
     pub sound: u64,
     pub refused1: u64,

@@ -5,7 +5,7 @@ ghost use Rattle.json_text.specs.tokens.Bytes.{is_digit};
 ghost use Rattle.info.specs.numbers.Numbers.{goes_on_of, digits_from_of, whole_from, natural_at, above_of, below_of, coordinate_at};
 
 // A whole number of 32 bits, if one is written there.
-#[derive(Drop)]
+#[derive(Clone, Copy)]
 pub enum Number {
     Is(u32),
     Wrong,

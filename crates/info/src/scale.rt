@@ -12,25 +12,25 @@ use json_text::tokens::Found;
 use morton::grid::{Extents, Offset, Volume};
 
 // Parts of the settings, if the text has them.
-#[derive(Drop)]
+#[derive(Clone, Copy)]
 pub enum ExtentsIn {
     Are(Extents),
     Wrong,
 }
 
-#[derive(Drop)]
+#[derive(Clone, Copy)]
 pub enum OffsetIn {
     Is(Offset),
     Wrong,
 }
 
-#[derive(Drop)]
+#[derive(Clone, Copy)]
 pub enum VolumeIn {
     Is(Volume),
     Wrong,
 }
 
-#[derive(Drop)]
+#[derive(Clone, Copy)]
 pub enum Settings {
     Are(Card),
     UnknownHash,

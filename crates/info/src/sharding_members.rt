@@ -7,7 +7,7 @@ use json_text::members::Given;
 use sharding::Sharding;
 
 // The hash that a text names, by its number: one that is not known is a case of its own.
-#[derive(Drop)]
+#[derive(Clone, Copy)]
 pub enum HashIn {
     Known(u8),
     Unknown,
@@ -15,7 +15,7 @@ pub enum HashIn {
 }
 
 // The sharding, if the numbers are those of one and its hash is known.
-#[derive(Drop)]
+#[derive(Clone, Copy)]
 pub enum ShardingIn {
     Is(Sharding),
     UnknownHash,

@@ -21,14 +21,14 @@ pub use numbers::{numbers_of, state_of};
 use sharding::Sharding;
 
 // What a call answers: the state for the next one, or the refusal, which changes neither the state nor a buffer.
-#[derive(Drop)]
+#[derive(Clone, Copy)]
 pub enum IntakeAnswer {
     Next(Intake),
     Refused(u8),
 }
 
 // What the close answers: the state, with which every further call is refused, and the length of the settled form.
-#[derive(Drop)]
+#[derive(Clone, Copy)]
 pub enum CloseAnswer {
     Closed { state: Intake, length: usize },
     Refused(u8),

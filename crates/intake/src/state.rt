@@ -8,7 +8,7 @@ use sharding::Sharding;
 
 // An intake between two calls. Places count from the end of the shard index. Any values; the calls judge them.
 #[repr(C)]
-#[derive(Drop)]
+#[derive(Clone, Copy)]
 pub struct Intake {
     pub spec: Sharding,
     pub shard: u64,

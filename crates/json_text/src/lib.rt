@@ -14,7 +14,7 @@ use crate::tokens::Found;
 pub use text::is_json;
 
 // Where a walk along the items of an array or object goes on: at the next item, or at the end of the whole. End(0): it has no end.
-#[derive(Drop)]
+#[derive(Clone, Copy)]
 enum Next {
     Item(usize),
     End(usize),

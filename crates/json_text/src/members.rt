@@ -8,7 +8,7 @@ ghost use Rattle.json_text.specs.members.Places.{next_element, next_member, valu
 use crate::tokens::Found;
 
 // The value of the member with a name: where it is if the object has that member once.
-#[derive(Drop)]
+#[derive(Clone, Copy)]
 pub enum Given {
     Once(usize),
     Never,
@@ -16,7 +16,7 @@ pub enum Given {
 }
 
 // The same of four names.
-#[derive(Drop)]
+#[derive(Clone, Copy)]
 pub struct Four {
     pub a: Given,
     pub b: Given,
@@ -25,14 +25,14 @@ pub struct Four {
 }
 
 // The places of an array's elements, if it has just three.
-#[derive(Drop)]
+#[derive(Clone, Copy)]
 pub struct Three {
     pub x: usize,
     pub y: usize,
     pub z: usize,
 }
 
-#[derive(Drop)]
+#[derive(Clone, Copy)]
 pub enum Threes {
     Are(Three),
     Wrong,

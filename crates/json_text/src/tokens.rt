@@ -7,7 +7,7 @@ ghost use Rattle.json_text.specs.tokens.Parts.{ws, mark_at, close_at, word_at};
 ghost use Rattle.json_text.specs.tokens.Numbers.{number_at};
 
 // A position in the text, if there is one: where a part ends, or where one begins.
-#[derive(Drop)]
+#[derive(Clone, Copy)]
 pub enum Found {
     At(usize),
     Nothing,

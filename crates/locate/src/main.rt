@@ -20,14 +20,14 @@ use libc::{STDIN_FILENO, STDOUT_FILENO};
 use morton::grid::Extents;
 
 // How many bytes of cells are told, and whether the input could be read on.
-#[derive(Drop)]
+#[derive(Clone, Copy)]
 struct Came {
     got: usize,
     readable: bool,
 }
 
 // The same, and how many bytes of text they gave.
-#[derive(Drop)]
+#[derive(Clone, Copy)]
 struct Block {
     got: usize,
     len: usize,
@@ -35,7 +35,7 @@ struct Block {
 }
 
 // What the card says, and whether it could be read.
-#[derive(Drop)]
+#[derive(Clone, Copy)]
 struct Start {
     card: CardAnswer,
     readable: bool,

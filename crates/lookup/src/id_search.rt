@@ -8,7 +8,7 @@ use endian::read_u64;
 
 // Where the bytes asked for lie in the file, and how many they are. 7 to 11, for a mesh also 15 to 17 and 21, come with the byte
 // position of what is wrong, counted from the beginning of the shard.
-#[derive(Drop)]
+#[derive(Clone, Copy)]
 pub enum LookupAnswer {
     Found { start: usize, length: usize },
     Refused(u8),

@@ -4,20 +4,20 @@ mod boxes;
 ghost use Rattle.std.specs.Prelude.{◌≡◌};
 ghost use Rattle.mesh_manifest.specs.corners.Boxes.{corners_answer};
 
-#[derive(Drop)]
+#[derive(Clone, Copy)]
 pub struct Corner {
     pub x: f32,
     pub y: f32,
     pub z: f32,
 }
 
-#[derive(Drop)]
+#[derive(Clone, Copy)]
 pub struct Corners {
     pub near: Corner,
     pub far: Corner,
 }
 
-#[derive(Drop)]
+#[derive(Clone, Copy)]
 pub enum CornersAnswer {
     Corners(Corners),
     Refused(u8),

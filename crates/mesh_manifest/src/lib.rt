@@ -24,7 +24,7 @@ pub use level::nodes_of;
 pub use nodes::node_of;
 
 // Chunk shape and grid origin.
-#[derive(Drop)]
+#[derive(Clone, Copy)]
 pub struct Header {
     pub shape_x: f32,
     pub shape_y: f32,
@@ -34,14 +34,14 @@ pub struct Header {
     pub origin_z: f32,
 }
 
-#[derive(Drop)]
+#[derive(Clone, Copy)]
 pub enum HeaderAnswer {
     Header(Header),
     Refused(u8),
 }
 
 // One 4-byte item, by its kind.
-#[derive(Drop)]
+#[derive(Clone, Copy)]
 pub enum Field {
     Real(f32),
     Whole(u32),

@@ -5,7 +5,7 @@ ghost use Rattle.std.specs.Prelude.{◌≡◌};
 ghost use Rattle.mesh_manifest.specs.nodes.Nodes.{node_answer};
 
 // A node's position, and its fragment: the bytes from start up to start + size of the fragment data.
-#[derive(Drop)]
+#[derive(Clone, Copy)]
 pub struct Node {
     pub x: u32,
     pub y: u32,
@@ -14,7 +14,7 @@ pub struct Node {
     pub size: u32,
 }
 
-#[derive(Drop)]
+#[derive(Clone, Copy)]
 pub enum NodeAnswer {
     Node(Node),
     Refused(u8),

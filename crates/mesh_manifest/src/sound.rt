@@ -6,7 +6,7 @@ ghost use Rattle.mesh_manifest.specs.sound.Verdict.{right_length};
 
 use crate::layout::{item, nodes_before};
 
-#[derive(Drop)]
+#[derive(Clone, Copy)]
 pub enum ManifestAnswer {
     Sound,
     Refused(u8),

@@ -8,7 +8,7 @@ use crate::grid::{Cell, Volume, inner};
 
 // A place in voxels.
 #[repr(C)]
-#[derive(Drop)]
+#[derive(Clone, Copy)]
 pub struct Point {
     pub x: i64,
     pub y: i64,
@@ -16,13 +16,13 @@ pub struct Point {
 }
 
 // From begin up to end, end excluded on each axis.
-#[derive(Drop)]
+#[derive(Clone, Copy)]
 pub struct Bounds {
     pub begin: Point,
     pub end: Point,
 }
 
-#[derive(Drop)]
+#[derive(Clone, Copy)]
 pub enum BoundsAnswer {
     Within(Bounds),
     Refused(u8),

@@ -6,7 +6,7 @@ pub use sizes::grid_of;
 
 // How far something reaches along each axis, in voxels or in cells.
 #[repr(C)]
-#[derive(Drop)]
+#[derive(Clone, Copy)]
 pub struct Extents {
     pub x: u32,
     pub y: u32,
@@ -15,7 +15,7 @@ pub struct Extents {
 
 // Where a volume's first voxel lies.
 #[repr(C)]
-#[derive(Drop)]
+#[derive(Clone, Copy)]
 pub struct Offset {
     pub x: i32,
     pub y: i32,
@@ -24,7 +24,7 @@ pub struct Offset {
 
 // A cell, by its coordinates in the grid.
 #[repr(C)]
-#[derive(Drop)]
+#[derive(Clone, Copy)]
 pub struct Cell {
     pub x: u32,
     pub y: u32,
@@ -33,14 +33,14 @@ pub struct Cell {
 
 // A volume: its size and its chunks' size in voxels, and where its first voxel lies.
 #[repr(C)]
-#[derive(Drop)]
+#[derive(Clone, Copy)]
 pub struct Volume {
     pub size: Extents,
     pub chunk: Extents,
     pub offset: Offset,
 }
 
-#[derive(Drop)]
+#[derive(Clone, Copy)]
 pub enum GridAnswer {
     Grid(Extents),
     Refused(u8),

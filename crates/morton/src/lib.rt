@@ -20,13 +20,13 @@ pub use keys::{cell_of, key_of};
 pub use scan::keys_of;
 pub use scan::row::row_keys;
 
-#[derive(Drop)]
+#[derive(Clone, Copy)]
 pub enum KeyAnswer {
     Key(u64),
     Refused(u8),
 }
 
-#[derive(Drop)]
+#[derive(Clone, Copy)]
 pub enum CellAnswer {
     At(Cell),
     Refused(u8),

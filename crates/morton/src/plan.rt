@@ -6,7 +6,7 @@ use crate::grid::Extents;
 
 // What the keys of a grid need, found once: how many of the first turns use all three axes, the
 // coarser grid that the later turns see, and how many bits those give.
-#[derive(Drop)]
+#[derive(Clone, Copy)]
 pub struct Plan {
     pub grid: Extents,
     pub low: u32,

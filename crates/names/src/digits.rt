@@ -8,7 +8,7 @@ ghost use Rattle.names.specs.digits.Signs.{negative, sign_parts, signed_text};
 use endian;
 
 // A number as its text has it.
-#[derive(Drop)]
+#[derive(Clone, Copy)]
 pub struct Signed {
     pub negative: bool,
     pub magnitude: u64,

@@ -11,7 +11,7 @@ pub use chunks::chunk_name;
 pub use shards::{data_name, index_name, shard_name};
 
 // A shard is one file, or in the earlier edition an index file and a data file.
-#[derive(Drop)]
+#[derive(Clone, Copy)]
 pub enum FileKind {
     Shard,
     Index,

@@ -11,7 +11,7 @@ use lookup::LookupAnswer;
 use sharding::Sharding;
 
 // The fields stand in the order in which every call takes them.
-#[derive(Drop)]
+#[derive(Clone, Copy)]
 pub struct Opened<'a> {
     pub spec: Sharding,
     pub number: u64,
@@ -57,7 +57,7 @@ pub fn part_in(spec: Sharding, number: u64, file: &[u8], id: u64) -> &[u8]
 // ---- of a mesh
 
 // A node of the manifest of an id, level and node counted from 0.
-#[derive(Drop)]
+#[derive(Clone, Copy)]
 pub struct MeshNode {
     pub id: u64,
     pub level: u32,

@@ -9,7 +9,7 @@ use lookup::LookupAnswer;
 use sharding::Sharding;
 
 // The fields stand in the order in which every call takes them.
-#[derive(Drop)]
+#[derive(Clone, Copy)]
 pub struct OpenedPair<'a> {
     pub spec: Sharding,
     pub number: u64,

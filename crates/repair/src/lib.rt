@@ -14,7 +14,7 @@ use sharding::limits::{is_allowed, shard_count};
 
 // What repair answers: the length of the settled form, or the refusal. What cannot be taken comes with the minishard, and with the byte position of
 // what is wrong there in the first copy, counted from the beginning of the shard; 32 is that both copies are sound and list different ids or bytes.
-#[derive(Drop)]
+#[derive(Clone, Copy)]
 pub enum RepairAnswer {
     Length(usize),
     Refused(u8),

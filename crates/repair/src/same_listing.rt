@@ -91,7 +91,7 @@ fn same_item(
 // ---- entries
 
 // An entry of a minishard index: its id, where its chunk starts, how long it is, and where the next counts from.
-#[derive(Drop)]
+#[derive(Clone, Copy)]
 struct Entry {
     id: u64,
     start: usize,

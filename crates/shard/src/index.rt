@@ -7,7 +7,7 @@ use endian::read_u64;
 
 // The first test that a minishard fails, with the byte position, counted from the beginning of the shard, of what fails it;
 // number 0 where it is sound.
-#[derive(Drop)]
+#[derive(Clone, Copy)]
 pub struct Fault {
     pub number: u8,
     pub position: u64,

@@ -11,7 +11,7 @@ pub mod manifests;
 pub use checking::check;
 
 // The fault of several minishards: of the first that has one.
-#[derive(Drop)]
+#[derive(Clone, Copy)]
 pub struct ShardFault {
     pub number: u8,
     pub minishard: u64,
@@ -20,7 +20,7 @@ pub struct ShardFault {
 
 // What the whole-shard check answers: 7 to 11, for a mesh also 15 to 17 and 21, come with the first faulty minishard and the byte
 // position of what is wrong there, counted from the beginning of the shard.
-#[derive(Drop)]
+#[derive(Clone, Copy)]
 pub enum CheckAnswer {
     Sound,
     Refused(u8),

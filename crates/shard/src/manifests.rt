@@ -13,7 +13,7 @@ use mesh_manifest::judge::judge;
 use mesh_manifest::nodes::inner::fragments_length;
 
 // The first test that an entry fails, and the first entry that fails it; number 0 where all pass.
-#[derive(Drop)]
+#[derive(Clone, Copy)]
 struct Failed {
     number: u8,
     entry: usize,

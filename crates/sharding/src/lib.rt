@@ -11,7 +11,7 @@ pub use placement::place_of;
 // The numbers as they stand in a card: hash 0 is identity, 1 is murmur; kind 1 is mesh, and 0 is volume, for which a card has
 // no field. Any values; the entry points judge them.
 #[repr(C)]
-#[derive(Drop)]
+#[derive(Clone, Copy)]
 pub struct Sharding {
     pub preshift: u8,
     pub hash: u8,

@@ -7,13 +7,13 @@ ghost use Rattle.sharding.specs.placement.Place.{place_answer};
 use crate::Sharding;
 use crate::limits::is_allowed;
 
-#[derive(Drop)]
+#[derive(Clone, Copy)]
 pub struct Place {
     pub shard: u64,
     pub minishard: u64,
 }
 
-#[derive(Drop)]
+#[derive(Clone, Copy)]
 pub enum PlaceAnswer {
     At(Place),
     Refused(u8),

@@ -24,7 +24,7 @@ pub const FULL: u8 = 4;
 pub const UNREADABLE: u8 = 5;
 
 // The sheet, and what comes next.
-#[derive(Drop)]
+#[derive(Clone, Copy)]
 pub struct Turn {
     pub sheet: Sheet,
     pub ending: u8,

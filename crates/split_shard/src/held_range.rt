@@ -2,7 +2,7 @@
 pub mod inner;
 
 // Which file holds a range of the joined file, where in that file, and how long it is.
-#[derive(Drop)]
+#[derive(Clone, Copy)]
 pub enum RangeAnswer {
     InIndex { start: usize, length: usize },
     InData { start: usize, length: usize },

@@ -15,7 +15,7 @@ use sharding::Sharding;
 use sharding::limits::minishard_count;
 
 // The fault of a shard, number 0 where it has none, and where the walk stands.
-#[derive(Drop)]
+#[derive(Clone, Copy)]
 pub struct Judged {
     pub number: u8,
     pub position: u64,

@@ -37,7 +37,7 @@ pub fn unlisted(spec: Sharding, index: &[u8], data: &[u8]) -> u64
 }
 
 // The fault of a shard, or where it has none, number 0, how many bytes are unlisted; 0 bytes beside a fault.
-#[derive(Drop)]
+#[derive(Clone, Copy)]
 pub struct Counted {
     pub number: u8,
     pub position: u64,

@@ -17,7 +17,7 @@ use sharding::limits::minishard_count;
 
 // Where a walk stands: behind the last range, with so many bytes in none before it, all of these before `last`. A range that
 // begins before `last` could hold some of them: the walk is then broken, and tells nothing.
-#[derive(Drop)]
+#[derive(Clone, Copy)]
 pub struct Run {
     pub to: usize,
     pub gaps: usize,

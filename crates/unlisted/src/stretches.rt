@@ -32,7 +32,7 @@ fn joined(a: u64, b: u64) -> u64
 }
 
 // The start steps of the first k chunks but the first, joined by or, and their sizes together, modulo 2^64.
-#[derive(Drop)]
+#[derive(Clone, Copy)]
 struct Sums {
     steps: u64,
     sizes: u64,
@@ -56,7 +56,7 @@ fn sums_of(data: &[u8], s: usize, n: usize, k: usize) -> Sums
 }
 
 // Whether the first k items are known to hold the bytes of one range, and where it begins and ends; else both numbers tell nothing.
-#[derive(Drop)]
+#[derive(Clone, Copy)]
 pub struct Stretch {
     pub whole: bool,
     pub from: usize,

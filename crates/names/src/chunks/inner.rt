@@ -12,7 +12,7 @@ use morton::bounds::Bounds;
 use refusal::Written;
 
 // Where a cell begins and ends on one axis.
-#[derive(Drop)]
+#[derive(Clone, Copy)]
 pub struct Span {
     pub begin: Signed,
     pub end: Signed,

@@ -1,0 +1,27 @@
+-- A level's nodes, by what the judge gave, by whether there is such a level, and by the numbers lent.
+use borrow.Author.Rules.{rules}
+use Rattle.mesh_manifest.proofs.nodes.Levels.{sound}
+use Rattle.mesh_manifest.proofs.sound.Judged.{told-sound}
+use Rattle.mesh_manifest.proofs.level.Asked.{listing}
+use Rattle.mesh_manifest.proofs.level.nodes_of.Goals as goal
+
+pub returns-then-verdict-ne0 : goal.returns-then-verdict-ne0
+returns-then-verdict-ne0 c = (search listing, search listing)
+
+pub item-levels-requires : goal.item-levels-requires
+item-levels-requires c = search (told-sound, sound)
+
+pub returns-then-l-levels : goal.returns-then-l-levels
+returns-then-l-levels c = (search listing, search listing)
+
+pub count-n-requires : goal.count-n-requires
+count-n-requires c = search (told-sound, sound)
+
+pub returns-then-out-n : goal.returns-then-out-n
+returns-then-out-n c = (search listing, search listing)
+
+pub put_level-requires : goal.put_level-requires
+put_level-requires c = (search (told-sound, sound), search rules)
+
+pub returns : goal.returns
+returns c = (search listing, search listing)

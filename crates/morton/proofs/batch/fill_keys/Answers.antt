@@ -1,0 +1,17 @@
+use Prim.Native.Nat.{◌-◌}
+use native.Mathlib.Omega.{arith}
+use borrow.Author.Rules.{rules}
+use Rattle.morton.proofs.batch.Threes.{key-next, key-last}
+use Rattle.morton.proofs.batch.fill_keys.Goals as goal
+
+pub loop-i-preserved : goal.loop-i-preserved
+loop-i-preserved c =
+    let inv = c.loop-i.invariant in (
+      search rules,
+      search rules,
+      search rules,
+      key-next _ _ _ _ inv.3 c.cell_at.ensures c.key.ensures (omega arith) (omega arith),
+    )
+
+pub returns : goal.returns
+returns c = search (key-last, rules)

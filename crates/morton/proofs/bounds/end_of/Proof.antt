@@ -1,8 +1,0 @@
--- `morton::bounds::end_of` meets its contract.
-use borrow.Author.Rules.{rules}
-use Rattle.morton.proofs.bounds.Signed.{ends}
-use Rattle.morton.proofs.bounds.end_of.Statement.{statement}
-use Rattle.morton.proofs.bounds.end_of.Tie as tie
-
-pub end_of_spec : {M : Type 1} → statement M
-end_of_spec = tie.close (tie.spec (λ c κs. search rules) (λ c κs. search rules) (λ c. search ends))

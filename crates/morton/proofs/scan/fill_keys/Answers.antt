@@ -1,0 +1,10 @@
+-- `morton::scan::fill_keys` meets its contract.
+use borrow.Author.Rules.{rules}
+use Rattle.morton.proofs.scan.Filled.{planned_keys}
+use Rattle.morton.proofs.scan.fill_keys.Goals as goal
+
+pub fill-requires : goal.fill-requires
+fill-requires c = (search rules, search rules)
+
+pub returns : goal.returns
+returns c = search planned_keys
