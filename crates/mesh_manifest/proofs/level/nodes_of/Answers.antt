@@ -6,22 +6,22 @@ use Rattle.mesh_manifest.proofs.level.Asked.{listing}
 use Rattle.mesh_manifest.proofs.level.nodes_of.Goals as goal
 
 pub returns-then-verdict-ne0 : goal.returns-then-verdict-ne0
-returns-then-verdict-ne0 c = (search listing, search listing)
+returns-then-verdict-ne0 c = record { answer = search listing; out = search listing }
 
 pub item-levels-requires : goal.item-levels-requires
 item-levels-requires c = search (told-sound, sound)
 
 pub returns-then-l-levels : goal.returns-then-l-levels
-returns-then-l-levels c = (search listing, search listing)
+returns-then-l-levels c = record { answer = search listing; out = search listing }
 
 pub count-n-requires : goal.count-n-requires
 count-n-requires c = search (told-sound, sound)
 
 pub returns-then-out-n : goal.returns-then-out-n
-returns-then-out-n c = (search listing, search listing)
+returns-then-out-n c = record { answer = search listing; out = search listing }
 
 pub put_level-requires : goal.put_level-requires
-put_level-requires c = (search (told-sound, sound), search rules)
+put_level-requires c = record { levels_value = search (told-sound, sound); n_value = search rules }
 
 pub returns : goal.returns
-returns c = (search listing, search listing)
+returns c = record { answer = search listing; out = search listing }

@@ -12,7 +12,7 @@ unfolding nan_bits
 float_from_bits-result c = tt
 
 pub returns-then-x : goal.returns-then-x
-returns-then-x c = below_inf c.args.x c.well-formed.0.1 c.if-x.true
+returns-then-x c = below_inf c.args.x c.well_formed.0.1 c.if-x.true
 
 pub returns : goal.returns
-returns c = not-below_inf c.args.x c.well-formed.0.1 c.if-x.false
+returns c = not-below_inf c.args.x c.well_formed.0.1 c.if-x.false

@@ -13,7 +13,7 @@ use Rattle.morton.proofs.scan.row.fill.Given as goal
 abbrev pub invariant-loop-x : goal.invariant-loop-x
 invariant-loop-x l =
     (l.yz ≡ 2 * spread l.plan.low l.y + 4 * spread l.plan.low l.z) × (l.yz < 6 * 2 ^ 61)
-    × (l.rest ≡ rest_key l.plan.low l.plan.grid (record { l.x = l.x; l.y = l.y; l.z = l.z })) × (l.from ≤ l.x) × (length l.keys ≡ length l.initial.keys)
+    × (l.rest ≡ rest_key l.plan.low l.plan.grid (record { x = l.x; y = l.y; z = l.z })) × (l.from ≤ l.x) × (length l.keys ≡ length l.initial.keys)
     × (paste (l.x - l.from) (map (key_of l.plan.grid) (cells_from (l.to - l.x) l.x l.y l.z)) l.keys ≡ paste 0 (map (key_of l.plan.grid) (cells_from (l.to - l.from) l.from l.y l.z)) l.initial.keys)
 
 abbrev pub decreases-loop-x : goal.decreases-loop-x
