@@ -101,8 +101,8 @@ pub holds-body : {d : List ℕ} {p : ℕ} (xs : List Item) (i : ℕ) → Holds d
 unfolding chunks_of offset
 holds-body [] i h l = absurd (not-suc-le-zero l)
 holds-body (x ∷ xs) zero h l = holds-left (chunks_of xs) (holds_right x.lead h)
-holds-body (x ∷ xs) (suc i) h l =
-    holds_move (holds-body xs i (holds_right x.body (holds_right x.lead h)) (omega arith)) (omega arith)
+holds-body {d = d} {p = p} (x ∷ xs) (suc i) h l =
+    holds_move (holds-body {p = p + length x.lead + length x.body} xs i (holds_right x.body (holds_right x.lead h)) (omega arith)) (omega arith)
 
 -- and right before it its lead
 pub holds-lead : {d : List ℕ} {p : ℕ} (xs : List Item) (i : ℕ) → Holds d p (chunks_of xs) → i < length xs
@@ -110,8 +110,8 @@ pub holds-lead : {d : List ℕ} {p : ℕ} (xs : List Item) (i : ℕ) → Holds d
 unfolding chunks_of offset
 holds-lead [] i h l = absurd (not-suc-le-zero l)
 holds-lead (x ∷ xs) zero h l = holds_move (holds-left (x.body ++ chunks_of xs) h) (omega arith)
-holds-lead (x ∷ xs) (suc i) h l =
-    holds_move (holds-lead xs i (holds_right x.body (holds_right x.lead h)) (omega arith)) (omega arith)
+holds-lead {d = d} {p = p} (x ∷ xs) (suc i) h l =
+    holds_move (holds-lead {p = p + length x.lead + length x.body} xs i (holds_right x.body (holds_right x.lead h)) (omega arith)) (omega arith)
 
 -- its lead lies before it in the minishard
 pub lead-offset : (xs : List Item) (i : ℕ) → i < length xs → length (get_or xs i no_item).lead ≤ offset xs i

@@ -34,8 +34,10 @@ returns-then-file-gt-MOST_SHARD_BYTES c =
     let at_own = at_length in
     let at-within = at_own in
     let at-allowed = at-within in
-    record { answer = answer-long _ _ _ _ at-allowed.is_allowed.ensures (ap not at-allowed.if-not-is_allowed.false) at-within.shard_count.ensures.0 at-within.if-shard_count-shard.false
-    at_own.shard_of.ensures.0 at_own.if-shard_of-shard.false at_length.index_length.ensures.0 c.if-file-gt-MOST_SHARD_BYTES.true }
+    record {
+      answer = answer-long _ _ _ _ at-allowed.is_allowed.ensures (ap not at-allowed.if-not-is_allowed.false) at-within.shard_count.ensures.0 at-within.if-shard_count-shard.false
+          at_own.shard_of.ensures.0 at_own.if-shard_of-shard.false at_length.index_length.ensures.0 c.if-file-gt-MOST_SHARD_BYTES.true;
+    }
 
 pub lookup_file-requires : goal.lookup_file-requires
 lookup_file-requires c = record { spec_value = search told-yes; spec_in_bounds = search rules }
