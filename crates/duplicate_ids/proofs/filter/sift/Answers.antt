@@ -1,7 +1,9 @@
-use Rattle.std.proofs.Common.{◌-◌, sym, refl, ⊎_elim, true≢false, arith, rules}
+use mathlib.Core.Bool.{not}
+use Rattle.std.proofs.Common.{◌-◌, ap, sym, refl, ⊎_elim, true≢false, arith, rules}
 use Rattle.duplicate_ids.proofs.ids.Ids.{sum-zero, id-sum}
 use Rattle.duplicate_ids.proofs.filter.Filters.{sift_start, sift_new, sift_vain, sift_hit, sift_end}
 use Rattle.duplicate_ids.proofs.filter.sift.Goals as goal
+use Rattle.duplicate_ids.proofs.filter.sift.Goals.{then-not-note+else-stands_before+else-vain-ge64, else-not-note}
 
 pub loop-i-init : goal.loop-i-init
 loop-i-init c = (search sum-zero, search rules, search rules, search rules, sift_start _ _)
@@ -29,9 +31,12 @@ loop-i-preserved c =
     let t = at-note.note.ensures in (
       search id-sum,
       search rules,
-      ⊎_elim (λ w. omega arith) (λ w. omega arith) c.if-not-note.branch,
+      elim c.if-not-note.branch [ then-not-note+else-stands_before+else-vain-ge64 w ↦ omega arith | else-not-note w ↦ omega arith ],
       search rules,
-      ⊎_elim (λ w. sift_vain inv e t w.1.ensures w.2.left) (λ w. sift_new inv e t w.0.left) c.if-not-note.branch,
+      elim c.if-not-note.branch [
+        | then-not-note+else-stands_before+else-vain-ge64 w ↦ sift_vain inv e t w.stands_before.ensures w.if-stands_before.false
+        | else-not-note w ↦ sift_new inv e t (ap not w.if-not-note.false)
+      ],
     )
 
 pub returns : goal.returns

@@ -1,6 +1,7 @@
 use Rattle.std.proofs.Common.{◌-◌, ⊎_elim, arith, rules}
 use Rattle.duplicate_ids.proofs.ids.Rises.{rising-start, rising-first, rising-later, rising-end, rising-all, fall_stays, fall_wraps}
 use Rattle.duplicate_ids.proofs.ids.rising.Goals as goal
+use Rattle.duplicate_ids.proofs.ids.rising.Goals.{then-i-gt0+else-step-eq0, else-i-gt0}
 
 pub loop-i-init : goal.loop-i-init
 loop-i-init c = rising-start _ _
@@ -33,7 +34,7 @@ pub loop-i-smaller : goal.loop-i-smaller
 loop-i-smaller c = omega arith
 
 pub loop-i-preserved : goal.loop-i-preserved
-loop-i-preserved c = ⊎_elim (λ w. search rising-later) (λ w. search rising-first) c.if-i-gt0.branch
+loop-i-preserved c = elim c.if-i-gt0.branch [ then-i-gt0+else-step-eq0 w ↦ search rising-later | else-i-gt0 w ↦ search rising-first ]
 
 pub returns : goal.returns
 returns c = (search rising-all, search rules, search rising-end)

@@ -6,7 +6,7 @@ use Rattle.morton.proofs.batch.Threes.{one_outside, one_inside, all_looked}
 use Rattle.morton.proofs.batch.all_inside.Goals as goal
 
 pub returns-then-not-inside : goal.returns-then-not-inside
-returns-then-not-inside c = one_outside _ c.args.cells.now _ c.cell_a(ap not t.ensures) c.inside.ensures c.loop-i.invariant (omega arith) c.if-not-inside.true
+returns-then-not-inside c = one_outside _ c.args.cells.now _ c.cell_at.ensures c.inside.ensures c.loop-i.invariant (omega arith) (ap not c.if-not-inside.true)
 
 pub loop-i-preserved : goal.loop-i-preserved
 loop-i-preserved c = one_inside _ c.args.cells.now _ c.cell_at.ensures c.inside.ensures c.loop-i.invariant (omega arith) (ap not c.if-not-inside.false)

@@ -14,7 +14,7 @@ pub overflow_add-keys-in-loop-x : goal.overflow_add-keys-in-loop-x
 overflow_add-keys-in-loop-x c = search adding
 
 pub next_rest-rest-requires : goal.next_rest-rest-requires
-next_rest-rest-requires c = (search rules, search rules)
+next_rest-rest-requires c = record { planned = search rules; rest_value = search rules }
 
 pub loop-x-preserved : goal.loop-x-preserved
 loop-x-preserved c =
