@@ -1,7 +1,0 @@
--- `card::read_card` meets its contract.
-use Rattle.card.proofs.Judged.{judging}
-use Rattle.card.proofs.read_card.Statement.{statement}
-use Rattle.card.proofs.read_card.Tie as tie
-
-pub read_card_spec : {M : Type 1} → statement M
-read_card_spec = tie.close (tie.spec (λ c κs. search judging) (λ c. search judging) (λ c κs. search judging) (λ c κs. search judging) (λ c. search judging) (λ c. search judging))

@@ -1,7 +1,0 @@
--- `card::reading::volume_in` meets its contract.
-use Rattle.card.proofs.Parsing.{parsing}
-use Rattle.card.proofs.reading.volume_in.Statement.{statement}
-use Rattle.card.proofs.reading.volume_in.Tie as tie
-
-pub volume_in_spec : {M : Type 1} → statement M
-volume_in_spec = tie.close (tie.spec (λ c κs. search parsing) (λ c κs. search parsing) (λ c κs. search parsing) (λ c. search parsing))

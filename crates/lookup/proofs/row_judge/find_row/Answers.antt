@@ -1,0 +1,44 @@
+use Rattle.std.proofs.Common.{◌-◌, false, arith}
+use Rattle.shard.proofs.index.Tally.{tally-start, tally-turn}
+use Rattle.lookup.proofs.id_search.Seek.{seek_start, seek_hit, seek_turn, seek_end}
+use Rattle.lookup.proofs.row_judge.Laws.{row-place-fits}
+use Rattle.lookup.proofs.row_judge.find_row.Goals as goal
+
+pub loop-i-init : goal.loop-i-init
+loop-i-init c = (tally-start _ _ _ _, seek_start _ _)
+
+pub overflow_add-result : goal.overflow_add-result
+overflow_add-result c = search row-place-fits
+
+-- entry i has the id: its start and size are the answer
+pub returns-then-cur-id : goal.returns-then-cur-id
+returns-then-cur-id c =
+    let at_size = c in
+    let at-start = at_size in
+    let at-id = at-start in
+    let at_test = at-id in
+    let v = at_test.loop-i.invariant in
+    seek_hit _ _ _ _ _ v.0 v.1 at_test.loop-i-test.true at-id.id_step.ensures.0 at-start.wrapping_add_u64-cur.ensures.value
+    at-start.start_step.ensures.0 at_size.wrapping_add_u64-start.ensures.value at_size.size_of-size.ensures.0 c.if-cur-id.true
+
+pub overflow_add-i : goal.overflow_add-i
+overflow_add-i c = omega arith
+
+pub loop-i-smaller : goal.loop-i-smaller
+loop-i-smaller c = omega arith
+
+-- it has another
+pub loop-i-preserved : goal.loop-i-preserved
+loop-i-preserved c =
+    let at_size = c in
+    let at-start = at_size in
+    let at-id = at-start in
+    let v = at-id.loop-i.invariant in
+    let id = at-start.wrapping_add_u64-cur.ensures.value in
+    let start = at_size.wrapping_add_u64-start.ensures.value in (
+      tally-turn v.0 (omega arith) at-id.id_step.ensures.0 id at-start.start_step.ensures.0 start at_size.size_of-size.ensures.0 c.wrapping_add_u64-at.ensures.value,
+      seek_turn v.0 _ at-id.id_step.ensures.0 id v.1 c.if-cur-id.false,
+    )
+
+pub returns : goal.returns
+returns c = search seek_end

@@ -1,0 +1,27 @@
+use Rattle.std.proofs.Common.{◌-◌}
+use Rattle.unlisted.proofs.Judging.{skipping}
+use Rattle.unlisted.proofs.checked_walk.next_some.Goals as goal
+
+pub loop-j-init : goal.loop-j-init
+loop-j-init c = search skipping
+
+pub entry_start-requires : goal.entry_start-requires
+entry_start-requires c = search skipping
+
+pub entry_end-requires : goal.entry_end-requires
+entry_end-requires c = search skipping
+
+pub returns-then-entry_start-entry_end : goal.returns-then-entry_start-entry_end
+returns-then-entry_start-entry_end c = search skipping
+
+pub overflow_add-j : goal.overflow_add-j
+overflow_add-j c = search skipping
+
+pub loop-j-smaller : goal.loop-j-smaller
+loop-j-smaller c = search skipping
+
+pub loop-j-preserved : goal.loop-j-preserved
+loop-j-preserved c = search skipping
+
+pub returns : goal.returns
+returns c = search skipping
