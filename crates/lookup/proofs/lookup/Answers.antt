@@ -1,4 +1,6 @@
 -- The lookup in a file: 1, 5, 6, then over its two parts.
+use mathlib.Core.Bool.{not}
+use mathlib.Core.Path.{ap}
 use Rattle.std.proofs.Common.{rules}
 use Rattle.refusal.proofs.Tests.{told-yes}
 use Rattle.lookup.proofs.Answers.{answer_spec, answer-shard, answer-other, answer-short, answer-long, answer_in}
@@ -32,8 +34,8 @@ returns-then-file-gt-MOST_SHARD_BYTES c =
     let at_own = at_length in
     let at-within = at_own in
     let at-allowed = at-within in
-    answer-long _ _ _ _ at-allowed.is_allowed.ensures at-allowed.if-not-is_allowed.false at-within.shard_count.ensures.0 at-within.if-shard_count-shard.false
-    at_own.shard_of.ensures.0 at_own.if-shard_of-shard.false at_length.index_length.ensures.0 c.if-file-gt-MOST_SHARD_BYTES.true
+    record { answer = answer-long _ _ _ _ at-allowed.is_allowed.ensures (ap not at-allowed.if-not-is_allowed.false) at-within.shard_count.ensures.0 at-within.if-shard_count-shard.false
+    at_own.shard_of.ensures.0 at_own.if-shard_of-shard.false at_length.index_length.ensures.0 c.if-file-gt-MOST_SHARD_BYTES.true }
 
 pub lookup_file-requires : goal.lookup_file-requires
 lookup_file-requires c = record { spec_value = search told-yes; spec_in_bounds = search rules }

@@ -9,7 +9,7 @@ pub returns-then-not-is_mesh : goal.returns-then-not-is_mesh
 returns-then-not-is_mesh c =
     let at-kind = c in
     let at-found = at-kind in
-    answer-volume _ _ _ _ _ _ at-found.lookup-found.ensures at-found.found-1.given.1 at-kind.is_mesh.ensures c.if-not-is_mesh.true
+    answer-volume _ _ _ _ _ _ at-found.lookup-found.ensures.answer at-found.in-Found.is at-kind.is_mesh.ensures c.if-not-is_mesh.true
 
 pub part_of-requires : goal.part_of-requires
 part_of-requires c = (search chunk_inside, search chunk-short)
@@ -24,14 +24,14 @@ returns-else-not-is_mesh c =
     let at_test = at_part in
     let at-kind = at_test in
     let at-found = at-kind in
-    answer-mesh _ _ _ _ _ _ at-found.lookup-found.ensures at-found.found-1.given.1 at-kind.is_mesh.ensures at_test.if-not-is_mesh.false
+    answer-mesh _ _ _ _ _ _ at-found.lookup-found.ensures.answer at-found.in-Found.is at-kind.is_mesh.ensures at_test.if-not-is_mesh.false
     at_part.part_of.ensures.0 c.fragment_in.ensures
 
 -- the lookup refuses
 pub returns-in-Refused : goal.returns-in-Refused
 returns-in-Refused c =
     let at-refused = c in
-    answer-refused _ _ _ _ _ _ at-refused.lookup-found.ensures at-refused.found-in-Refused-1.given.1
+    answer-refused _ _ _ _ _ _ at-refused.lookup-found.ensures.answer at-refused.in-Refused.is
 
 pub returns-in-Faulty : goal.returns-in-Faulty
 returns-in-Faulty c = search answer-faulty
