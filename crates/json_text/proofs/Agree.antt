@@ -13,7 +13,7 @@ use Rattle.json_text.specs.tokens.Parts.{ws, mark_at, close_at, word_at}
 use Rattle.json_text.specs.tokens.Numbers.{some_digits, int_at, unsigned_at, number_at}
 use Rattle.json_text.specs.declared.tokens.Found.{Found}
 use Rattle.json_text.specs.declared.tokens.Found.TheVariants.{At, Nothing}
-use Rattle.json_text.proofs.tokens.Laws.{if_no, if-eq, if_ne, if-case, then_at, then-case, follow-case, nowhere, is_same, not_same, to_same, to-not-same, span-on, span_stop, in_text, ws-zero}
+use Rattle.json_text.proofs.tokens.Laws.{if_no, if-eq, if_ne, if-case, then_at, then-case, follow-case, nowhere, is_same, to_same, to-not-same, span-on, span_stop, in_text, ws-zero}
 use Rattle.json_text.proofs.tokens.Numerals.{numeral_sound, numeral_complete}
 use Rattle.json_text.proofs.strings.Characters.{string-sound, string_complete, string-first}
 use Rattle.json_text.specs.Grammar.{scalar_at, items_at, list_at, member_at, value_at, ends_at, is_json}

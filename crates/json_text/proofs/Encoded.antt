@@ -1,19 +1,16 @@
 -- A JSON text is UTF-8: so a text that is not is no JSON text.
 use Prim.Native.Nat.{ℕ, zero, suc, ◌+◌, ◌<◌, ◌≤◌}
-use mathlib.Core.Path.{◌≡◌, refl, sym, ap, subst, subst⁻¹, ◌∙◌}
+use mathlib.Core.Path.{◌≡◌, refl, subst⁻¹}
 use mathlib.Core.List.{List}
-use mathlib.Core.Bool.{Bool, true, false, ◌||◌, ◌&&◌}
+use mathlib.Core.Bool.{Bool, true, false, ◌||◌}
 use native.Mathlib.Omega.{arith}
-use borrow.Author.Tests.{leb-true}
-use lib.Dec.{leb}
-use lib.ListN.{length, get_or}
+use lib.ListN.{length}
 use Rattle.refusal.proofs.Tests.{both}
-use Rattle.json_text.specs.tokens.Bytes.{choose, same, inside, is_ws, is_digit, byte_at, span}
-use Rattle.json_text.specs.tokens.Parts.{and_then, digits, word_at}
+use Rattle.json_text.specs.tokens.Bytes.{choose, same, is_ws, is_digit, byte_at}
+use Rattle.json_text.specs.tokens.Parts.{digits, word_at}
 use Rattle.json_text.specs.tokens.Numbers.{is_sign, is_e, some_digits, int_at, frac_at, sign_at, exp_at, unsigned_at, number_at}
-use Rattle.json_text.specs.declared.tokens.Found.{Found}
-use Rattle.json_text.specs.declared.tokens.Found.TheVariants.{At, Nothing}
-use Rattle.json_text.proofs.tokens.Laws.{if_yes, if_no, if-case, then-case, nowhere, is_same, in_text, span-on, span_stop, digit_zero}
+use Rattle.json_text.specs.declared.tokens.Found.TheVariants.{At}
+use Rattle.json_text.proofs.tokens.Laws.{if-case, then-case, nowhere, in_text, span-on, span_stop, digit_zero}
 use Rattle.json_text.proofs.tokens.Numerals.{numeral_complete}
 use Rattle.json_text.specs.characters.Chars.{Utf8}
 use Rattle.json_text.proofs.strings.Encoded.{encoded_both, encoded_low, encoded_step, or_case, same_low, inside-low, string_encoded}

@@ -64,7 +64,7 @@ fn next_item(s: &[u8], e: usize, close: u8) -> Next
 }
 
 // The cycle: a value, what stands in an array and in an object, and one member of an object. 0: there is none.
-#[cycle(skip_array_skip_member_skip_object_skip_value)]
+#[cycle(skippers)]
 pub fn skip_value(s: &[u8], at: usize, depth: usize) -> usize
     ensures { result ≡ end_of (value_at depth s.now at) }
 {
@@ -81,7 +81,7 @@ pub fn skip_value(s: &[u8], at: usize, depth: usize) -> usize
     end_of(skip_scalar(s, at))
 }
 
-#[cycle(skip_array_skip_member_skip_object_skip_value)]
+#[cycle(skippers)]
 fn skip_array(s: &[u8], at: usize, depth: usize) -> usize
     ensures { result ≡ end_of (list_at (value_at depth s.now) 93 s.now at) }
 {
@@ -97,7 +97,7 @@ fn skip_array(s: &[u8], at: usize, depth: usize) -> usize
     }
 }
 
-#[cycle(skip_array_skip_member_skip_object_skip_value)]
+#[cycle(skippers)]
 fn skip_object(s: &[u8], at: usize, depth: usize) -> usize
     ensures { result ≡ end_of (list_at (member_at (value_at depth s.now) s.now) 125 s.now at) }
 {
@@ -113,7 +113,7 @@ fn skip_object(s: &[u8], at: usize, depth: usize) -> usize
     }
 }
 
-#[cycle(skip_array_skip_member_skip_object_skip_value)]
+#[cycle(skippers)]
 fn skip_member(s: &[u8], at: usize, depth: usize) -> usize
     ensures { result ≡ end_of (member_at (value_at depth s.now) s.now at) }
 {

@@ -13,7 +13,7 @@ use Rattle.morton.specs.declared.grid.Cell.{Cell}
 use Rattle.morton.specs.declared.grid.Extents.{Extents}
 use Rattle.morton.specs.Key.{cell_of, key_bits_of}
 use Rattle.morton.specs.axis.Axis.{count}
-use Rattle.refusal.proofs.Tests.{both, neither}
+use Rattle.refusal.proofs.Tests.{neither}
 use Rattle.cover.specs.declared.overlap.Along.{Along}
 use Rattle.cover.specs.declared.overlap.Part.{Part}
 use Rattle.cover.specs.overlap.Cover.{keep, passing}

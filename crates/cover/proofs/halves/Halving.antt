@@ -1,10 +1,10 @@
 -- A half that holds the box, with one bit fewer: the half of it that holds the box, or both with a part of the box in each.
 use Prim.Native.Nat.{ℕ, suc, ◌+◌, ◌*◌, ◌/◌, ◌^◌, ◌≤◌, ◌<◌}
-use mathlib.Core.Path.{◌≡◌, refl, sym, ap, ◌∙◌}
+use mathlib.Core.Path.{◌≡◌, sym, ap, ◌∙◌}
 use native.Mathlib.Omega.{arith}
-use native.Mathlib.Nat.{two-pow-succ, mul_assoc, mul_comm, pow-suc, suc-mul, lt_of_not-le}
+use native.Mathlib.Nat.{two-pow-succ, mul_assoc, suc-mul, lt_of_not-le}
 use lib.Pow.{pow_mono}
-use Rattle.cover.specs.halves.Box.{BoxCorners, InHalf, SplitAt, Owns, last_below, first_above}
+use Rattle.cover.specs.halves.Box.{InHalf, SplitAt, Owns, last_below, first_above}
 use Rattle.cover.proofs.halves.Boxes.{block_of, last_mid, mid_first, low-last, first-high, last-corners, first-corners}
 
 module _ (x y z low high first bits : ℕ) (h : InHalf x y z low high first bits) where

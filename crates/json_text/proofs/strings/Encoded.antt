@@ -1,15 +1,14 @@
 -- A string is UTF-8: its characters are sequences or escapes, and escapes are ASCII.
-use Prim.Native.Nat.{ℕ, zero, suc, ◌+◌, ◌<◌, ◌≤◌}
-use mathlib.Core.Path.{◌≡◌, refl, sym, ap, subst, subst⁻¹, ◌∙◌}
+use Prim.Native.Nat.{ℕ, ◌+◌, ◌<◌}
+use mathlib.Core.Path.{◌≡◌, refl, subst⁻¹}
 use mathlib.Core.List.{List}
-use mathlib.Core.Bool.{Bool, true, false, ◌||◌, ◌&&◌}
+use mathlib.Core.Bool.{Bool, true, false, ◌||◌}
 use native.Mathlib.Omega.{arith}
 use borrow.Author.Tests.{leb-true, lt-ltb}
-use lib.Dec.{leb, ltb}
-use lib.ListN.{length, get_or}
+use lib.Dec.{leb}
 use Rattle.refusal.proofs.Tests.{both}
-use Rattle.json_text.specs.tokens.Bytes.{choose, same, under, inside, byte_at}
-use Rattle.json_text.proofs.tokens.Laws.{if_yes, is_same, to_same}
+use Rattle.json_text.specs.tokens.Bytes.{same, under, inside, byte_at}
+use Rattle.json_text.proofs.tokens.Laws.{if_yes, is_same}
 use Rattle.json_text.specs.characters.Chars.{is_hex, is_short, utf8_len, utf8_at, Utf8}
 use Rattle.json_text.specs.strings.Chars.{Char, Chars, String}
 

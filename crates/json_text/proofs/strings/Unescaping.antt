@@ -6,7 +6,7 @@ use mathlib.Core.Bool.{Bool, true, false, ◌&&◌, true≢false}
 use native.Mathlib.Omega.{arith}
 use lib.ListN.{length, take, drop}
 use Rattle.json_text.specs.tokens.Bytes.{choose, byte_at, same, inside}
-use Rattle.json_text.specs.characters.Chars.{is_hex, is_short, utf8_len, char_len, utf8_at}
+use Rattle.json_text.specs.characters.Chars.{is_short, utf8_len, char_len, utf8_at}
 use Rattle.json_text.specs.strings.Chars.{Char, Chars, String}
 use Rattle.json_text.specs.strings.Names.{unit_at, utf8, short_byte, paired, lone_unit, is_pair, unit_bytes, char_bytes, unescaped, text_at}
 use Rattle.json_text.specs.strings.Unescaped.{stands_for, all_stand, joined_units, string_text}

@@ -1,15 +1,14 @@
 -- Numbers: what is found by computing is what the rules derive.
 use Prim.Native.Nat.{ℕ, zero, suc, ◌+◌, ◌≤◌}
-use mathlib.Core.Path.{◌≡◌, refl, sym, ap, subst⁻¹, ◌∙◌}
+use mathlib.Core.Path.{◌≡◌, refl, ap, subst⁻¹, ◌∙◌}
 use mathlib.Core.List.{List}
 use mathlib.Core.Bool.{Bool, true, false}
 use native.Mathlib.Omega.{arith}
 use lib.ListN.{length}
 use Rattle.json_text.specs.tokens.Bytes.{byte_at, is_digit}
 use Rattle.json_text.specs.tokens.Parts.{digits}
-use Rattle.json_text.specs.tokens.Numbers.{some_digits, int_at, frac_at, is_e, sign_at, exp_at, unsigned_at, number_at, Digits, IntPart, FracPart, ExpPart, Numeral}
-use Rattle.json_text.specs.declared.tokens.Found.{Found}
-use Rattle.json_text.specs.declared.tokens.Found.TheVariants.{At, Nothing}
+use Rattle.json_text.specs.tokens.Numbers.{some_digits, int_at, frac_at, sign_at, exp_at, unsigned_at, number_at, Digits, IntPart, FracPart, ExpPart, Numeral}
+use Rattle.json_text.specs.declared.tokens.Found.TheVariants.{At}
 use Rattle.json_text.proofs.tokens.Laws.{if_yes, if_no, if-eq, if_ne, if-case, then_at, then-case, nowhere, is_same, not_same, in_text, digit_zero, span-on, span_stop}
 
 at-end : (P : ℕ → Type 0) (a b : ℕ) → At a ≡ At b → P a → P b

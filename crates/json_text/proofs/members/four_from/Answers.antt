@@ -1,4 +1,3 @@
-use Prim.Native.Nat.{◌-◌}
 use Rattle.json_text.proofs.members.Items.{walk_start, walk_end, walk_less, walk-on}
 use Rattle.json_text.proofs.members.four_from.Goals as goal
 

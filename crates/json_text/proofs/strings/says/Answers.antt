@@ -1,4 +1,3 @@
-use Prim.Native.Nat.{◌-◌}
 use borrow.Author.Rules.{rules}
 use Rattle.json_text.proofs.strings.Steps.{agree_start, agree_end, char_inside, agree_no, char_room, agree_room, char_less, agree_on}
 use Rattle.json_text.proofs.strings.says.Goals as goal

@@ -1,4 +1,3 @@
-use Prim.Native.Nat.{◌-◌}
 use borrow.Author.Rules.{rules}
 use Rattle.json_text.proofs.strings.Steps.{pass_none, pass_start, pass_end, pass_bad, char_room, pass_less, pass_on}
 use Rattle.json_text.proofs.tokens.Steps.{mark_room}

@@ -1,4 +1,3 @@
-use Prim.Native.Nat.{◌-◌}
 use borrow.Author.Rules.{rules}
 use Rattle.json_text.proofs.tokens.Steps.{along_start, along_fits, along_less, along_on, along_end}
 use Rattle.json_text.proofs.tokens.Laws.{digit_zero}

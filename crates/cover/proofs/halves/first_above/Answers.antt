@@ -1,0 +1,18 @@
+-- `cover::halves::first_above` meets its contract.
+use Rattle.cover.proofs.halves.Ways.{corner}
+use Rattle.cover.proofs.halves.first_above.Goals as goal
+
+pub power-top-requires : goal.power-top-requires
+power-top-requires c = search corner
+
+pub overflow_sub-result : goal.overflow_sub-result
+overflow_sub-result c = search corner
+
+pub overflow_sub-result-2 : goal.overflow_sub-result-2
+overflow_sub-result-2 c = search corner
+
+pub overflow_add-result : goal.overflow_add-result
+overflow_add-result c = search corner
+
+pub returns : goal.returns
+returns c = search corner
