@@ -43,11 +43,12 @@ module _ (spec : Sharding) (d : List ℕ) (s n : ℕ) where
   from_member : {x : Item} (i k e : ℕ) → i + k ≡ e → Member x (items_from spec d s n i k) → Stands spec d s n i e x
   unfolding items_from
   from_member i zero e q h = absurd (Memᴰ.not-nil h)
-  from_member i (suc k) e q h =
+  from_member {x = x} i (suc k) e q h =
       ⊎_elim
       (λ p. record { entry = i; from = omega arith; before = omega arith; is = sym p })
       (λ m.
-      let r = from_member (suc i) k e (omega arith) m in
+      let on : suc i + k ≡ e = omega (arith, q) in
+      let r : Stands spec d s n (suc i) e x = from_member {x = x} (suc i) k e on m in
       record { entry = r.entry; from = omega (arith, r.from); before = omega (arith, r.before); is = r.is })
       (Memᴰ.cases_cons h)
 
