@@ -23,7 +23,7 @@ use Rattle.settled_form.specs.Form.{chunks_of, chunks_length, part_length_of, pa
 use Rattle.intake.specs.waiting.Held.{pair}
 use Rattle.intake.specs.declared.state.Intake.{Intake}
 use Rattle.intake.specs.state.State.{announced_length}
-use Rattle.intake.proofs.admission.Passing.{opens, announces, closes}
+use Rattle.intake.proofs.admission.Passing.{announces, closes}
 use Rattle.intake.proofs.call_tests.Passing.{not-below}
 use Rattle.intake.specs.declared.IntakeAnswer.TheVariants.{Next}
 use Rattle.intake.specs.declared.CloseAnswer.TheVariants.{Closed}

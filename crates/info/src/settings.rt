@@ -10,7 +10,8 @@ use json_text::tokens::Found;
 fn scale_at(s: &[u8], k: u64) -> Found
     ensures { result ≡ scale_at s.now k }
 {
-    let Found::At(v) = json_text::members::needed(s, json_text::tokens::skip_ws(s, 0), b"scales") else {
+    let Found::At(v) = json_text::members::needed(s, json_text::tokens::skip_ws(s, 0), b"scales")
+    else {
         return Found::Nothing;
     };
     json_text::members::element(s, v, k)

@@ -1,33 +1,29 @@
 -- What is found by places is what the rules derive: the document of a text is that of its derivation.
 use Prim.Native.Nat.{ℕ, zero, suc, ◌+◌, ◌-◌, ◌*◌, ◌≤◌, ◌<◌}
-use mathlib.Core.Path.{◌≡◌, refl, sym, ap, ◌∙◌}
-use mathlib.Core.Bool.{Bool, true, false, ◌||◌, ◌&&◌}
+use mathlib.Core.Path.{◌≡◌, refl, ap, ◌∙◌}
+use mathlib.Core.Bool.{Bool, true, false, ◌&&◌}
 use mathlib.Core.List.{List, [], ◌∷◌, map}
 use native.Mathlib.Omega.{arith}
 use borrow.Author.Tests.{eq-eqb, ne_eqb, lt-leb}
-use lib.Dec.{eqb, leb}
-use lib.ListN.{length, get_or, drop, get_or-eq_default}
+use lib.Dec.{leb}
+use lib.ListN.{length, drop, get_or-eq_default}
 use Rattle.refusal.specs.Choice.{pick}
 use Rattle.json_text.specs.tokens.Bytes.{byte_at, same, is_ws, is_digit, inside}
 use Rattle.json_text.specs.tokens.Parts.{ws, digits}
 use Rattle.json_text.specs.tokens.Numbers.{is_e, Digits, IntPart, FracPart, ExpPart, Numeral, decimal, int_value}
-use Rattle.json_text.specs.strings.Chars.{String}
-use Rattle.json_text.specs.strings.Names.{text_at}
 use Rattle.json_text.specs.Grammar.{deepest}
 use Rattle.json_text.specs.Rfc.{Ws, Items, Listed, Member, ValueOf, Value, JsonText}
-use Rattle.json_text.specs.members.Places.{value_of, elements, members}
 use Rattle.json_text.proofs.tokens.Laws.{is_same, digit_zero}
-use Rattle.json_text.proofs.tokens.Numerals.{digits-end, digits-first, digits_stop, numeral_complete}
+use Rattle.json_text.proofs.tokens.Numerals.{digits-end, digits-first, numeral_complete}
 use Rattle.json_text.proofs.strings.Characters.{string-first}
 use Rattle.json_text.proofs.strings.Encoded.{or_case}
 use Rattle.json_text.proofs.strings.Unescaping.{text-own}
 use Rattle.json_text.proofs.Agree.{word_first, number-first, opens-ws, value-opens, ws-max}
 use Rattle.json_text.proofs.members.Own.{item_places, places, value_place, elements-own, members-own, value-own}
 use Rattle.info.specs.numbers.Numbers.{decimal_on, decimal_at, goes_on_of, in32, digits_from_of, whole_from}
-use Rattle.info.specs.declared.numbers.Number.{Number}
 use Rattle.info.specs.declared.numbers.Number.TheVariants.{Wrong}
-use Rattle.info.specs.document.Document.{Entry, DocumentOf, Document, whole_by, numeral_says, items_say, list_says, member_says, value_says, document}
-use Rattle.info.specs.document.Document.DocumentOf.{word, number, string, array, object}
+use Rattle.info.specs.document.Document.{Document, whole_by, numeral_says, items_say, list_says, member_says, value_says, document}
+use Rattle.info.specs.document.Document.DocumentOf.{word, string, array, object}
 use Rattle.info.proofs.numbers.Numbering.{decimal-on, decimal_stop}
 use Rattle.info.specs.document.Places.{said_number_at, document_at, document_found}
 use Rattle.info.proofs.document.Reading.{entry, at_quote, at_square, at_curly, at_plain, digit_no}

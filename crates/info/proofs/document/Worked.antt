@@ -1,5 +1,4 @@
 -- The worked cases.
-use Prim.Native.Nat.{ℕ}
 use mathlib.Core.Path.{◌≡◌, refl, ◌∙◌}
 use mathlib.Core.List.{List, [], ◌∷◌, map}
 use Rattle.refusal.specs.Checks.{first_number, unless}
