@@ -1,11 +1,10 @@
 -- C's five numbers and the specification that they are: which numbers are refused, and that the others are the caller's own.
-use Prim.Native.Nat.{ℕ, ◌<◌, min}
+use Prim.Native.Nat.{ℕ, ◌<◌}
 use mathlib.Core.Path.{◌≡◌, refl}
 use mathlib.Core.Bool.{Bool, true, false}
 use mathlib.Core.Logic.{◌⊎◌, ⊎_elim}
 use native.Mathlib.Omega.{arith}
 use borrow.Author.Rules.{rules}
-use Rattle.sharding.specs.declared.Sharding.{Sharding}
 use Rattle.sharding.specs.Specification.{allowed, Within}
 use Rattle.sharding.proofs.Allowed.{allowed-within}
 use Rattle.intake.specs.numbers.Numbers.{narrow}

@@ -1,7 +1,6 @@
 -- What repair of two parts each answers and leaves, by the way that it is reached.
 use Rattle.std.proofs.Common.{◌≡◌, ℕ, ◌<◌, ◌≤◌, Bool, true, false, List, [], ◌∷◌, length, sym, refl, ap, ◌∙◌, arith, rules}
 use Rattle.refusal.specs.Choice.{pick}
-use Rattle.refusal.specs.Checks.{unless, answered, left}
 use Rattle.refusal.specs.Buffer.{over}
 use Rattle.refusal.proofs.Picks.{by_picks}
 use Rattle.sharding.specs.declared.Sharding.{Sharding}
@@ -14,8 +13,7 @@ use Rattle.shard.proofs.Numbers.{unless-some, unless-none}
 use Rattle.settle.specs.answers.Answers.{too_long}
 use Rattle.settle.proofs.answers.Answered.{long_out, long-file, not-long}
 use Rattle.repair.specs.form.Chosen.{repaired_form, repaired_length}
-use Rattle.repair.specs.form.Choosing.{Pair, SoundInOne, SoundInOneEach}
-use Rattle.repair.specs.declared.RepairAnswer.{RepairAnswer}
+use Rattle.repair.specs.form.Choosing.{Pair, SoundInOneEach}
 use Rattle.repair.specs.declared.RepairAnswer.TheVariants.{Length, Refused, Faulty}
 use Rattle.repair.specs.Trouble.{trouble_of, first_trouble}
 use Rattle.repair.specs.Repair.{length_check, repair_in, left_in}

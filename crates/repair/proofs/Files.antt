@@ -2,7 +2,6 @@
 use Rattle.std.proofs.Common.{◌≡◌, ℕ, ◌<◌, ◌≤◌, Bool, true, false, not, ◌&&◌, ltb, List, [], ◌∷◌, length, take, sym, refl, ap, ◌∙◌, arith, rules, ltb-false, le-ltb, le-leb}
 use borrow.Author.Tests.{lt-leb}
 use Rattle.refusal.specs.Choice.{pick}
-use Rattle.refusal.specs.Checks.{answered, left}
 use Rattle.refusal.proofs.Picks.{by_picks}
 use Rattle.refusal.proofs.Tests.{told-no, told-yes, neither}
 use Rattle.sharding.specs.declared.Sharding.{Sharding}
@@ -12,7 +11,7 @@ use Rattle.shard.specs.File.{index_length_of, index_part, data_part, bad_file_le
 use Rattle.shard.proofs.Split.{rest_of, rest-whole, length-short, front-count, front-index, rest-short}
 use Rattle.repair.specs.form.Choosing.{Pair}
 use Rattle.repair.specs.declared.RepairAnswer.{RepairAnswer}
-use Rattle.repair.specs.declared.RepairAnswer.TheVariants.{Length, Refused, Faulty}
+use Rattle.repair.specs.declared.RepairAnswer.TheVariants.{Refused}
 use Rattle.repair.specs.Repair.{repair_in, left_in, repair_checks, or_other, first_index, first_data, repair_answer, repair_left}
 
 -- ---- 6

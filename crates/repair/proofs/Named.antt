@@ -1,8 +1,6 @@
 -- What a trouble says of its minishard, and that the two copies may be exchanged.
-use Rattle.std.proofs.Common.{◌≡◌, ℕ, zero, suc, ◌+◌, ◌*◌, ◌<◌, ◌≤◌, Bool, true, false, not, ◌&&◌, ◌⊎◌, List, length, sym, refl, ap, ◌∙◌, inl, inr, true≢false, arith}
+use Rattle.std.proofs.Common.{◌≡◌, ℕ, zero, suc, ◌+◌, ◌*◌, ◌<◌, ◌≤◌, Bool, true, false, ◌&&◌, ◌⊎◌, List, length, sym, refl, ap, ◌∙◌, inl, inr, true≢false, arith}
 use mathlib.Core.Bool.{and-false}
-use Rattle.refusal.specs.Checks.{unless}
-use Rattle.refusal.specs.Buffer.{over}
 use Rattle.sharding.specs.declared.Sharding.{Sharding}
 use Rattle.sharding.specs.Specification.{minishard_count_of, no_such_shard, allowed}
 use Rattle.shard.specs.declared.index.Fault.{Fault}
@@ -10,8 +8,8 @@ use Rattle.shard.specs.index.Tests.{fault}
 use Rattle.shard.specs.declared.ShardFault.{ShardFault}
 use Rattle.shard.specs.File.{bad_file_length}
 use Rattle.shard.specs.Items.{Item}
-use Rattle.shard.specs.Faults.{fault_of, first_fault}
-use Rattle.shard.proofs.Whole.{FirstFaulty, first-faulty}
+use Rattle.shard.specs.Faults.{fault_of}
+use Rattle.shard.proofs.Whole.{first-faulty}
 use Rattle.settled_form.specs.Form.{settled, settled_length}
 use Rattle.settle.specs.answers.Answers.{too_long}
 use Rattle.settle.proofs.answers.Answered.{not-long}
@@ -19,15 +17,14 @@ use Rattle.repair.specs.same_listing.Alike.{alike}
 use Rattle.repair.proofs.same_listing.Minishards.{alike_same, same_alike}
 use Rattle.repair.specs.form.Chosen.{sound_in, listed, chosen, content_by, chosen_content, repaired_form, repaired_length}
 use Rattle.repair.proofs.form.OneMinishard.{chosen-first, chosen-second}
-use Rattle.repair.specs.declared.RepairAnswer.{RepairAnswer}
 use Rattle.repair.specs.declared.RepairAnswer.TheVariants.{Length, Refused, Faulty}
 use Rattle.repair.specs.Trouble.{trouble_of, first_trouble}
-use Rattle.repair.specs.Repair.{repair_in, left_in, first_index, first_data, repair_answer, repair_left}
+use Rattle.repair.specs.Repair.{repair_in, first_index, first_data, repair_answer, repair_left}
 use Rattle.repair.specs.Statement.{Takeable, SoundInNeither, Differs, FirstBad}
 use Rattle.repair.proofs.Troubles.{no_trouble, faultless_each, each_faultless}
 use Rattle.repair.proofs.Answers.{in_trouble, in_order, left-order}
 use Rattle.repair.proofs.Files.{answer_picks}
-use Rattle.repair.proofs.Outcome.{Reached, reached-answer, reached-left, Formed, Written}
+use Rattle.repair.proofs.Outcome.{Reached, reached-answer, reached-left, Written}
 use Rattle.repair.proofs.Original.{chosen_is, untroubled}
 
 -- ---- one minishard

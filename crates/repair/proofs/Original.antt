@@ -1,14 +1,14 @@
 -- Two copies of a sound shard x that are damaged in different minishards give back the settled form of x.
-use Rattle.std.proofs.Common.{◌≡◌, ℕ, zero, suc, ◌+◌, ◌<◌, ◌≤◌, Bool, true, false, not, ◌&&◌, ◌⊎◌, List, [], ◌∷◌, length, sym, refl, ap, ◌∙◌, subst, inl, inr, ⊎_elim, true≢false, arith, pow_pos}
+use Rattle.std.proofs.Common.{◌≡◌, ℕ, zero, suc, ◌+◌, ◌<◌, ◌≤◌, Bool, true, false, ◌&&◌, ◌⊎◌, List, length, sym, refl, ap, ◌∙◌, inl, inr, ⊎_elim, true≢false, arith, pow_pos}
 use mathlib.Core.Bool.{and-false}
 use mathlib.Core.List.Memᴰ
 use borrow.Author.Tests.{lt-leb}
 use Rattle.refusal.specs.Choice.{pick}
 use Rattle.refusal.specs.Buffer.{over}
 use Rattle.sharding.specs.declared.Sharding.{Sharding}
-use Rattle.sharding.specs.Specification.{allowed, minishard_bits_of, minishard_count_of, shard_count_of, no_such_shard}
+use Rattle.sharding.specs.Specification.{minishard_bits_of, minishard_count_of, shard_count_of}
 use Rattle.shard.specs.declared.index.Fault.{Fault}
-use Rattle.shard.specs.index.Index.{entry_start_of, entry_end_of, entry_count, most_shard_bytes}
+use Rattle.shard.specs.index.Index.{entry_start_of, entry_end_of, entry_count}
 use Rattle.shard.specs.index.Tests.{fault}
 use Rattle.shard.specs.declared.ShardFault.{ShardFault}
 use Rattle.shard.specs.Items.{Item}
@@ -18,20 +18,19 @@ use Rattle.shard.specs.Sound.{SoundMinishard, SoundShard}
 use Rattle.shard.proofs.Split.{length_good}
 use Rattle.settled_form.specs.Form.{settled, settled_length}
 use Rattle.settled_form.specs.Sorted.{Member}
-use Rattle.settled_form.specs.Content.{id_of, items_of, by_id, content_from, content_of, form_of, form_length, file_content, file_form, file_form_length}
+use Rattle.settled_form.specs.Content.{id_of, items_of, by_id, content_from, content_of, form_of, form_length, file_content, file_form}
 use Rattle.settled_form.proofs.Sorting.{sort_same}
 use Rattle.settled_form.proofs.Stored.{item-member, member-item}
 use Rattle.settled_form.proofs.SoundContent.{sound-listed}
 use Rattle.settled_form.proofs.Demand3.{file-form-length}
 use Rattle.settle.specs.answers.Answers.{too_long}
 use Rattle.settle.proofs.answers.Answered.{long_out, long-file, not-long}
-use Rattle.repair.specs.same_listing.Alike.{alike}
 use Rattle.repair.proofs.same_listing.Minishards.{same_alike}
 use Rattle.repair.specs.form.Chosen.{sound_in, listed, chosen, content_by, chosen_content, repaired_form, repaired_length}
 use Rattle.repair.proofs.form.OneMinishard.{sound-if, sound-only, chosen-first, chosen-second}
-use Rattle.repair.specs.declared.RepairAnswer.TheVariants.{Length, Refused, Faulty}
+use Rattle.repair.specs.declared.RepairAnswer.TheVariants.{Length, Refused}
 use Rattle.repair.specs.Trouble.{trouble_of, first_trouble}
-use Rattle.repair.specs.Repair.{repair_in, left_in, or_other, first_index, first_data, repair_answer, repair_left}
+use Rattle.repair.specs.Repair.{or_other, first_index, first_data, repair_answer, repair_left}
 use Rattle.repair.specs.Statement.{SoundAt, SameAt, CopiesOf, Gives}
 use Rattle.repair.proofs.Troubles.{each_faultless}
 use Rattle.repair.proofs.Answers.{in_order, left-order}

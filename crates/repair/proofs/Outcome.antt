@@ -1,19 +1,17 @@
 -- Repair either writes the form, or leaves the output and answers no length.
-use Rattle.std.proofs.Common.{◌≡◌, ℕ, zero, suc, ◌<◌, ◌≤◌, Bool, true, false, not, ◌&&◌, leb, ◌⊎◌, List, length, sym, refl, ap, ◌∙◌, inl, inr, arith, ltb-false}
-use borrow.Author.Tests.{not-false}
-use Rattle.refusal.specs.Choice.{pick}
+use Rattle.std.proofs.Common.{◌≡◌, ℕ, zero, suc, ◌≤◌, Bool, true, false, ◌&&◌, ◌⊎◌, List, length, sym, refl, ◌∙◌, inl, inr, arith, ltb-false}
 use Rattle.refusal.specs.Buffer.{over}
 use Rattle.refusal.proofs.Tests.{neither}
 use Rattle.sharding.specs.declared.Sharding.{Sharding}
 use Rattle.sharding.specs.Specification.{allowed, no_such_shard}
 use Rattle.shard.specs.index.Index.{most_shard_bytes}
-use Rattle.shard.specs.File.{index_part, data_part, bad_file_length}
+use Rattle.shard.specs.File.{bad_file_length}
 use Rattle.settle.specs.answers.Answers.{too_long}
 use Rattle.repair.specs.form.Chosen.{repaired_form, repaired_length}
 use Rattle.repair.specs.declared.RepairAnswer.{RepairAnswer}
 use Rattle.repair.specs.declared.RepairAnswer.TheVariants.{Length, Refused, Faulty}
 use Rattle.repair.specs.Trouble.{first_trouble}
-use Rattle.repair.specs.Repair.{repair_in, left_in, or_other, first_index, first_data, repair_answer, repair_left}
+use Rattle.repair.specs.Repair.{repair_in, left_in, first_index, first_data, repair_answer, repair_left}
 use Rattle.repair.proofs.Answers.{in_trouble, left_trouble, in_order, left-order}
 use Rattle.repair.proofs.Files.{answer_picks, left_picks}
 

@@ -1,6 +1,5 @@
 -- What repair promises holds.
-use Rattle.std.proofs.Common.{◌≡◌, ℕ, ◌<◌, ◌≤◌, ◌⊎◌, List, length, take, drop, sym, refl, ap, ◌∙◌, inl, inr, arith, length-append, length-drop, take_at, drop_at}
-use Rattle.refusal.specs.Buffer.{over}
+use Rattle.std.proofs.Common.{◌≡◌, ℕ, ◌<◌, ◌≤◌, ◌⊎◌, List, length, take, drop, sym, ap, ◌∙◌, inl, inr, arith, length-append, length-drop, take_at, drop_at}
 use Rattle.sharding.specs.declared.Sharding.{Sharding}
 use Rattle.sharding.specs.Specification.{minishard_count_of}
 use Rattle.shard.specs.declared.CheckAnswer.TheVariants.{Sound}

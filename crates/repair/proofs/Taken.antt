@@ -1,16 +1,13 @@
 -- What is taken is what a sound shard may list: its form is sound, and lists it.
-use Rattle.std.proofs.Common.{◌≡◌, ℕ, zero, suc, ◌+◌, ◌<◌, ◌≤◌, Bool, true, false, ◌&&◌, List, [], ◌∷◌, length, get_or, take, drop, sym, refl, ap, ◌∙◌, not-suc-le-zero, arith, take_at, drop_at, leb-false}
-use Rattle.refusal.specs.Choice.{pick}
-use Rattle.refusal.specs.Buffer.{over}
+use Rattle.std.proofs.Common.{◌≡◌, ℕ, zero, suc, ◌+◌, ◌<◌, ◌≤◌, Bool, true, false, List, [], length, get_or, sym, refl, ap, ◌∙◌, not-suc-le-zero, arith, leb-false}
 use Rattle.sharding.specs.declared.Sharding.{Sharding}
-use Rattle.sharding.specs.Specification.{allowed, minishard_count_of, shard_count_of, no_such_shard}
+use Rattle.sharding.specs.Specification.{allowed, minishard_count_of, no_such_shard}
 use Rattle.shard.specs.index.Index.{most_shard_bytes}
 use Rattle.shard.specs.Items.{Item}
 use Rattle.shard.specs.File.{index_part, data_part}
-use Rattle.shard.specs.Sound.{SoundMinishard, SoundShard}
-use Rattle.settled_form.specs.Form.{settled, settled_length}
-use Rattle.settled_form.specs.Sorted.{Member}
-use Rattle.settled_form.specs.Content.{id_of, items_of, by_id, file_content}
+use Rattle.shard.specs.Sound.{SoundShard}
+use Rattle.settled_form.specs.Form.{settled}
+use Rattle.settled_form.specs.Content.{id_of, by_id}
 use Rattle.settled_form.proofs.Sorting.{sort_mem, rising_sort, distinct_sort}
 use Rattle.settled_form.proofs.Measures.{length-settled}
 use Rattle.settled_form.proofs.Rows.{InForm}
@@ -18,7 +15,7 @@ use Rattle.settled_form.proofs.ReadBack.{Readable, content_back}
 use Rattle.settled_form.proofs.SoundContent.{Listed, sound-listed, items_at_lem}
 use Rattle.settled_form.proofs.FormSound.{settled-sound}
 use Rattle.repair.specs.form.Chosen.{sound_in, listed, chosen, content_by, chosen_content, repaired_form, repaired_length}
-use Rattle.repair.specs.form.Choosing.{SoundInOne, SoundInOneEach}
+use Rattle.repair.specs.form.Choosing.{SoundInOneEach}
 use Rattle.repair.proofs.form.OneMinishard.{sound-if, chosen-first, chosen-second}
 use Rattle.repair.proofs.form.AllMinishards.{length-content_by}
 

@@ -6,16 +6,15 @@ use Rattle.sharding.specs.declared.Sharding.{Sharding}
 use Rattle.sharding.specs.Specification.{allowed, minishard_count_of}
 use Rattle.shard.specs.declared.index.Fault.{Fault}
 use Rattle.shard.specs.index.Index.{most_shard_bytes}
-use Rattle.shard.specs.index.Tests.{fault, entry_place}
 use Rattle.shard.specs.declared.ShardFault.{ShardFault}
 use Rattle.shard.specs.Faults.{fault_of, no_fault, or_later, first_fault}
 use Rattle.shard.specs.File.{index_length_of}
 use Rattle.settle.specs.length.Settleable.{SettleableIn}
 use Rattle.repair.specs.same_listing.Alike.{alike}
 use Rattle.repair.specs.form.Chosen.{sound_in}
-use Rattle.repair.specs.form.Choosing.{Pair, SoundInOne, SoundInOneEach}
+use Rattle.repair.specs.form.Choosing.{Pair}
 use Rattle.repair.proofs.form.OneMinishard.{sound-if, settleable}
-use Rattle.repair.specs.Trouble.{trouble_of, first_trouble}
+use Rattle.repair.specs.Trouble.{trouble_of}
 
 -- ---- one minishard
 

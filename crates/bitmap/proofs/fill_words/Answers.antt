@@ -1,4 +1,3 @@
-use Prim.Native.Nat.{◌-◌}
 use Rattle.bitmap.proofs.Marks.{filling}
 use Rattle.bitmap.proofs.fill_words.Goals as goal
 

@@ -1,4 +1,3 @@
-use Prim.Native.Nat.{◌-◌}
 use Rattle.bitmap.proofs.Marks.{opening}
 use Rattle.bitmap.proofs.zeros_of.Goals as goal
 

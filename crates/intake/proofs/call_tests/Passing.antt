@@ -9,7 +9,7 @@ use Rattle.refusal.proofs.Tests.{neither}
 use Rattle.sharding.specs.Specification.{allowed}
 use Rattle.sharding.specs.placement.Place.{shard_of, minishard_of}
 use Rattle.intake.specs.declared.state.Intake.{Intake}
-use Rattle.intake.specs.state.State.{waits, sane, Usable}
+use Rattle.intake.specs.state.State.{sane, Usable}
 use Rattle.intake.specs.call_tests.Tests.{other_lengths, foreign, unusable, out_of_order}
 use Rattle.intake.proofs.state.Passing.{volume-allowed, sane-parts, open_below}
 

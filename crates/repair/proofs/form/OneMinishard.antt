@@ -3,7 +3,6 @@ use Rattle.std.proofs.Common.{◌≡◌, ℕ, ◌+◌, ◌*◌, ◌<◌, ◌≤�
 use Rattle.endian.specs.Place.{paste}
 use Rattle.sharding.specs.declared.Sharding.{Sharding}
 use Rattle.sharding.specs.Specification.{allowed, minishard_count_of}
-use Rattle.sharding.proofs.Allowed.{minishards-most}
 use Rattle.shard.specs.declared.index.Fault.{Fault}
 use Rattle.shard.specs.index.Index.{most_shard_bytes}
 use Rattle.shard.specs.Faults.{fault_of}

@@ -3,7 +3,7 @@ use Rattle.std.proofs.Common.{◌≡◌, ℕ, suc, ◌+◌, ◌%◌, ◌^◌, �
 use mathlib.Core.List.Memᴰ
 use borrow.Author.Tests.{not-true, not-false}
 use Rattle.sharding.specs.declared.Sharding.{Sharding}
-use Rattle.shard.specs.index.Index.{id_steps, start_steps, sizes, id_at, start_at}
+use Rattle.shard.specs.index.Index.{id_steps, start_steps, sizes}
 use Rattle.shard.proofs.index.Tally.{Tally, tally-start, tally-id, tally-place, tally-turn}
 use Rattle.shard.specs.Items.{Item, item_of, item_at, Led}
 use Rattle.settled_form.specs.Sorted.{Member}
@@ -12,7 +12,7 @@ use Rattle.settled_form.proofs.Stored.{item-member, member-item}
 use Rattle.settle.specs.minishard_length.Writing.{ReadableIndex, LeadsIn}
 use Rattle.repair.specs.same_listing.Alike.{Tells, AllIn, InStep}
 use Rattle.repair.specs.same_listing.Walk.{Walked, EntryRead}
-use Rattle.repair.proofs.same_listing.Items.{tells-yes, tells-no, tells_as}
+use Rattle.repair.proofs.same_listing.Items.{tells-yes, tells-no}
 
 -- ---- the entry that is read: its id step u, start step v and size w, the sums o and f
 

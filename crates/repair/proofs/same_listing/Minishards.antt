@@ -5,7 +5,7 @@ use borrow.Author.Tests.{not-true, not-false, eqb-false}
 use Rattle.refusal.proofs.Tests.{both}
 use Rattle.sharding.specs.declared.Sharding.{Sharding}
 use Rattle.shard.specs.index.Index.{entry_start_of, entry_end_of, entry_count}
-use Rattle.shard.specs.Items.{Item, item_at}
+use Rattle.shard.specs.Items.{Item}
 use Rattle.settled_form.specs.Sorted.{Member, sort_by}
 use Rattle.settled_form.specs.Content.{items_from, items_at, items_of, id_of, by_id}
 use Rattle.settled_form.proofs.Sorting.{mem_sort, sort_mem, sort_same}

@@ -5,8 +5,8 @@ use Rattle.sharding.specs.Specification.{allowed, minishard_count_of}
 use Rattle.shard.specs.index.Index.{most_shard_bytes}
 use Rattle.shard.specs.File.{index_length_of}
 use Rattle.shard.specs.Items.{Item}
-use Rattle.settled_form.specs.Form.{part_length_of, parts_length}
-use Rattle.repair.specs.form.Chosen.{sound_in, chosen, content_by}
+use Rattle.settled_form.specs.Form.{parts_length}
+use Rattle.repair.specs.form.Chosen.{sound_in, content_by}
 
 -- two copies that 6 does not refuse
 pub record Pair (spec : Sharding) (ia da ib db : List ℕ) : Type 0 where

@@ -7,7 +7,7 @@ use mathlib.Core.List.{List}
 use native.Mathlib.Omega.{arith}
 use lib.ListN.{length}
 use Rattle.endian.specs.Range.{sum_to, any_below}
-use Rattle.bitmap.specs.Positions.{within, misses}
+use Rattle.bitmap.specs.Positions.{misses}
 use Rattle.bitmap.proofs.Counts.{sum_head, misses-same}
 use Rattle.sharding.specs.declared.Sharding.{Sharding}
 use Rattle.sharding.specs.Specification.{minishard_count_of}

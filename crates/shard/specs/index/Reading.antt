@@ -1,5 +1,5 @@
 -- What a sound minishard gives to whoever reads its entries, once it is judged: all of them, and all of their chunks, stand in the data.
-use Rattle.std.specs.Prelude.{◌≡◌, ℕ, ◌+◌, ◌*◌, ◌<◌, ◌≤◌, List, length, ◌≢◌}
+use Rattle.std.specs.Prelude.{ℕ, ◌+◌, ◌*◌, ◌<◌, ◌≤◌, List, length, ◌≢◌}
 use Rattle.shard.specs.index.Index.{entry_start_of, entry_end_of, entry_count, start_steps, sizes, end_at, most_shard_bytes}
 
 -- the n entries at s of the data d, behind a shard index of `base` bytes

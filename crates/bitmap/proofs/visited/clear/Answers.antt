@@ -1,4 +1,3 @@
-use Prim.Native.Nat.{◌-◌}
 use native.Mathlib.Omega.{arith}
 use borrow.Author.Rules.{rules}
 use Rattle.bitmap.proofs.visited.Noted.{cleared_start, cleared_on, cleared_end, cleared_same}

@@ -1,4 +1,3 @@
-use Prim.Native.Nat.{◌-◌}
 use Rattle.bitmap.proofs.window.Windows.{tally-last, tallying}
 use Rattle.bitmap.proofs.window.open_count.Goals as goal
 

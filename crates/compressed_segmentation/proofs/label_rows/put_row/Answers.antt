@@ -1,4 +1,3 @@
-use Prim.Native.Nat.{◌-◌}
 use native.Mathlib.Omega.{arith}
 use Rattle.compressed_segmentation.proofs.label_rows.Rows.{row-some, row_room, row_on, row-start, row-place, row_done, row_same}
 use borrow.Author.Rules.{rules}

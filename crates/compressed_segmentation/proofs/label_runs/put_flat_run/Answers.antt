@@ -1,4 +1,3 @@
-use Prim.Native.Nat.{◌-◌}
 use native.Mathlib.Omega.{arith}
 use Rattle.compressed_segmentation.proofs.raw_form.Filled.{filled_start, filled_next, filled_same, filled_place, filled_end}
 use Rattle.compressed_segmentation.proofs.label_runs.Runs.{run_each, flat_in, flat_on}

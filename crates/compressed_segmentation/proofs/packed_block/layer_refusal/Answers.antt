@@ -1,4 +1,3 @@
-use Prim.Native.Nat.{◌-◌}
 use native.Mathlib.Omega.{arith}
 use Rattle.compressed_segmentation.proofs.block.Greatest.{greatest-none, greatest_still}
 use Rattle.compressed_segmentation.proofs.block.Mild.{layer_hit, layer_all}

@@ -1,4 +1,3 @@
-use Prim.Native.Nat.{◌-◌}
 use native.Mathlib.Omega.{arith}
 use Rattle.compressed_segmentation.proofs.packed_values.Packed.{per_some, width-most}
 use Rattle.compressed_segmentation.proofs.block.Greatest.{greatest-none, greatest-all}

@@ -1,5 +1,5 @@
 use mathlib.Core.Bool.{not}
-use Rattle.std.proofs.Common.{◌-◌, ap, sym, refl, ⊎_elim, true≢false, arith, rules}
+use Rattle.std.proofs.Common.{ap, sym, refl, true≢false, arith, rules}
 use Rattle.duplicate_ids.proofs.ids.Ids.{sum-zero, id-sum}
 use Rattle.duplicate_ids.proofs.filter.Filters.{sift_start, sift_new, sift_vain, sift_hit, sift_end}
 use Rattle.duplicate_ids.proofs.filter.sift.Goals as goal

@@ -1,4 +1,4 @@
-use Rattle.std.proofs.Common.{◌-◌, ⊎_elim, arith, rules}
+use Rattle.std.proofs.Common.{arith, rules}
 use Rattle.duplicate_ids.proofs.ids.Rises.{rising-start, rising-first, rising-later, rising-end, rising-all, fall_stays, fall_wraps}
 use Rattle.duplicate_ids.proofs.ids.rising.Goals as goal
 use Rattle.duplicate_ids.proofs.ids.rising.Goals.{then-i-gt0+else-step-eq0, else-i-gt0}

@@ -1,4 +1,4 @@
-use Rattle.std.proofs.Common.{◌-◌, false, rules}
+use Rattle.std.proofs.Common.{rules}
 use Rattle.endian.proofs.Ranges.{any_none}
 use Rattle.duplicate_ids.proofs.ids.Ids.{sum-zero, id-sum, any-end, stands_hit, stands-turn}
 use Rattle.duplicate_ids.proofs.ids.stands_before.Goals as goal

@@ -1,4 +1,3 @@
-use Prim.Native.Nat.{◌-◌}
 use Rattle.holdings.proofs.chunk_sums.Counting.{totalling}
 use Rattle.holdings.proofs.chunk_sums.chunk_bytes.Goals as goal
 

@@ -1,4 +1,3 @@
-use Prim.Native.Nat.{◌-◌}
 use Rattle.holdings.proofs.chunk_sums.Counting.{chunks}
 use Rattle.holdings.proofs.chunk_sums.chunk_count.Goals as goal
 

@@ -1,5 +1,3 @@
-use Prim.Native.Nat.{◌-◌}
-use Rattle.shard.specs.index.Index as index
 use Rattle.holdings.proofs.chunk_sums.Counting.{sizing}
 use Rattle.holdings.proofs.chunk_sums.sizes_sum.Goals as goal
 

@@ -1,4 +1,3 @@
-use Prim.Native.Nat.{◌-◌}
 use Rattle.holdings.proofs.totals.Passing.{adding}
 use Rattle.holdings.proofs.totals.add_rows.Goals as goal
 

@@ -1,4 +1,3 @@
-use Prim.Native.Nat.{◌-◌}
 use Rattle.intake.proofs.sanity.Sharing.{sharing}
 use Rattle.intake.proofs.sanity.pairs_could_be.Goals as goal
 

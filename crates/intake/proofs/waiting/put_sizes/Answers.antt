@@ -1,4 +1,3 @@
-use Prim.Native.Nat.{◌-◌}
 use Rattle.intake.proofs.waiting.Writing.{writing}
 use Rattle.intake.proofs.waiting.put_sizes.Goals as goal
 

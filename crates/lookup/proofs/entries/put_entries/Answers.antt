@@ -1,4 +1,4 @@
-use Rattle.std.proofs.Common.{◌-◌, refl, arith}
+use Rattle.std.proofs.Common.{refl, arith}
 use Rattle.shard.proofs.index.Tally.{tally-start, tally-place-fits, tally-turn}
 use Rattle.lookup.proofs.entries.Entries.{listing-first, listing-next, listing-last, listing-length}
 use Rattle.lookup.proofs.entries.put_entries.Goals as goal

@@ -26,8 +26,10 @@ returns-else-not-is_mesh c =
     let at_test = at_part in
     let at-kind = at_test in
     let at-found = at-kind in
-    record { answer = answer-mesh _ _ _ _ _ _ at-found.lookup-found.ensures.answer at-found.in-Found.is at-kind.is_mesh.ensures (ap not at_test.if-not-is_mesh.false)
-    at_part.part_of.ensures.result_value c.fragment_in.ensures }
+    record {
+      answer = answer-mesh _ _ _ _ _ _ at-found.lookup-found.ensures.answer at-found.in-Found.is at-kind.is_mesh.ensures (ap not at_test.if-not-is_mesh.false)
+          at_part.part_of.ensures.result_value c.fragment_in.ensures;
+    }
 
 -- the lookup refuses
 pub returns-in-Refused : goal.returns-in-Refused

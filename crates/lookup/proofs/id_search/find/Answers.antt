@@ -1,4 +1,4 @@
-use Rattle.std.proofs.Common.{◌-◌, false, arith}
+use Rattle.std.proofs.Common.{arith}
 use Rattle.shard.proofs.index.Tally.{tally-start, tally-place-fits, tally-turn}
 use Rattle.lookup.proofs.id_search.Seek.{seek_start, seek_hit, seek_turn, seek_end}
 use Rattle.lookup.proofs.id_search.find.Goals as goal

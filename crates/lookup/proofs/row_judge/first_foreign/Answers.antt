@@ -1,4 +1,4 @@
-use Rattle.std.proofs.Common.{◌-◌, arith}
+use Rattle.std.proofs.Common.{arith}
 use Rattle.shard.proofs.Walks.{walk_start, walk_end, ours-turn, ours_hit}
 use Rattle.lookup.proofs.row_judge.first_foreign.Goals as goal
 

@@ -1,4 +1,4 @@
-use Rattle.std.proofs.Common.{◌-◌, arith}
+use Rattle.std.proofs.Common.{arith}
 use Rattle.shard.proofs.Walks.{span-start, span-end, span-start-past, span-past, span-turn}
 use Rattle.lookup.proofs.row_judge.first_outside.Goals as goal
 

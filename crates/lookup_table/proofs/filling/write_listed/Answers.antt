@@ -1,4 +1,4 @@
-use Rattle.std.proofs.Common.{◌-◌, arith}
+use Rattle.std.proofs.Common.{arith}
 use Rattle.lookup_table.proofs.Listed.{writing_turn, writing}
 use Rattle.lookup_table.proofs.filling.write_listed.Goals as goal
 

@@ -1,4 +1,3 @@
-use Prim.Native.Nat.{◌-◌}
 use Rattle.mesh_manifest.proofs.sound.Sounds.{level-first, level-next, level-within}
 use Rattle.mesh_manifest.proofs.fragment_sums.Levels.{level-bytes}
 use Rattle.mesh_manifest.proofs.layout.Loops.{loops}

@@ -1,4 +1,3 @@
-use Prim.Native.Nat.{◌-◌}
 use Rattle.mesh_manifest.specs.layout.Layout.{size_at}
 use Rattle.mesh_manifest.proofs.layout.Loops.{loops}
 use Rattle.mesh_manifest.proofs.fragment_sums.sizes.Goals as goal

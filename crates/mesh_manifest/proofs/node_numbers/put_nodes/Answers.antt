@@ -1,4 +1,3 @@
-use Prim.Native.Nat.{◌-◌}
 use borrow.Author.Rules.{rules}
 use Rattle.mesh_manifest.proofs.node_numbers.Listed.{start_first, listed-first, turn-start, listed-length, turn-numbers, listed-last}
 use Rattle.mesh_manifest.proofs.node_numbers.put_nodes.Goals as goal

@@ -1,4 +1,3 @@
-use Prim.Native.Nat.{◌-◌}
 use Rattle.mesh_manifest.proofs.layout.Loops.{loops}
 use Rattle.mesh_manifest.proofs.tests.each_real_fits.Goals as goal
 

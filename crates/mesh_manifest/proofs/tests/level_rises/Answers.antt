@@ -1,4 +1,3 @@
-use Prim.Native.Nat.{◌-◌}
 use Rattle.mesh_manifest.proofs.layout.Loops.{loops}
 use Rattle.mesh_manifest.proofs.sound.Ways.{ways}
 use Rattle.mesh_manifest.proofs.tests.level_rises.Goals as goal

@@ -1,4 +1,3 @@
-use Prim.Native.Nat.{◌-◌}
 use Rattle.mesh_manifest.proofs.sound.Sounds.{level-first, level-next, level-fits}
 use Rattle.mesh_manifest.proofs.layout.Loops.{loops}
 use Rattle.mesh_manifest.proofs.sound.Ways.{rise-at, nodes_fail, nodes-done}

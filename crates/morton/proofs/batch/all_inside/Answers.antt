@@ -1,6 +1,5 @@
 use mathlib.Core.Bool.{not}
 use mathlib.Core.Path.{ap}
-use Prim.Native.Nat.{◌-◌}
 use native.Mathlib.Omega.{arith}
 use Rattle.morton.proofs.batch.Threes.{one_outside, one_inside, all_looked}
 use Rattle.morton.proofs.batch.all_inside.Goals as goal

@@ -1,5 +1,4 @@
 use borrow.Author.Rules.{rules}
-use Prim.Native.Nat.{◌-◌}
 use Rattle.morton.proofs.Turns.{read_none, read_more, read_all, x_fits, y-fits, z-fits}
 use Rattle.morton.proofs.steps.cell.Goals as goal
 

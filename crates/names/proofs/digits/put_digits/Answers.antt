@@ -1,4 +1,3 @@
-use Prim.Native.Nat.{◌-◌}
 use Rattle.names.proofs.digits.Numerals.{puts}
 use Rattle.names.proofs.digits.put_digits.Goals as goal
 

@@ -1,4 +1,3 @@
-use Rattle.std.proofs.Common.{◌-◌}
 use Rattle.repair.proofs.Troubles.{looking}
 use Rattle.repair.proofs.copies.first_trouble.Goals as goal
 

@@ -1,4 +1,3 @@
-use Rattle.std.proofs.Common.{◌-◌}
 use Rattle.repair.proofs.form.AllMinishards.{summing}
 use Rattle.repair.proofs.form.length_of_all.Goals as goal
 

@@ -1,4 +1,3 @@
-use Rattle.std.proofs.Common.{◌-◌}
 use Rattle.repair.proofs.form.AllMinishards.{writing}
 use Rattle.repair.proofs.form.repair_all.Goals as goal
 

@@ -1,4 +1,3 @@
-use Rattle.std.proofs.Common.{◌-◌}
 use Rattle.repair.proofs.same_listing.Entries.{covering}
 use Rattle.repair.proofs.same_listing.all_among.Goals as goal
 

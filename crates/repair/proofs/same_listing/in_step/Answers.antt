@@ -1,6 +1,5 @@
 use mathlib.Core.Bool.{not}
 use mathlib.Core.Path.{ap}
-use Rattle.std.proofs.Common.{◌-◌}
 use Rattle.repair.proofs.same_listing.Entries.{stepping_next, stepping}
 use Rattle.repair.proofs.same_listing.in_step.Goals as goal
 

@@ -1,4 +1,3 @@
-use Rattle.std.proofs.Common.{◌-◌}
 use Rattle.repair.proofs.same_listing.Entries.{seeking}
 use Rattle.repair.proofs.same_listing.is_among.Goals as goal
 

@@ -1,4 +1,3 @@
-use Rattle.std.proofs.Common.{◌-◌}
 use Rattle.repair.proofs.same_listing.Items.{agreeing}
 use Rattle.repair.proofs.same_listing.same_bytes.Goals as goal
 

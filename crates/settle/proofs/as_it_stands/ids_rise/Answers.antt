@@ -1,4 +1,3 @@
-use Rattle.std.proofs.Common.{◌-◌}
 use Rattle.settle.proofs.as_it_stands.Climbing.{climbing}
 use Rattle.settle.proofs.as_it_stands.ids_rise.Goals as goal
 

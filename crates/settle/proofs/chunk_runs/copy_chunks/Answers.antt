@@ -1,4 +1,4 @@
-use Rattle.std.proofs.Common.{◌-◌, arith, rules}
+use Rattle.std.proofs.Common.{arith, rules}
 use Rattle.settle.proofs.chunk_runs.StoredChunks.{inside, room_out, from-fits, to-fits, copying_next, copying}
 use Rattle.settle.proofs.chunk_runs.copy_chunks.Goals as goal
 

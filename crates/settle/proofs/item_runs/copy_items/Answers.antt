@@ -1,4 +1,4 @@
-use Rattle.std.proofs.Common.{◌-◌, arith}
+use Rattle.std.proofs.Common.{arith}
 use Rattle.settle.proofs.item_runs.Copying.{rows_inside, rows-lead, rows_out, copying_rows}
 use Rattle.settle.proofs.item_runs.copy_items.Goals as goal
 

@@ -1,4 +1,3 @@
-use Rattle.std.proofs.Common.{◌-◌}
 use Rattle.settle.proofs.length.Lengths.{summing_first, summing}
 use Rattle.settle.proofs.length.length_of_all.Goals as goal
 

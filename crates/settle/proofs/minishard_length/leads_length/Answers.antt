@@ -1,4 +1,4 @@
-use Rattle.std.proofs.Common.{◌-◌, arith, rules}
+use Rattle.std.proofs.Common.{arith, rules}
 use Rattle.settle.proofs.minishard_length.Lengths.{lead-inside, lead-led, leading}
 use Rattle.settle.proofs.minishard_length.leads_length.Goals as goal
 

@@ -1,5 +1,3 @@
-use Rattle.std.proofs.Common.{◌-◌}
-use Rattle.shard.specs.index.Index as index
 use Rattle.settle.proofs.minishard_length.Lengths.{adding}
 use Rattle.settle.proofs.minishard_length.sizes_length.Goals as goal
 

@@ -1,4 +1,4 @@
-use Rattle.std.proofs.Common.{◌-◌, arith}
+use Rattle.std.proofs.Common.{arith}
 use Rattle.settle.proofs.sorted.Filling.{fill_next, filling}
 use Rattle.settle.proofs.sorted.put_rows.Goals as goal
 

@@ -1,4 +1,3 @@
-use Rattle.std.proofs.Common.{◌-◌}
 use Rattle.settle.proofs.sorted.Stepping.{stepping}
 use Rattle.settle.proofs.sorted.put_steps.Goals as goal
 

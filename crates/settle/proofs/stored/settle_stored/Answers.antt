@@ -9,5 +9,8 @@ returns c =
     let at-starts = at-sizes in
     let at-ids = at-starts in
     let at-chunks = at-ids in
-    let chunks = at-chunks.copy_chunks-ids.ensures in record { value = search rules; out_after = part-written _ _ _ _ _ _ _ _ (search rules) (search rules) (search rules) (search rules) chunks.value chunks.out_after at-ids.copy_bytes.ensures
-          at-starts.put_starts.ensures at-sizes.copy_bytes-2.ensures }
+    let chunks = at-chunks.copy_chunks-ids.ensures in record {
+      value = search rules;
+      out_after = part-written _ _ _ _ _ _ _ _ (search rules) (search rules) (search rules) (search rules) chunks.value chunks.out_after at-ids.copy_bytes.ensures
+          at-starts.put_starts.ensures at-sizes.copy_bytes-2.ensures;
+    }

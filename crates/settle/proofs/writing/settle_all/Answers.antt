@@ -1,4 +1,3 @@
-use Rattle.std.proofs.Common.{◌-◌}
 use Rattle.settle.proofs.writing.WriteWhole.{settling}
 use Rattle.settle.proofs.writing.settle_all.Goals as goal
 

@@ -1,4 +1,4 @@
-use Rattle.std.proofs.Common.{◌-◌, refl, ◌∙◌, ⊎_elim, arith, rules}
+use Rattle.std.proofs.Common.{refl, ◌∙◌, arith, rules}
 use Rattle.shard.proofs.Split.{index_short}
 use Rattle.shard.proofs.Walks.{walk_start, walk_end, ours-turn, span-start, span-turn, span-readable}
 use Rattle.shard.proofs.Loops.{search_start, search_end, search_empty, search_next, end_before, end-past, end_ragged, end-twice, test-places, test-next, end-place, end-start, end-size, end-given}
@@ -173,12 +173,12 @@ minishards-smaller c = omega arith
 pub minishards-preserved : goal.minishards-preserved
 minishards-preserved c =
     elim c.if-s-e.branch [
-      then-s-e+else-len-e+else-e-s-ne0+else-again-n+else-places-test+else-ends-test+else-bad-ne0 w ↦
-        let v = w.ends.invariant in
-        (w.found-is ∙ v.0, search_next v.1 v.2 w.ends-test.false w.mesh_fault-bad.ensures w.if-bad-ne0.false, v.3.short, v.3.near)
+      | then-s-e+else-len-e+else-e-s-ne0+else-again-n+else-places-test+else-ends-test+else-bad-ne0 w ↦
+          let v = w.ends.invariant in
+          (w.found-is ∙ v.0, search_next v.1 v.2 w.ends-test.false w.mesh_fault-bad.ensures w.if-bad-ne0.false, v.3.short, v.3.near)
       | else-s-e w ↦
-        let v = c.minishards.invariant in
-        (w.found-is ∙ v.0, search search_empty, v.2, v.3)
+          let v = c.minishards.invariant in
+          (w.found-is ∙ v.0, search search_empty, v.2, v.3)
     ]
 
 pub returns-after-minishards : goal.returns-after-minishards

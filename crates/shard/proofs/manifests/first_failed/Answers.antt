@@ -1,4 +1,4 @@
-use Rattle.std.proofs.Common.{◌-◌, arith}
+use Rattle.std.proofs.Common.{arith}
 use Rattle.shard.proofs.manifests.Walk.{walked_start, walked_turn, walked_end, ends-inside, data_short, end_fits}
 use Rattle.shard.proofs.manifests.first_failed.Goals as goal
 

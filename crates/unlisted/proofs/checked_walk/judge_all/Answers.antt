@@ -1,4 +1,3 @@
-use Rattle.std.proofs.Common.{◌-◌}
 use Rattle.unlisted.proofs.Judging.{judging}
 use Rattle.unlisted.proofs.checked_walk.judge_all.Goals as goal
 

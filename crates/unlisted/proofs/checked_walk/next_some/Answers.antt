@@ -1,4 +1,3 @@
-use Rattle.std.proofs.Common.{◌-◌}
 use Rattle.unlisted.proofs.Judging.{skipping}
 use Rattle.unlisted.proofs.checked_walk.next_some.Goals as goal
 

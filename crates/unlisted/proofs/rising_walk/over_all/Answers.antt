@@ -1,4 +1,3 @@
-use Rattle.std.proofs.Common.{◌-◌}
 use Rattle.unlisted.proofs.rising_walk.Parts.{covering}
 use Rattle.unlisted.proofs.rising_walk.over_all.Goals as goal
 

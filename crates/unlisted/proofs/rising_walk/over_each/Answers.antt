@@ -1,4 +1,3 @@
-use Rattle.std.proofs.Common.{◌-◌}
 use Rattle.unlisted.proofs.stretches.Walk.{walk_inside, walk-led, walk-next}
 use Rattle.unlisted.proofs.rising_walk.Parts.{items_next, going}
 use Rattle.unlisted.proofs.rising_walk.over_each.Goals as goal

@@ -1,5 +1,3 @@
-use Rattle.std.proofs.Common.{◌-◌}
-use Rattle.shard.specs.index.Index as index
 use Rattle.unlisted.proofs.stretches.Stretches.{summing_first, summing_next, summing_last}
 use Rattle.unlisted.proofs.stretches.sums_of.Goals as goal
 

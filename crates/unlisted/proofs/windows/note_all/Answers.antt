@@ -1,4 +1,4 @@
-use Rattle.std.proofs.Common.{◌-◌, rules}
+use Rattle.std.proofs.Common.{rules}
 use Rattle.unlisted.proofs.windows.Noting.{covering}
 use Rattle.unlisted.proofs.windows.note_all.Goals as goal
 

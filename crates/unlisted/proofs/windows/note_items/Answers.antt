@@ -1,4 +1,4 @@
-use Rattle.std.proofs.Common.{◌-◌, rules}
+use Rattle.std.proofs.Common.{rules}
 use Rattle.unlisted.proofs.stretches.Walk.{walk_inside, walk-led, walk-next}
 use Rattle.unlisted.proofs.windows.Noting.{items_next, going}
 use Rattle.unlisted.proofs.windows.note_items.Goals as goal

@@ -1,4 +1,3 @@
-use Prim.Native.Nat.{◌-◌}
 use native.Mathlib.Omega.{arith}
 use Rattle.compressed_segmentation.proofs.raw_form.Filled.{filled_start, filled_next, filled_on, filled_same, filled_place}
 use Rattle.compressed_segmentation.proofs.raw_form.Wholes.{row-length, row_of_layer, layer_done}
