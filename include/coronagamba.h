@@ -1,6 +1,6 @@
 /* Coronagamba: a proved library for sharded volume scans.
  *
- * To build and link. `rt staticlib coronagamba` makes the archive, and
+ * To build and link. `./build coronagamba` makes the archive, and
  * `./install PREFIX` installs archive, shared object, this header and a
  * pkg-config file:
  *
@@ -117,7 +117,7 @@
  * nothing else may change lent memory while a call runs, no other thread and no
  * other program through a mapped file.
  *
- * This file is made: ./interface writes it from the export crate's source, and
+ * This file is made: ./interface writes it from crates/coronagamba, and
  * rust/interface has the table of refusals and this text.
  */
 #ifndef CORONAGAMBA_H

@@ -1,6 +1,6 @@
 """The functions of the shared object.
 
-Made by ./interface: change the export crate or rust/interface, then run it.
+Made by ./interface: change crates/coronagamba or rust/interface, then run it.
 """
 
 from __future__ import annotations

@@ -79,7 +79,7 @@ class Build(unittest.TestCase):
     def test_no_archive(self):
         done = self.build()
         self.assertEqual(done.returncode, 1)
-        self.assertIn("rt staticlib coronagamba", done.stderr)
+        self.assertIn("./build coronagamba", done.stderr)
         self.assertFalse(self.object.exists())
 
     def test_only_the_interface_is_shown(self):

@@ -19,7 +19,6 @@ use Rattle.refusal.proofs.Tests.{both}
 use Rattle.endian.specs.Place.{paste}
 use Rattle.endian.proofs.Paste.{paste-front}
 use Rattle.card.specs.declared.Card.{Card}
-use Rattle.card.specs.declared.CardAnswer.{CardAnswer}
 use Rattle.card.specs.declared.CardAnswer.TheVariants.{Says, Refused}
 use Rattle.card.specs.Answers.{fault, read_answer}
 use Rattle.card.proofs.Meaning.{read_faultless}

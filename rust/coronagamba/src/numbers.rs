@@ -1,6 +1,6 @@
 //! Refusals and other numbers, as the tables have them.
 //!
-//! Made by ./interface: change the export crate or rust/interface, then run it.
+//! Made by ./interface: change crates/coronagamba or rust/interface, then run it.
 
 use crate::refusal::Refusal;
 

@@ -6,7 +6,8 @@ use crate::source::{Function, Shape, Source, Struct, Type};
 use crate::table::{Constant, Refusal};
 
 const WIDTH: usize = 79;
-const MADE: &str = "Made by ./interface: change the export crate or rust/interface, then run it.\n";
+const MADE: &str =
+    "Made by ./interface: change crates/coronagamba or rust/interface, then run it.\n";
 
 /// The ctypes declarations.
 pub fn declarations(source: &Source, constants: &[Constant]) -> String {

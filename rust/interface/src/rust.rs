@@ -9,7 +9,7 @@ const WIDTH: usize = 100;
 // The longest tuple that the formatter leaves on one line.
 const SHORT: usize = 62;
 const MADE: &str =
-    "//! Made by ./interface: change the export crate or rust/interface, then run it.\n";
+    "//! Made by ./interface: change crates/coronagamba or rust/interface, then run it.\n";
 
 /// The extern block.
 pub fn declarations(source: &Source) -> String {

@@ -1,11 +1,11 @@
 -- A turn, as the code makes it.
 use Prim.Native.Nat.{ℕ, suc, ◌+◌, ◌-◌, ◌≤◌, ◌<◌}
 use mathlib.Core.Path.{◌≡◌, refl, sym, ap, ◌∙◌}
-use mathlib.Core.Bool.{Bool, true, false, not, ◌||◌}
+use mathlib.Core.Bool.{Bool, true, false, ◌||◌}
 use mathlib.Core.List.{List, ◌++◌}
 use native.Mathlib.Omega.{arith}
 use borrow.Author.Rules.{rules}
-use borrow.Author.Tests.{lt-ltb, le-ltb, eq-eqb, ne_eqb, eqb-true, eqb-false, not-true, not-false}
+use borrow.Author.Tests.{lt-ltb, le-ltb, eq-eqb, ne_eqb, eqb-true, eqb-false}
 use lib.Dec.{eqb}
 use lib.IntN.{ℤ, pos}
 use lib.ListN.{length, get_or, take, drop}
@@ -120,11 +120,11 @@ unfolding stops_short
 stops-short t = refl
 
 module _ {t : Turn} {b : Bool} (p : b ≡ stops_short t) where
-  pub told-stays : not b ≡ true → Told t t
-  told-stays q = record { answer = pos 0; made = rw (← p, not-true b q) }
+  pub told-stays : b ≡ false → Told t t
+  told-stays q = record { answer = pos 0; made = rw (← p, q) }
 
-  pub told_by : {r : Turn} (z : ℤ) → not b ≡ false → r ≡ told t z → Told t r
-  told_by z q f = record { answer = z; made = rw (← p, not-false b q) f }
+  pub told_by : {r : Turn} (z : ℤ) → b ≡ true → r ≡ told t z → Told t r
+  told_by z q f = record { answer = z; made = rw (← p, q) f }
 
 pub next-told : {s : Sheet} {head before body : List ℕ} {t r : Turn} → Turned s head before body t → Told t r → Next s head before body r
 next-told {t = t} p q = record { turn = t; turned = p; told = q }

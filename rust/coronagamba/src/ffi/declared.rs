@@ -1,6 +1,6 @@
 //! The functions of the C archive.
 //!
-//! Made by ./interface: change the export crate or rust/interface, then run it.
+//! Made by ./interface: change crates/coronagamba or rust/interface, then run it.
 
 use crate::{CSharding, Cell, Extents, Offset, Point, Volume};
 use std::mem::{align_of, offset_of, size_of};

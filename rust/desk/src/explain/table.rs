@@ -1,6 +1,6 @@
 //! What the refusals mean.
 //!
-//! Made by ./interface: change the export crate or rust/interface, then run it.
+//! Made by ./interface: change crates/coronagamba or rust/interface, then run it.
 
 use super::row::Explained;
 
