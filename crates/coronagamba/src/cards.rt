@@ -16,8 +16,7 @@ use morton::grid::Volume;
 // to `sharding`, and volume size, chunk size and voxel offset along x, y and z to `size`, `chunk` and
 // `offset`. To use them in other calls, copy the numbers into the structs one by one.
 // Refusals: 14, 1, 2, 3
-#[unsafe(no_mangle)]
-pub extern "C" fn coronagamba_card_read(
+pub fn coronagamba_card_read(
     bytes: &[u8],
     sharding: &mut [u8; 5],
     size: &mut [u32; 3],
@@ -37,8 +36,7 @@ pub extern "C" fn coronagamba_card_read(
 // A deposit card. Writes its bytes, 46 or 61, of a mesh 50 or 65, to the front of `out`, and their
 // number to `length`.
 // Refusals: 1, 2, 3, 13 where `out` is shorter than the card
-#[unsafe(no_mangle)]
-pub extern "C" fn coronagamba_card_write(
+pub fn coronagamba_card_write(
     sharding: CSharding,
     volume: Volume,
     out: &mut [u8],

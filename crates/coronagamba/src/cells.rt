@@ -18,8 +18,7 @@ use morton::{CellAnswer, KeyAnswer};
 
 // How many cells the volume has. Writes the numbers along x, y and z to `grid`.
 // Refusals: 2 where an extent is 0
-#[unsafe(no_mangle)]
-pub extern "C" fn coronagamba_grid_of(volume: Volume, grid: &mut [u32; 3]) -> u64
+pub fn coronagamba_grid_of(volume: Volume, grid: &mut [u32; 3]) -> u64
     ensures answer { result ≡ word_of (grid_result (grid_answer volume)) }
     ensures grid { grid.new ≡ grid_after (grid_answer volume) grid.old }
 {
@@ -34,8 +33,7 @@ pub extern "C" fn coronagamba_grid_of(volume: Volume, grid: &mut [u32; 3]) -> u6
 
 // The key of a cell: its compressed Morton code. Writes it to `key`.
 // Refusals: 2, 3
-#[unsafe(no_mangle)]
-pub extern "C" fn coronagamba_key_of(volume: Volume, cell: Cell, key: &mut u64) -> u64
+pub fn coronagamba_key_of(volume: Volume, cell: Cell, key: &mut u64) -> u64
     ensures answer { result ≡ word_of (key_result (key_answer volume cell)) }
     ensures key { key.new ≡ key_after (key_answer volume cell) key.old }
 {
@@ -53,13 +51,7 @@ pub extern "C" fn coronagamba_key_of(volume: Volume, cell: Cell, key: &mut u64) 
 // their number to `length`. The volume is judged also where there is no cell.
 // Refusals: 2 where an extent is 0 or any cell is outside the grid, 3, 13 where `keys` has room for
 // fewer
-#[unsafe(no_mangle)]
-pub extern "C" fn coronagamba_keys_of(
-    volume: Volume,
-    cells: &[u32],
-    keys: &mut [u64],
-    length: &mut u64,
-) -> u64
+pub fn coronagamba_keys_of(volume: Volume, cells: &[u32], keys: &mut [u64], length: &mut u64) -> u64
     ensures answer { result ≡ word_of (written_result (keys_answer volume (cells_of cells.now) keys.old)) }
     ensures keys { keys.new ≡ keys_left volume (cells_of cells.now) keys.old }
     ensures length { length.new ≡ length_after (keys_answer volume (cells_of cells.now) keys.old) length.old }
@@ -73,8 +65,7 @@ pub extern "C" fn coronagamba_keys_of(
 // number to `length`. The volume is judged also where there is no cell.
 // Refusals: 2 where an extent is 0 or any cell is outside the grid, 3, 13 where `keys` has room for
 // fewer
-#[unsafe(no_mangle)]
-pub extern "C" fn coronagamba_row_keys(
+pub fn coronagamba_row_keys(
     volume: Volume,
     from: u32,
     to: u32,
@@ -97,8 +88,7 @@ pub extern "C" fn coronagamba_row_keys(
 // the keys to the front of `keys`, and their number to `length`. Takes time by the keys that it
 // writes and their bits, whatever the box and the grid.
 // Refusals: 2 where an extent is 0, 3, 13 where `keys` has room for fewer
-#[unsafe(no_mangle)]
-pub extern "C" fn coronagamba_cover(
+pub fn coronagamba_cover(
     volume: Volume,
     lower: Point,
     upper: Point,
@@ -115,8 +105,7 @@ pub extern "C" fn coronagamba_cover(
 
 // The cell of a key. Writes its x, y and z to `cell`.
 // Refusals: 2 where an extent is 0, 3, 4
-#[unsafe(no_mangle)]
-pub extern "C" fn coronagamba_cell_of(volume: Volume, key: u64, cell: &mut [u32; 3]) -> u64
+pub fn coronagamba_cell_of(volume: Volume, key: u64, cell: &mut [u32; 3]) -> u64
     ensures answer { result ≡ word_of (cell_result (cell_answer volume key)) }
     ensures cell { cell.new ≡ cell_after (cell_answer volume key) cell.old }
 {
@@ -138,8 +127,7 @@ fn three(p: Point) -> [i64; 3]
 // Where a cell lies, in voxels, the volume's offset included. Writes where it begins along x, y and
 // z to `begin` and where it ends, that voxel excluded, to `end`.
 // Refusals: 2
-#[unsafe(no_mangle)]
-pub extern "C" fn coronagamba_bounds_of(
+pub fn coronagamba_bounds_of(
     volume: Volume,
     cell: Cell,
     begin: &mut [i64; 3],

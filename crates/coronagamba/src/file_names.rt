@@ -14,13 +14,7 @@ use morton::grid::{Cell, Volume};
 // The file name of a cell's chunk where chunks are not sharded. Writes its ASCII bytes, at most 71
 // and with no 0 byte behind them, to the front of `out`, and their number to `length`.
 // Refusals: 2, 13 where `out` is shorter than the name
-#[unsafe(no_mangle)]
-pub extern "C" fn coronagamba_chunk_name(
-    volume: Volume,
-    cell: Cell,
-    out: &mut [u8],
-    length: &mut u64,
-) -> u64
+pub fn coronagamba_chunk_name(volume: Volume, cell: Cell, out: &mut [u8], length: &mut u64) -> u64
     ensures answer { result ≡ word_of (written_result (chunk_name_answer volume cell out.old)) }
     ensures out { out.new ≡ chunk_name_left volume cell out.old }
     ensures length { length.new ≡ length_after (chunk_name_answer volume cell out.old) length.old }
@@ -32,8 +26,7 @@ pub extern "C" fn coronagamba_chunk_name(
 // The file name of a shard. Writes its ASCII bytes, at most 14 and with no 0 byte behind them, to
 // the front of `out`, and their number to `length`.
 // Refusals: 1, 5, 13 where `out` is shorter than the name
-#[unsafe(no_mangle)]
-pub extern "C" fn coronagamba_shard_name(
+pub fn coronagamba_shard_name(
     sharding: CSharding,
     shard: u64,
     out: &mut [u8],

@@ -11,8 +11,7 @@ use crate::numbers::put_card;
 // What the text of an info file says of its scale number `scale`, from 0: the numbers that a deposit
 // card of it says, written as coronagamba_card_read writes them. The kind is 0, volume.
 // Refusals: 19, 20, 1, 2, 3
-#[unsafe(no_mangle)]
-pub extern "C" fn coronagamba_info_read(
+pub fn coronagamba_info_read(
     text: &[u8],
     scale: u64,
     sharding: &mut [u8; 5],

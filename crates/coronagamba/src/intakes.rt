@@ -30,8 +30,7 @@ fn put_state(state: &mut [u64; 15], answer: IntakeAnswer) -> u64
 // The caller keeps them and lends them to the calls that follow, each as the last one left them, with
 // both buffers; they need no look.
 // Refusals: 1 also where the kind is mesh, 5, 13 where the shard index passes `out`
-#[unsafe(no_mangle)]
-pub extern "C" fn coronagamba_intake_open(
+pub fn coronagamba_intake_open(
     sharding: CSharding,
     shard: u64,
     out: &mut [u8],
@@ -55,8 +54,7 @@ pub extern "C" fn coronagamba_intake_open(
 // `waiting` or any pair of a minishard that the call ends, 26 while bytes are owed, 13 where the settled
 // form of all announced so far and this chunk would pass `out` or 1 GiB or `waiting` has no 16 bytes
 // left for it
-#[unsafe(no_mangle)]
-pub extern "C" fn coronagamba_intake_announce(
+pub fn coronagamba_intake_announce(
     state: &mut [u64; 15],
     id: u64,
     size: u64,
@@ -78,8 +76,7 @@ pub extern "C" fn coronagamba_intake_announce(
 // Refusals: 30 where a buffer has another length than on opening, 25 after the close or where
 // the state contradicts itself or the last pair of `waiting`, 26 where these are more bytes than are
 // owed
-#[unsafe(no_mangle)]
-pub extern "C" fn coronagamba_intake_part(
+pub fn coronagamba_intake_part(
     state: &mut [u64; 15],
     bytes: &[u8],
     out: &mut [u8],
@@ -104,8 +101,7 @@ pub extern "C" fn coronagamba_intake_part(
 // of bytes to `length`, and to `state` a state with which each further call is refused.
 // Refusals: 30 where a buffer has another length than on opening, 25 after the close or where
 // the state contradicts itself or any pair of `waiting`, 26 while bytes are owed
-#[unsafe(no_mangle)]
-pub extern "C" fn coronagamba_intake_close(
+pub fn coronagamba_intake_close(
     state: &mut [u64; 15],
     out: &mut [u8],
     waiting: &[u8],

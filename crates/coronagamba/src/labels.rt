@@ -38,8 +38,7 @@ fn shape_of(size: Extents, block: Extents, channels: u32, bits: u64) -> Shape
 // count from 0 in the chunk. Writes the label to `label`.
 // Refusals: 2 also where `bits` is another number or a block size or the channel count is 0 or a voxel
 // or channel is outside, 29, 28
-#[unsafe(no_mangle)]
-pub extern "C" fn coronagamba_label(
+pub fn coronagamba_label(
     chunk: &[u8],
     size: Extents,
     block: Extents,
@@ -78,8 +77,7 @@ pub extern "C" fn coronagamba_label(
 // `length`.
 // Refusals: 2 also where `bits` is another number or a block size or the channel count is 0, 13 where
 // the number does not fit 64 bits
-#[unsafe(no_mangle)]
-pub extern "C" fn coronagamba_unpacked_length(
+pub fn coronagamba_unpacked_length(
     size: Extents,
     block: Extents,
     channels: u32,
@@ -103,8 +101,7 @@ pub extern "C" fn coronagamba_unpacked_length(
 // Refusals: 2 also where `bits` is another number or a block size or the channel count is 0, 29 where
 // coronagamba_label would give it for any voxel, 28 where else that would for any, 13 where `out` is
 // shorter than the raw form
-#[unsafe(no_mangle)]
-pub extern "C" fn coronagamba_unpack(
+pub fn coronagamba_unpack(
     chunk: &[u8],
     size: Extents,
     block: Extents,

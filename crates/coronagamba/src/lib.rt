@@ -1,4 +1,5 @@
-// The C interface. Each exported function hands its arguments to the library and carries the whole answer in its contract.
+// The C interface. Each function hands its arguments to the crates below and carries the whole answer in its contract;
+// crates/coronagamba_c exports those whose names begin with coronagamba_.
 #![tactic(auto)]
 
 mod answers;
@@ -16,3 +17,5 @@ pub mod shards;
 pub mod sheets;
 pub mod version;
 pub mod word;
+
+pub use numbers::CSharding;

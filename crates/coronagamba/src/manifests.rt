@@ -18,8 +18,7 @@ use mesh_manifest::{Field, HeaderAnswer};
 
 // Whether the bytes are a sound manifest. Writes nothing.
 // Refusals: 15, 16, 17
-#[unsafe(no_mangle)]
-pub extern "C" fn coronagamba_manifest_check(bytes: &[u8]) -> u64
+pub fn coronagamba_manifest_check(bytes: &[u8]) -> u64
     ensures answer { result ≡ word_of (manifest_result (manifest_answer bytes.now)) }
 {
     match mesh_manifest::check_manifest(bytes) {
@@ -31,8 +30,7 @@ pub extern "C" fn coronagamba_manifest_check(bytes: &[u8]) -> u64
 // The shape and the origin of a manifest. Writes the bits of six reals to `header`: the chunk shape
 // along x, y and z, then the grid origin.
 // Refusals: 15, 16, 17
-#[unsafe(no_mangle)]
-pub extern "C" fn coronagamba_manifest_header(bytes: &[u8], header: &mut [u32; 6]) -> u64
+pub fn coronagamba_manifest_header(bytes: &[u8], header: &mut [u32; 6]) -> u64
     ensures answer { result ≡ word_of (header_result (header_answer bytes.now)) }
     ensures header { header.new ≡ header_after (header_answer bytes.now) header.old }
 {
@@ -56,13 +54,7 @@ pub extern "C" fn coronagamba_manifest_header(bytes: &[u8], header: &mut [u32; 6
 // its kind to `kind`: CORONAGAMBA_FIELD_REAL where it is a real, CORONAGAMBA_FIELD_WHOLE where it is
 // a whole number. Writes the real's bits, or the number, to `value`.
 // Refusals: 15, 16, 17, 18
-#[unsafe(no_mangle)]
-pub extern "C" fn coronagamba_manifest_field(
-    bytes: &[u8],
-    number: u32,
-    kind: &mut u32,
-    value: &mut u32,
-) -> u64
+pub fn coronagamba_manifest_field(bytes: &[u8], number: u32, kind: &mut u32, value: &mut u32) -> u64
     ensures answer { result ≡ word_of (field_result (field_answer bytes.now number)) }
     ensures kind { kind.new ≡ kind_after (field_answer bytes.now number) kind.old }
     ensures value { value.new ≡ value_after (field_answer bytes.now number) value.old }
@@ -86,8 +78,7 @@ pub extern "C" fn coronagamba_manifest_field(
 // its fragment starts, counted from the first fragment, to `start`, and the fragment's number of
 // bytes to `size`.
 // Refusals: 15, 16, 17, 18
-#[unsafe(no_mangle)]
-pub extern "C" fn coronagamba_manifest_node(
+pub fn coronagamba_manifest_node(
     bytes: &[u8],
     level: u32,
     node: u32,
@@ -116,8 +107,7 @@ pub extern "C" fn coronagamba_manifest_node(
 // and the fragment's number of bytes. Writes how many numbers these are to `length`. A level has
 // fewer nodes than a sixteenth of the bytes.
 // Refusals: 15, 16, 17, 18 where there is no such level, 13 where `out` has room for fewer
-#[unsafe(no_mangle)]
-pub extern "C" fn coronagamba_manifest_nodes(
+pub fn coronagamba_manifest_nodes(
     bytes: &[u8],
     level: u32,
     out: &mut [u64],
@@ -144,8 +134,7 @@ fn three_patterns(c: Corner) -> [u32; 3]
 // `far_corner`, each operation rounded once to a float. They are computed in the floating-point
 // environment that a C program starts with: round to nearest, subnormal numbers kept, no traps.
 // Refusals: 15, 16, 17, 18 also where a position is 2^24 or more or a corner is not finite
-#[unsafe(no_mangle)]
-pub extern "C" fn coronagamba_manifest_corners(
+pub fn coronagamba_manifest_corners(
     bytes: &[u8],
     level: u32,
     node: u32,

@@ -22,13 +22,7 @@ use split_shard::held_range::RangeAnswer;
 // coronagamba_check of a pair: whether it is sound, as one file. Writes nothing. The position is that
 // in the joined file.
 // Refusals: 1, 5, 23, 6, 7 to 11, 15 to 17 (mesh), 21 (mesh) with the minishard and the position
-#[unsafe(no_mangle)]
-pub extern "C" fn coronagamba_pair_check(
-    sharding: CSharding,
-    shard: u64,
-    index: &[u8],
-    data: &[u8],
-) -> u64
+pub fn coronagamba_pair_check(sharding: CSharding, shard: u64, index: &[u8], data: &[u8]) -> u64
     ensures answer { result ≡ word_of (check_result (pair_check (given_sharding sharding) shard index.now «data».now)) }
 {
     let answer = split_shard::check(sharding_of(sharding), shard, index, data);
@@ -40,8 +34,7 @@ pub extern "C" fn coronagamba_pair_check(
 // data file: there it begins as many bytes earlier as the index file has.
 // Refusals: 1, 5, 23, 6, 7 to 11, 15 to 17 (mesh), 21 (mesh) of the id's minishard with the position,
 // 12
-#[unsafe(no_mangle)]
-pub extern "C" fn coronagamba_pair_lookup(
+pub fn coronagamba_pair_lookup(
     sharding: CSharding,
     shard: u64,
     index: &[u8],
@@ -63,8 +56,7 @@ pub extern "C" fn coronagamba_pair_lookup(
 // and its number of bytes to `length`. A fragment lies in the data file.
 // Refusals: 1, 5, 23, 6, 7 to 11, 15 to 17 (mesh), 21 (mesh) of the id's minishard with the position,
 // 12, 18 also where the kind is volume
-#[unsafe(no_mangle)]
-pub extern "C" fn coronagamba_pair_fragment(
+pub fn coronagamba_pair_fragment(
     sharding: CSharding,
     shard: u64,
     index: &[u8],
@@ -87,8 +79,7 @@ pub extern "C" fn coronagamba_pair_fragment(
 // `chunks`.
 // Refusals: 1, 5, 33 for a minishard that is not there, 23, 6, 7 to 11, 15 to 17 (mesh), 21 (mesh)
 // of that minishard with the position
-#[unsafe(no_mangle)]
-pub extern "C" fn coronagamba_pair_listed_count(
+pub fn coronagamba_pair_listed_count(
     sharding: CSharding,
     shard: u64,
     index: &[u8],
@@ -109,8 +100,7 @@ pub extern "C" fn coronagamba_pair_listed_count(
 // to `length`.
 // Refusals: 1, 5, 33 for a minishard that is not there, 23, 6, 7 to 11, 15 to 17 (mesh), 21 (mesh)
 // of that minishard with the position, 13 where `out` has room for fewer
-#[unsafe(no_mangle)]
-pub extern "C" fn coronagamba_pair_listing(
+pub fn coronagamba_pair_listing(
     sharding: CSharding,
     shard: u64,
     index: &[u8],
@@ -131,8 +121,7 @@ pub extern "C" fn coronagamba_pair_listing(
 // much stack as coronagamba_unlisted does.
 // Refusals: 1, 5, 23, 6, 7 to 11, 15 to 17 (mesh), 21 (mesh) of the first faulty minishard with the
 // position
-#[unsafe(no_mangle)]
-pub extern "C" fn coronagamba_pair_unlisted(
+pub fn coronagamba_pair_unlisted(
     sharding: CSharding,
     shard: u64,
     index: &[u8],
@@ -151,8 +140,7 @@ pub extern "C" fn coronagamba_pair_unlisted(
 // number asks to drop them.
 // Refusals: 1, 5, 23, 6, 7 to 11, 15 to 17 (mesh), 21 (mesh) of the first faulty minishard with the
 // position, 22 where bytes are unlisted and not dropped, 13 where the form would pass 1 GiB
-#[unsafe(no_mangle)]
-pub extern "C" fn coronagamba_pair_settled_length(
+pub fn coronagamba_pair_settled_length(
     sharding: CSharding,
     shard: u64,
     index: &[u8],
@@ -180,8 +168,7 @@ pub extern "C" fn coronagamba_pair_settled_length(
 // Refusals: 1, 5, 23, 6, 7 to 11, 15 to 17 (mesh), 21 (mesh) of the first faulty minishard with the
 // position, 22 where bytes are unlisted and not dropped, 13 where `out` is shorter than the form or
 // the form would pass 1 GiB
-#[unsafe(no_mangle)]
-pub extern "C" fn coronagamba_pair_settle(
+pub fn coronagamba_pair_settle(
     sharding: CSharding,
     shard: u64,
     index: &[u8],
@@ -210,8 +197,7 @@ pub extern "C" fn coronagamba_pair_settle(
 // is the data file's. Writes where they begin, counted from that file's first byte, to `place`, and
 // their number to `length`. Judges no minishard and takes no shard number.
 // Refusals: 1, 23, 6, 24
-#[unsafe(no_mangle)]
-pub extern "C" fn coronagamba_pair_range(
+pub fn coronagamba_pair_range(
     sharding: CSharding,
     index: &[u8],
     data: &[u8],
@@ -252,8 +238,7 @@ pub extern "C" fn coronagamba_pair_range(
 // The name of a shard's index file. Writes its ASCII bytes, at most 14 and with no 0 byte behind them,
 // to the front of `out`, and their number to `length`.
 // Refusals: 1, 5, 13 where `out` is shorter than the name
-#[unsafe(no_mangle)]
-pub extern "C" fn coronagamba_index_name(
+pub fn coronagamba_index_name(
     sharding: CSharding,
     shard: u64,
     out: &mut [u8],
@@ -269,8 +254,7 @@ pub extern "C" fn coronagamba_index_name(
 
 // The name of its data file, at most 13 bytes, in the same way.
 // Refusals: 1, 5, 13 where `out` is shorter than the name
-#[unsafe(no_mangle)]
-pub extern "C" fn coronagamba_data_name(
+pub fn coronagamba_data_name(
     sharding: CSharding,
     shard: u64,
     out: &mut [u8],

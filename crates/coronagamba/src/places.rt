@@ -14,8 +14,7 @@ use sharding::placement::PlaceAnswer;
 
 // The shard and the minishard of an id. Writes them to `shard` and `minishard`.
 // Refusals: 1
-#[unsafe(no_mangle)]
-pub extern "C" fn coronagamba_place_of(
+pub fn coronagamba_place_of(
     sharding: CSharding,
     id: u64,
     shard: &mut u64,
@@ -38,8 +37,7 @@ pub extern "C" fn coronagamba_place_of(
 // The shards and the minishards of many ids, in their order. Writes them to the front of `shards`
 // and of `minishards`, and their number to `length`.
 // Refusals: 1, 13 where `shards` or `minishards` has room for fewer
-#[unsafe(no_mangle)]
-pub extern "C" fn coronagamba_places_of(
+pub fn coronagamba_places_of(
     sharding: CSharding,
     ids: &[u64],
     shards: &mut [u64],

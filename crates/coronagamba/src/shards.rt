@@ -20,8 +20,7 @@ use crate::word::asks_to_drop;
 // it begins, counted from the file's first byte, to `start`, and its number of bytes to `length`. Of
 // the minishards it judges the id's own alone.
 // Refusals: 1, 5, 6, 7 to 11, 15 to 17 (mesh), 21 (mesh) of the id's minishard with the position, 12
-#[unsafe(no_mangle)]
-pub extern "C" fn coronagamba_lookup(
+pub fn coronagamba_lookup(
     sharding: CSharding,
     shard: u64,
     file: &[u8],
@@ -44,8 +43,7 @@ pub extern "C" fn coronagamba_lookup(
 // minishards it judges the id's own alone.
 // Refusals: 1, 5, 6, 7 to 11, 15 to 17 (mesh), 21 (mesh) of the id's minishard with the position, 12,
 // 18 also where the kind is volume
-#[unsafe(no_mangle)]
-pub extern "C" fn coronagamba_fragment(
+pub fn coronagamba_fragment(
     sharding: CSharding,
     shard: u64,
     file: &[u8],
@@ -67,8 +65,7 @@ pub extern "C" fn coronagamba_fragment(
 // before it. Writes nothing. Where a minishard has a fault, the answer word names the first such
 // minishard and the position.
 // Refusals: 1, 5, 6, 7 to 11, 15 to 17 (mesh), 21 (mesh) with the minishard and the position
-#[unsafe(no_mangle)]
-pub extern "C" fn coronagamba_check(sharding: CSharding, shard: u64, file: &[u8]) -> u64
+pub fn coronagamba_check(sharding: CSharding, shard: u64, file: &[u8]) -> u64
     ensures answer { result ≡ word_of (check_result (check_answer (given_sharding sharding) shard file.now)) }
 {
     let answer = shard::check(sharding_of(sharding), shard, file);
@@ -78,8 +75,7 @@ pub extern "C" fn coronagamba_check(sharding: CSharding, shard: u64, file: &[u8]
 // How many chunks a minishard lists. Writes the number to `chunks`.
 // Refusals: 1, 5, 33 for a minishard that is not there, 6, 7 to 11, 15 to 17 (mesh), 21 (mesh) of
 // that minishard with the position
-#[unsafe(no_mangle)]
-pub extern "C" fn coronagamba_listed_count(
+pub fn coronagamba_listed_count(
     sharding: CSharding,
     shard: u64,
     file: &[u8],
@@ -98,8 +94,7 @@ pub extern "C" fn coronagamba_listed_count(
 // these are, three times what coronagamba_listed_count gives, to `length`.
 // Refusals: 1, 5, 33 for a minishard that is not there, 6, 7 to 11, 15 to 17 (mesh), 21 (mesh) of
 // that minishard with the position, 13 where `out` has room for fewer
-#[unsafe(no_mangle)]
-pub extern "C" fn coronagamba_listing(
+pub fn coronagamba_listing(
     sharding: CSharding,
     shard: u64,
     file: &[u8],
@@ -120,13 +115,7 @@ pub extern "C" fn coronagamba_listing(
 // stack, as no call of this library takes more.
 // Refusals: 1, 5, 6, 7 to 11, 15 to 17 (mesh), 21 (mesh) of the first faulty minishard with the
 // position
-#[unsafe(no_mangle)]
-pub extern "C" fn coronagamba_unlisted(
-    sharding: CSharding,
-    shard: u64,
-    file: &[u8],
-    bytes: &mut u64,
-) -> u64
+pub fn coronagamba_unlisted(sharding: CSharding, shard: u64, file: &[u8], bytes: &mut u64) -> u64
     ensures answer { result ≡ word_of (count_result (unlisted_answer (given_sharding sharding) shard file.now)) }
     ensures bytes { bytes.new ≡ count_after (unlisted_answer (given_sharding sharding) shard file.now) bytes.old }
 {
@@ -138,8 +127,7 @@ pub extern "C" fn coronagamba_unlisted(
 // it: a shard with some is refused unless `drop_unlisted` is 1; no other number asks to drop them.
 // Refusals: 1, 5, 6, 7 to 11, 15 to 17 (mesh), 21 (mesh) of the first faulty minishard with the
 // position, 22 where bytes are unlisted and not dropped, 13 where the form would pass 1 GiB
-#[unsafe(no_mangle)]
-pub extern "C" fn coronagamba_settled_length(
+pub fn coronagamba_settled_length(
     sharding: CSharding,
     shard: u64,
     file: &[u8],
@@ -165,8 +153,7 @@ pub extern "C" fn coronagamba_settled_length(
 // Refusals: 1, 5, 6, 7 to 11, 15 to 17 (mesh), 21 (mesh) of the first faulty minishard with the
 // position, 22 where bytes are unlisted and not dropped, 13 where `out` is shorter than the form or
 // the form would pass 1 GiB
-#[unsafe(no_mangle)]
-pub extern "C" fn coronagamba_settle(
+pub fn coronagamba_settle(
     sharding: CSharding,
     shard: u64,
     file: &[u8],

@@ -60,8 +60,7 @@ fn put_sheet(sheet: &mut [u64; 17], answer: SheetAnswer) -> u64
 // shard is judged once, as coronagamba_check judges it.
 // Refusals: 1, 5, 6, 7 to 11, 15 to 17 (mesh), 21 (mesh) with the minishard and the position, 27
 // where the sizes together pass 2^64 - 1
-#[unsafe(no_mangle)]
-pub extern "C" fn coronagamba_measure(
+pub fn coronagamba_measure(
     sharding: CSharding,
     shard: u64,
     file: &[u8],
@@ -77,8 +76,7 @@ pub extern "C" fn coronagamba_measure(
 // coronagamba_measure of a pair. The position is that in the joined file.
 // Refusals: 1, 5, 23, 6, 7 to 11, 15 to 17 (mesh), 21 (mesh) with the minishard and the position, 27
 // where the sizes together pass 2^64 - 1
-#[unsafe(no_mangle)]
-pub extern "C" fn coronagamba_pair_measure(
+pub fn coronagamba_pair_measure(
     sharding: CSharding,
     shard: u64,
     index: &[u8],
@@ -98,8 +96,7 @@ pub extern "C" fn coronagamba_pair_measure(
 // 8, 9, 10, 11, 15, 16, 17, 21, 23; chunks, their bytes, unlisted bytes. An empty sheet is 0 in each;
 // any numbers are taken. The shard is judged once. Refused, the sheet stays as it was.
 // Refusals: 27 where a total would pass 2^64 - 1
-#[unsafe(no_mangle)]
-pub extern "C" fn coronagamba_sheet_add(
+pub fn coronagamba_sheet_add(
     sheet: &mut [u64; 17],
     sharding: CSharding,
     shard: u64,
@@ -114,8 +111,7 @@ pub extern "C" fn coronagamba_sheet_add(
 
 // coronagamba_sheet_add of a pair.
 // Refusals: 27 where a total would pass 2^64 - 1
-#[unsafe(no_mangle)]
-pub extern "C" fn coronagamba_pair_sheet_add(
+pub fn coronagamba_pair_sheet_add(
     sheet: &mut [u64; 17],
     sharding: CSharding,
     shard: u64,
@@ -132,8 +128,7 @@ pub extern "C" fn coronagamba_pair_sheet_add(
 // Adds a sheet to another, row by row: the sheets of two parts of a year's work make that of both.
 // Refused, `sheet` stays as it was.
 // Refusals: 27 where a total would pass 2^64 - 1
-#[unsafe(no_mangle)]
-pub extern "C" fn coronagamba_sheet_join(sheet: &mut [u64; 17], other: &[u64; 17]) -> u64
+pub fn coronagamba_sheet_join(sheet: &mut [u64; 17], other: &[u64; 17]) -> u64
     ensures answer { result ≡ word_of (sheet_result (join_answer (from_rows_of sheet.old) (from_rows_of other.now))) }
     ensures sheet { sheet.new ≡ rows_after (join_answer (from_rows_of sheet.old) (from_rows_of other.now)) sheet.old }
 {

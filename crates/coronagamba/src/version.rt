@@ -6,8 +6,7 @@ ghost use Rattle.coronagamba.specs.Version.{version};
 // The version of the library that is linked or loaded: patch + 2^16 * minor + 2^32 * major. It is
 // CORONAGAMBA_VERSION where the header belongs to that library.
 // Refusals: none
-#[unsafe(no_mangle)]
-pub extern "C" fn coronagamba_version() -> u64
+pub fn coronagamba_version() -> u64
     ensures answer { result ≡ version }
 {
     65536 * 6

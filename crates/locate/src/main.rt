@@ -5,7 +5,7 @@
 pub mod lines;
 pub mod text;
 
-ghost use Rattle.std.specs.Prelude.{◌≡◌, length};
+ghost use Rattle.std.specs.Prelude.{◌≡◌, ◌≤◌, length, take};
 ghost use Rattle.refusal.specs.Buffer.{over};
 ghost use Rattle.morton.specs.grid.Grid.{grid_of};
 ghost use Rattle.card.specs.Answers.{fault};
@@ -16,8 +16,8 @@ ghost use Rattle.locate.specs.Reading.{Readable, CameInto, Located, Printed, Sai
 use crate::lines::line;
 use crate::text::{blocks, frame};
 use card::{Card, CardAnswer};
-use libc::{STDIN_FILENO, STDOUT_FILENO};
 use morton::grid::Extents;
+use std::io::{Read, Stdin, Stdout};
 
 // How many bytes of cells are told, and whether the input could be read on.
 #[derive(Clone, Copy)]
@@ -43,25 +43,49 @@ struct Start {
 
 // ---- reading
 
+// Reads until the buffer is full, the input ends or a read fails, and answers how many bytes came.
+fn read_full(mut input: Stdin, buf: &mut [u8]) -> usize
+    ensures within { result ≤ length buf.new }
+    ensures part { result ≡ length (take result buf.new) }
+{
+    let mut done = 0;
+    while done < buf.len() {
+        match input.read(&mut buf[done..]) {
+            Ok(0) => break,
+            Ok(n) => done += n,
+            Err(_) => break,
+        }
+    }
+    done
+}
+
+// What a read of one byte more answers: how many came, or -1 where it failed.
+fn read_one(mut input: Stdin) -> isize {
+    let mut one = [0u8; 1];
+    match input.read(&mut one) {
+        Ok(n) => n as isize,
+        Err(_) => -1,
+    }
+}
+
 // Whether all bytes came that were asked for, or the input ended. Where fewer came, one byte more is asked for: the count
 // alone does not tell the input's end from a read that failed.
-fn is_readable(got: usize, asked: usize) -> bool
+fn is_readable(input: Stdin, got: usize, asked: usize) -> bool
     ensures { Readable got asked result }
 {
     if got == asked {
         return true;
     }
-    let mut one = [0u8; 1];
-    frame::is_none(libc::read(STDIN_FILENO, &mut one))
+    frame::is_none(read_one(input))
 }
 
 // The bytes of a block. Where a read failed, whole cells alone are told, so that no `cut` is.
-fn read_cells(cells: &mut [u8]) -> Came
+fn read_cells(input: Stdin, cells: &mut [u8]) -> Came
     requires { length cells.old ≡ block_bytes }
     ensures { CameInto cells.new result }
 {
-    let got = io::read_full(STDIN_FILENO, cells);
-    let readable = is_readable(got, 12000);
+    let got = read_full(input, cells);
+    let readable = is_readable(input, got, 12000);
     let told = frame::told_bytes(got, readable);
     Came {
         got: told,
@@ -71,32 +95,32 @@ fn read_cells(cells: &mut [u8]) -> Came
 
 // ---- printing
 
-fn refuse(line: &mut [u8], number: u8)
+fn refuse(out: Stdout, line: &mut [u8], number: u8)
     requires { length line.old ≡ 64 }
     ensures { line.new ≡ over (refused_line number) line.old }
 {
     let n = line::put_refused(line, 0, number);
-    io::write_all(STDOUT_FILENO, &line[..n]);
+    let _ = out.write_all(&line[..n]);
 }
 
-fn print_refused(number: u8) {
+fn print_refused(out: Stdout, number: u8) {
     let mut line = [0u8; 64];
-    refuse(&mut line, number);
+    refuse(out, &mut line, number);
 }
 
 // The line that is told of an input that could not be read on.
-fn tell(readable: bool) {
+fn tell(out: Stdout, readable: bool) {
     if !readable {
-        io::write_all(STDOUT_FILENO, b"unreadable\n");
+        let _ = out.write_all(b"unreadable\n");
     }
 }
 
 // One block: cells in, their lines out.
-fn locate_block(card: Card, grid: Extents, cells: &mut [u8], text: &mut [u8]) -> Block
+fn locate_block(input: Stdin, card: Card, grid: Extents, cells: &mut [u8], text: &mut [u8]) -> Block
     requires { (fault card ≡ 0) × (grid ≡ grid_of card.volume) × (length cells.old ≡ block_bytes) × (length text.old ≡ 65536) }
     ensures { Located card cells.new text.old text.new result }
 {
-    let came = read_cells(cells);
+    let came = read_cells(input, cells);
     let got = came.got;
     let readable = came.readable;
     let len = blocks::cells_text(text, card, grid, &cells[..got]);
@@ -104,58 +128,72 @@ fn locate_block(card: Card, grid: Extents, cells: &mut [u8], text: &mut [u8]) ->
 }
 
 // Prints a block's lines. Answers whether there may be more: a short block is the last.
-fn print_block(card: Card, grid: Extents, cells: &mut [u8], text: &mut [u8]) -> bool
+fn print_block(
+    input: Stdin,
+    out: Stdout,
+    card: Card,
+    grid: Extents,
+    cells: &mut [u8],
+    text: &mut [u8],
+) -> bool
     requires { (fault card ≡ 0) × (grid ≡ grid_of card.volume) × (length cells.old ≡ block_bytes) × (length text.old ≡ 65536) }
     ensures { Printed card cells.new text.old text.new result }
 {
-    let block = locate_block(card, grid, cells, text);
+    let block = locate_block(input, card, grid, cells, text);
     let len = block.len;
-    let is_written = io::write_all(STDOUT_FILENO, &text[..len]);
-    tell(block.readable);
+    let is_written = out.write_all(&text[..len]).is_ok();
+    tell(out, block.readable);
     is_written & (block.got == 12000)
 }
 
 // A thousand cells a block; a line takes at most 64 bytes.
-fn locate_some(card: Card, grid: Extents, cells: &mut [u8; 12000], text: &mut [u8; 65536]) -> bool
+fn locate_some(
+    input: Stdin,
+    out: Stdout,
+    card: Card,
+    grid: Extents,
+    cells: &mut [u8; 12000],
+    text: &mut [u8; 65536],
+) -> bool
     requires { (fault card ≡ 0) × (grid ≡ grid_of card.volume) }
     ensures { Printed card cells.new text.old text.new result }
 {
-    print_block(card, grid, cells, text)
+    print_block(input, out, card, grid, cells, text)
 }
 
 // Block by block, as `blocks_of` cuts what follows the card, up to the first that is short. A proved loop has to end, and
 // nothing says that the input does: the turns are counted down from a number that no run uses up.
-fn locate_all(card: Card)
+fn locate_all(input: Stdin, out: Stdout, card: Card)
     requires { fault card ≡ 0 }
 {
     let grid = blocks::grid_of(card);
     let mut cells = [0u8; 12000];
     let mut text = [0u8; 65536];
     let mut turns = u64::MAX;
-    while turns > 0 && locate_some(card, grid, &mut cells, &mut text) {
+    while turns > 0 && locate_some(input, out, card, grid, &mut cells, &mut text) {
         turns -= 1;
     }
 }
 
 // What a card says that has as many bytes as the buffer.
-fn read_body(bytes: &mut [u8]) -> Start
+fn read_body(input: Stdin, bytes: &mut [u8]) -> Start
     ensures { Said bytes.new result }
 {
-    let got = io::read_full(STDIN_FILENO, bytes);
-    let readable = is_readable(got, bytes.len());
+    let got = read_full(input, bytes);
+    let readable = is_readable(input, got, bytes.len());
     let card = frame::framed_card(bytes.len(), &bytes[..got]);
     Start { card, readable }
 }
 
 // What the card says whose length comes first.
-fn read_start(head: &mut [u8], bytes: &mut [u8]) -> Start
+fn read_start(input: Stdin, head: &mut [u8], bytes: &mut [u8]) -> Start
     requires { (length head.old ≡ 2) × (length bytes.old ≡ 65) }
     ensures { Started head.new bytes.new result }
 {
-    let got = io::read_full(STDIN_FILENO, head);
-    let readable = is_readable(got, 2);
+    let got = read_full(input, head);
+    let readable = is_readable(input, got, 2);
     let n = frame::card_length(&head[..got]);
-    let body = read_body(&mut bytes[..n]);
+    let body = read_body(input, &mut bytes[..n]);
     let card = body.card;
     let is_body_readable = body.readable;
     Start {
@@ -164,17 +202,19 @@ fn read_start(head: &mut [u8], bytes: &mut [u8]) -> Start
     }
 }
 
-fn main() {
+fn main(rt: HostRuntime) {
+    let input = rt.stdin();
+    let out = rt.stdout();
     let mut head = [0u8; 2];
     let mut bytes = [0u8; 65];
-    let start = read_start(&mut head, &mut bytes);
+    let start = read_start(input, &mut head, &mut bytes);
     if !start.readable {
-        tell(false);
+        tell(out, false);
         return;
     }
     let card = start.card;
     match card {
-        CardAnswer::Says(card) => locate_all(card),
-        CardAnswer::Refused(number) => print_refused(number),
+        CardAnswer::Says(card) => locate_all(input, out, card),
+        CardAnswer::Refused(number) => print_refused(out, number),
     }
 }

@@ -35,7 +35,7 @@ pub fn lookup<'a>(o: Opened<'a>, id: u64) -> LookupAnswer
 // The part that the plain call hands out, of the bytes that were lent to `open_shard`.
 pub fn part<'a>(o: Opened<'a>, id: u64) -> &'a [u8]
     ensures answer { result.now ≡ part_bytes (lookup_answer o.entry.spec o.entry.number o.entry.file.now id) o.entry.file.now }
-    ensures place { (result.ref_ptr.0 ≡ o.entry.file.ptr.0) × (result.ref_ptr.1 ≡ o.entry.file.ptr.1 + part_start (lookup_answer o.entry.spec o.entry.number o.entry.file.now id)) }
+    ensures place { (result.ref_ptr.0 ≡ o.entry.file.ref_ptr.0) × (result.ref_ptr.1 ≡ o.entry.file.ref_ptr.1 + part_start (lookup_answer o.entry.spec o.entry.number o.entry.file.now id)) }
 {
     lookup::part(o.spec, o.number, o.file, id)
 }
@@ -88,7 +88,7 @@ pub fn fragment<'a>(o: Opened<'a>, at: MeshNode) -> LookupAnswer
 // The part that the plain call hands out, of the bytes that were lent to `open_shard`.
 pub fn fragment_part<'a>(o: Opened<'a>, at: MeshNode) -> &'a [u8]
     ensures answer { result.now ≡ part_bytes (fragment_answer o.entry.spec o.entry.number o.entry.file.now at.id at.level at.node) o.entry.file.now }
-    ensures place { (result.ref_ptr.0 ≡ o.entry.file.ptr.0) × (result.ref_ptr.1 ≡ o.entry.file.ptr.1 + part_start (fragment_answer o.entry.spec o.entry.number o.entry.file.now at.id at.level at.node)) }
+    ensures place { (result.ref_ptr.0 ≡ o.entry.file.ref_ptr.0) × (result.ref_ptr.1 ≡ o.entry.file.ref_ptr.1 + part_start (fragment_answer o.entry.spec o.entry.number o.entry.file.now at.id at.level at.node)) }
 {
     fragment_part_at(o.spec, o.number, o.file, at)
 }

@@ -84,7 +84,7 @@ pub fn lookup<'a>(o: OpenedPair<'a>, id: u64) -> LookupAnswer
 // The part that the plain call hands out, of the data file that was lent to `open_pair`.
 pub fn part<'a>(o: OpenedPair<'a>, id: u64) -> &'a [u8]
     ensures answer { result.now ≡ part_bytes (pair_lookup o.entry.spec o.entry.number o.entry.index.now o.entry.«data».now id) (o.entry.index.now ++ o.entry.«data».now) }
-    ensures place { (result.ref_ptr.0 ≡ o.entry.«data».ptr.0) × (result.ref_ptr.1 ≡ o.entry.«data».ptr.1 + part_start (in_data (length o.entry.index.now) (pair_lookup o.entry.spec o.entry.number o.entry.index.now o.entry.«data».now id))) }
+    ensures place { (result.ref_ptr.0 ≡ o.entry.«data».ref_ptr.0) × (result.ref_ptr.1 ≡ o.entry.«data».ref_ptr.1 + part_start (in_data (length o.entry.index.now) (pair_lookup o.entry.spec o.entry.number o.entry.index.now o.entry.«data».now id))) }
 {
     part_at(o.spec, o.number, o.index, o.data, id)
 }
@@ -98,7 +98,7 @@ pub fn fragment<'a>(o: OpenedPair<'a>, at: MeshNode) -> LookupAnswer
 
 pub fn fragment_part<'a>(o: OpenedPair<'a>, at: MeshNode) -> &'a [u8]
     ensures answer { result.now ≡ part_bytes (pair_fragment o.entry.spec o.entry.number o.entry.index.now o.entry.«data».now at.id at.level at.node) (o.entry.index.now ++ o.entry.«data».now) }
-    ensures place { (result.ref_ptr.0 ≡ o.entry.«data».ptr.0) × (result.ref_ptr.1 ≡ o.entry.«data».ptr.1 + part_start (in_data (length o.entry.index.now) (pair_fragment o.entry.spec o.entry.number o.entry.index.now o.entry.«data».now at.id at.level at.node))) }
+    ensures place { (result.ref_ptr.0 ≡ o.entry.«data».ref_ptr.0) × (result.ref_ptr.1 ≡ o.entry.«data».ref_ptr.1 + part_start (in_data (length o.entry.index.now) (pair_fragment o.entry.spec o.entry.number o.entry.index.now o.entry.«data».now at.id at.level at.node))) }
 {
     fragment_part_at(o.spec, o.number, o.index, o.data, at)
 }

@@ -4,54 +4,78 @@
 pub mod input_end;
 pub mod one_turn;
 
-ghost use Rattle.std.specs.Prelude.{◌≡◌, ◌≤◌, length};
+ghost use Rattle.std.specs.Prelude.{◌≡◌, ◌≤◌, length, take};
 ghost use Rattle.sheet.specs.one_turn.Turns.{header_bytes, most_bytes, TurnedBy, Turned, Told, Next, Finished};
 
 use crate::one_turn::Turn;
 use holdings::one_shard::Sheet;
-use libc::{STDIN_FILENO, STDOUT_FILENO};
+use std::io::{self, Read, Stdin};
 
 // ---- reading
 
+// Reads until the buffer is full, the input ends or a read fails, and answers how many bytes came.
+fn read_full(mut input: Stdin, buf: &mut [u8]) -> usize
+    ensures within { result ≤ length buf.new }
+    ensures part { result ≡ length (take result buf.new) }
+{
+    let mut done = 0;
+    while done < buf.len() {
+        match input.read(&mut buf[done..]) {
+            Ok(0) => break,
+            Ok(n) => done += n,
+            Err(_) => break,
+        }
+    }
+    done
+}
+
+// What a read of one byte more answers: how many came, or -1 where it failed.
+fn read_one(mut input: Stdin) -> isize {
+    let mut one = [0u8; 1];
+    match input.read(&mut one) {
+        Ok(n) => n as isize,
+        Err(_) => -1,
+    }
+}
+
 // As many bytes of a shard as the buffer has, behind its header.
-fn read_body(sheet: Sheet, head: &[u8], body: &mut [u8]) -> Turn
+fn read_body(input: Stdin, sheet: Sheet, head: &[u8], body: &mut [u8]) -> Turn
     requires { length head.now ≤ header_bytes }
     ensures { TurnedBy sheet head.now body.new result }
 {
-    let got = io::read_full(STDIN_FILENO, body);
+    let got = read_full(input, body);
     crate::one_turn::turned(sheet, head, &body[..got])
 }
 
 // The next shard: its header, and as many bytes as that says.
-fn read_next(sheet: Sheet, head: &mut [u8], body: &mut [u8]) -> Turn
+fn read_next(input: Stdin, sheet: Sheet, head: &mut [u8], body: &mut [u8]) -> Turn
     requires { (length head.old ≡ header_bytes) × (length body.old ≡ most_bytes) }
     ensures { Turned sheet head.new body.old body.new result }
 {
-    let got = io::read_full(STDIN_FILENO, head);
+    let got = read_full(input, head);
     let n = crate::one_turn::body_length(&head[..got]);
-    read_body(sheet, &head[..got], &mut body[..n])
+    read_body(input, sheet, &head[..got], &mut body[..n])
 }
 
 // A turn that found too few bytes asks for one byte more: the count alone does not tell the input's end from a read that failed.
-fn tell(turn: Turn) -> Turn
+fn tell(input: Stdin, turn: Turn) -> Turn
     ensures { Told turn result }
 {
     if !crate::one_turn::stops_short(turn) {
         return turn;
     }
-    let mut one = [0u8; 1];
-    crate::one_turn::told(turn, libc::read(STDIN_FILENO, &mut one))
+    crate::one_turn::told(turn, read_one(input))
 }
 
-fn next(sheet: Sheet, head: &mut [u8; 17], body: &mut [u8; 65536]) -> Turn
+fn next(input: Stdin, sheet: Sheet, head: &mut [u8; 17], body: &mut [u8; 65536]) -> Turn
     ensures { Next sheet head.new body.old body.new result }
 {
-    tell(read_next(sheet, head, body))
+    tell(input, read_next(input, sheet, head, body))
 }
 
 // Shard by shard, up to what ends the input. A proved loop has to end, and nothing says that the input does: the turns are counted down
 // from a number that no run uses up.
-fn add_all() -> Turn
+fn add_all(input: Stdin) -> Turn
     ensures { Finished result }
 {
     let mut head = [0u8; 17];
@@ -62,7 +86,7 @@ fn add_all() -> Turn
     };
     let mut left = u64::MAX;
     while left > 0 && at.ending == crate::one_turn::MORE {
-        at = next(at.sheet, &mut head, &mut body);
+        at = next(input, at.sheet, &mut head, &mut body);
         left -= 1;
     }
     at
@@ -70,50 +94,49 @@ fn add_all() -> Turn
 
 // ---- printing
 
-fn print_row(name: &[u8], n: u64) {
-    io::write_all(STDOUT_FILENO, name);
-    io::print_decimal(STDOUT_FILENO, n);
-    io::write_all(STDOUT_FILENO, b"\n");
+fn print_row(rt: &impl Print, name: &str, n: u64) -> io::Result<()> {
+    println!(rt; "{name} {n}")
 }
 
-fn print_sheet(sheet: Sheet) {
-    print_row(b"shards sound ", sheet.sound);
-    print_row(b"shards refused 1 ", sheet.refused1);
-    print_row(b"shards refused 5 ", sheet.refused5);
-    print_row(b"shards refused 6 ", sheet.refused6);
-    print_row(b"shards refused 7 ", sheet.refused7);
-    print_row(b"shards refused 8 ", sheet.refused8);
-    print_row(b"shards refused 9 ", sheet.refused9);
-    print_row(b"shards refused 10 ", sheet.refused10);
-    print_row(b"shards refused 11 ", sheet.refused11);
-    print_row(b"shards refused 15 ", sheet.refused15);
-    print_row(b"shards refused 16 ", sheet.refused16);
-    print_row(b"shards refused 17 ", sheet.refused17);
-    print_row(b"shards refused 21 ", sheet.refused21);
-    print_row(b"shards refused 23 ", sheet.refused23);
-    print_row(b"chunks ", sheet.chunks);
-    print_row(b"chunk bytes ", sheet.bytes);
-    print_row(b"unlisted bytes ", sheet.unlisted);
+fn print_sheet(rt: &impl Print, sheet: Sheet) -> io::Result<()> {
+    print_row(rt, "shards sound", sheet.sound)?;
+    print_row(rt, "shards refused 1", sheet.refused1)?;
+    print_row(rt, "shards refused 5", sheet.refused5)?;
+    print_row(rt, "shards refused 6", sheet.refused6)?;
+    print_row(rt, "shards refused 7", sheet.refused7)?;
+    print_row(rt, "shards refused 8", sheet.refused8)?;
+    print_row(rt, "shards refused 9", sheet.refused9)?;
+    print_row(rt, "shards refused 10", sheet.refused10)?;
+    print_row(rt, "shards refused 11", sheet.refused11)?;
+    print_row(rt, "shards refused 15", sheet.refused15)?;
+    print_row(rt, "shards refused 16", sheet.refused16)?;
+    print_row(rt, "shards refused 17", sheet.refused17)?;
+    print_row(rt, "shards refused 21", sheet.refused21)?;
+    print_row(rt, "shards refused 23", sheet.refused23)?;
+    print_row(rt, "chunks", sheet.chunks)?;
+    print_row(rt, "chunk bytes", sheet.bytes)?;
+    print_row(rt, "unlisted bytes", sheet.unlisted)
 }
 
 // Why the reading stopped, where that was not the input's end.
-fn print_ending(ending: u8) {
+fn print_ending(rt: &impl Print, ending: u8) -> io::Result<()> {
     if ending == crate::one_turn::CUT {
-        io::write_all(STDOUT_FILENO, b"cut\n");
+        println!(rt; "cut")?;
     }
     if ending == crate::one_turn::LONG {
-        io::write_all(STDOUT_FILENO, b"too long\n");
+        println!(rt; "too long")?;
     }
     if ending == crate::one_turn::FULL {
-        io::write_all(STDOUT_FILENO, b"refused 27\n");
+        println!(rt; "refused 27")?;
     }
     if ending == crate::one_turn::UNREADABLE {
-        io::write_all(STDOUT_FILENO, b"unreadable\n");
+        println!(rt; "unreadable")?;
     }
+    Ok(())
 }
 
-fn main() {
-    let last = add_all();
-    print_sheet(last.sheet);
-    print_ending(last.ending);
+fn main(rt: HostRuntime) -> io::Result<()> {
+    let last = add_all(rt.stdin());
+    print_sheet(&rt, last.sheet)?;
+    print_ending(&rt, last.ending)
 }

@@ -83,7 +83,7 @@ module _ (spec : Sharding) (shard : ℕ) (index d : List ℕ) (id level node : �
 
   fragment-lies : Lies index d (pair_fragment spec shard index d id level node)
   fragment-lies = record {
-    behind = λ a k e. let j = fragment_joined e in omega (arith, j.decreases, fragment-behind spec shard (index ++ d) id level node a k j.found);
+    behind = λ a k e. let j = fragment_joined e in omega (arith, j.measured, fragment-behind spec shard (index ++ d) id level node a k j.found);
     inside = λ a k e. omega (arith, fragment-inside spec shard (index ++ d) id level node a k (fragment_joined e).found, length-append index d);
     short = λ a k e. rw (fragment_joined e).found at (part-short spec shard (index ++ d) id level node refl);
   }

@@ -102,7 +102,7 @@ module _ (spec : Sharding) (shard : ℕ) (index d : List ℕ) (id : ℕ) where
     behind = λ a k e.
         let j = lookup_joined e in
         let f = found-file spec shard (index ++ d) id a k j.found in
-        omega (arith, j.decreases, f.found.at.placed, length-take-le (index_length_of spec) (index ++ d) f.held);
+        omega (arith, j.measured, f.found.at.placed, length-take-le (index_length_of spec) (index ++ d) f.held);
     inside = λ a k e. omega (arith, found_inside spec shard (index ++ d) id a k (lookup_joined e).found, length-append index d);
     short = λ a k e. omega (arith, found_inside spec shard (index ++ d) id a k (lookup_joined e).found, (found-file spec shard (index ++ d) id a k (lookup_joined e).found).short);
   }

@@ -8,9 +8,9 @@ ghost use Rattle.sharding.specs.Specification.{most_preshift};
 ghost use Rattle.sharding.specs.placement.Place.{hashed_id};
 ghost use Rattle.vectors.specs.Vectors.{murmur_after, xorshift};
 
-use libc::STDOUT_FILENO;
 use sharding::Sharding;
 use sharding::placement::inner;
+use std::io;
 
 // The hashed id under murmur and a preshift.
 fn hashed(preshift: u8, id: u64) -> u64
@@ -38,51 +38,49 @@ fn next(x: u64) -> u64
     b ^ b << 17
 }
 
-fn print_line(preshift: u8, id: u64)
+fn print_line(rt: &impl Print, preshift: u8, id: u64) -> io::Result<()>
     requires { preshift ≤ most_preshift }
 {
-    io::print_decimal(STDOUT_FILENO, preshift as u64);
-    io::write_all(STDOUT_FILENO, b" ");
-    io::print_decimal(STDOUT_FILENO, id);
-    io::write_all(STDOUT_FILENO, b" ");
-    io::print_decimal(STDOUT_FILENO, hashed(preshift, id));
-    io::write_all(STDOUT_FILENO, b"\n");
+    let hashed = hashed(preshift, id);
+    println!(rt; "{preshift} {id} {hashed}")
 }
 
-fn print_powers(preshift: u8)
+fn print_powers(rt: &impl Print, preshift: u8) -> io::Result<()>
     requires { preshift ≤ most_preshift }
 {
     let mut k = 0u64;
     while k < 64 {
-        print_line(preshift, 1u64 << k);
+        print_line(rt, preshift, 1u64 << k)?;
         k += 1;
     }
+    Ok(())
 }
 
-fn print_random(preshift: u8)
+fn print_random(rt: &impl Print, preshift: u8) -> io::Result<()>
     requires { preshift ≤ most_preshift }
 {
     let mut x = 88172645463325252u64;
     let mut left = 32u32;
     while left > 0 {
         x = next(x);
-        print_line(preshift, x);
+        print_line(rt, preshift, x)?;
         left -= 1;
     }
+    Ok(())
 }
 
-fn print_all(preshift: u8)
+fn print_all(rt: &impl Print, preshift: u8) -> io::Result<()>
     requires { preshift ≤ most_preshift }
 {
-    print_line(preshift, 0);
-    print_powers(preshift);
-    print_line(preshift, u64::MAX);
-    print_random(preshift);
+    print_line(rt, preshift, 0)?;
+    print_powers(rt, preshift)?;
+    print_line(rt, preshift, u64::MAX)?;
+    print_random(rt, preshift)
 }
 
-fn main() {
-    print_all(0);
-    print_all(1);
-    print_all(9);
-    print_all(63);
+fn main(rt: HostRuntime) -> io::Result<()> {
+    print_all(&rt, 0)?;
+    print_all(&rt, 1)?;
+    print_all(&rt, 9)?;
+    print_all(&rt, 63)
 }

@@ -1,6 +1,6 @@
-//! Makes what repeats the export crate and the table of refusals: the C header,
-//! the declarations and constants of Rust and Python, the desk tool's table and
-//! the tables in docs/ENTRY-POINTS.md.
+//! Makes what repeats the library's C interface and the table of refusals: the
+//! export crate, the C header, the declarations and constants of Rust and Python,
+//! the desk tool's table and the tables in docs/ENTRY-POINTS.md.
 //!
 //! `interface ROOT` writes them, `interface ROOT --check` says which differ from
 //! what it would write.
@@ -14,20 +14,23 @@ mod python;
 mod rust;
 mod source;
 mod table;
+mod thin;
 
 use source::{text, Source};
 use std::path::{Path, PathBuf};
 use std::process::ExitCode;
 use std::{env, fs};
 
-/// The export crate's folder in crates/.
-const EXPORT_CRATE: &str = "coronagamba";
+/// The folder in crates/ of the library with the C interface. The export crate's
+/// name has `_c` behind it.
+const LIBRARY: &str = "coronagamba";
 
-/// Each file that is made, with its text.
-fn outputs(root: &Path) -> Result<Vec<(&'static str, String)>, String> {
+/// The files that are made, with their texts.
+fn outputs(root: &Path) -> Result<Vec<(String, String)>, String> {
     let own = root.join("rust/interface");
-    let mut source = Source::read(root, EXPORT_CRATE)?;
-    // All outputs have the functions in the header's order.
+    let mut source = Source::read(root, LIBRARY)?;
+    let thin = thin::files(&source, LIBRARY);
+    // All other outputs have the functions in the header's order.
     let template = text(&own.join("coronagamba.h.in"))?;
     source
         .modules
@@ -39,7 +42,8 @@ fn outputs(root: &Path) -> Result<Vec<(&'static str, String)>, String> {
     let constants = table::constants(&own.join("constants.txt"))?;
     let document = text(&root.join("docs/ENTRY-POINTS.md"))?;
     let workspace = text(&root.join("rust/Cargo.toml"))?;
-    Ok(vec![
+    let crates = text(&root.join("crates.txt"))?;
+    let others = [
         (
             "include/coronagamba.h",
             c::header(&template, &source, &refusals, &constants)?,
@@ -69,7 +73,44 @@ fn outputs(root: &Path) -> Result<Vec<(&'static str, String)>, String> {
             "rust/Cargo.toml",
             rust::workspace(&workspace, source.version)?,
         ),
-    ])
+        (
+            "crates.txt",
+            listed(&crates, &thin::uses(&source, LIBRARY))?,
+        ),
+    ];
+    let others = others.map(|(name, made)| (name.to_string(), made));
+    Ok(thin.into_iter().chain(others).collect())
+}
+
+/// crates.txt with the export crate's line made anew.
+fn listed(crates: &str, uses: &[String]) -> Result<String, String> {
+    let start = format!("{LIBRARY}_c staticlib:");
+    let there = crates.lines().any(|line| line.starts_with(&start));
+    let lines = crates.lines().map(|line| match line.starts_with(&start) {
+        true => format!("{start} {}\n", uses.join(" ")),
+        false => format!("{line}\n"),
+    });
+    let made = lines.collect();
+    there
+        .then_some(made)
+        .ok_or_else(|| format!("crates.txt has no line {start}"))
+}
+
+/// The files in the export crate's src/ that are not made: there should be none.
+fn strange(root: &Path, outputs: &[(String, String)]) -> Result<Vec<String>, String> {
+    let folder = format!("crates/{LIBRARY}_c/src");
+    let Ok(entries) = fs::read_dir(root.join(&folder)) else {
+        return Ok(Vec::new());
+    };
+    let mut found = Vec::new();
+    for entry in entries {
+        let entry = entry.map_err(|error| format!("{folder}: {error}"))?;
+        let path = format!("{folder}/{}", entry.file_name().to_string_lossy());
+        if !outputs.iter().any(|(made, _)| *made == path) {
+            found.push(path);
+        }
+    }
+    Ok(found)
 }
 
 /// The first line in which two texts differ, and the line in each.
@@ -99,6 +140,15 @@ fn run() -> Result<bool, String> {
     };
     let outputs = outputs(&root)?;
     let mut differing = 0;
+    for path in strange(&root, &outputs)? {
+        differing += 1;
+        if check {
+            println!("interface: {path} is none of the files that ./interface makes");
+        } else {
+            fs::remove_file(root.join(&path)).map_err(|error| format!("{path}: {error}"))?;
+            println!("interface: removed {path}");
+        }
+    }
     for (name, made) in &outputs {
         let path = root.join(name);
         let there = fs::read_to_string(&path).unwrap_or_default();
@@ -120,7 +170,7 @@ fn run() -> Result<bool, String> {
         }
     }
     println!(
-        "interface: {} files made from the export crate and its tables, {differing} differ{}",
+        "interface: {} files made from the library's C interface and its tables, {differing} differ{}",
         outputs.len(),
         if check { "" } else { "ed" }
     );

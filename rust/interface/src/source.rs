@@ -1,4 +1,4 @@
-//! The export crate as its source has it: functions, structs, version.
+//! The library's C interface as its source has it: functions, structs, version.
 
 use std::fs;
 use std::path::{Path, PathBuf};
@@ -23,7 +23,7 @@ pub enum Shape {
     Many,
 }
 
-/// An exported function.
+/// A function of the C interface.
 #[derive(Debug)]
 pub struct Function {
     /// Its name, in C too.
@@ -38,17 +38,32 @@ pub struct Function {
     pub result: Type,
     /// For each clause of the contract its name and the definitions in it.
     pub contract: Vec<(String, Vec<String>)>,
+    /// The lines of the contract as they stand.
+    pub clauses: String,
 }
 
-/// A file of the export crate.
+/// A file of the crate.
 #[derive(Debug)]
 pub struct Module {
     /// The file's name.
     pub name: String,
     /// Its first comment line.
     pub title: String,
-    /// The functions that it exports.
+    /// Its functions of the C interface.
     pub functions: Vec<Function>,
+    /// What it imports.
+    pub imports: Vec<Import>,
+}
+
+/// A line `use PATH::{..};` or `ghost use PATH.{..};`.
+#[derive(Debug)]
+pub struct Import {
+    /// Whether only contracts see it.
+    pub ghost: bool,
+    /// The path before the names.
+    pub path: String,
+    /// The names, as `name` or `name as other`.
+    pub names: Vec<String>,
 }
 
 /// A struct that crosses the border.
@@ -65,7 +80,7 @@ pub struct Struct {
 /// All that the outputs are made from, but for the tables.
 #[derive(Debug)]
 pub struct Source {
-    /// The files that export functions.
+    /// The files that have functions of the C interface.
     pub modules: Vec<Module>,
     /// The structs that they take, each behind those inside it.
     pub structs: Vec<Struct>,
@@ -79,7 +94,7 @@ pub const NUMBERS: [&str; 9] = [
 ];
 
 impl Source {
-    /// Reads the export crate in the repository at `root`.
+    /// Reads the crate in the repository at `root`.
     pub fn read(root: &Path, crate_name: &str) -> Result<Source, String> {
         let folder = root.join("crates").join(crate_name);
         let mut modules = Vec::new();
@@ -106,8 +121,8 @@ impl Source {
 }
 
 impl Struct {
-    /// A struct's name in C, by its Rattle name. The export crate's own structs,
-    /// for which the library has others, have a C in front: `CSharding` is
+    /// A struct's name in C, by its Rattle name. The interface's own structs, for
+    /// which the crates below have others, have a C in front: `CSharding` is
     /// `coronagamba_sharding`.
     pub fn name_in_c(name: &str) -> String {
         let own = name
@@ -183,7 +198,7 @@ fn module(path: &Path) -> Result<Module, String> {
     let mut functions = Vec::new();
     let definitions = definitions(&text);
     for (comment, item) in items(&text) {
-        if item.starts_with("#[no_mangle]") {
+        if item.starts_with(START) {
             functions.push(function(&comment, &item, &definitions).map_err(|what| wrong(&what))?);
         }
     }
@@ -197,18 +212,43 @@ fn module(path: &Path) -> Result<Module, String> {
             .ok_or_else(|| wrong("no comment on the first line"))?
             .into(),
         functions,
+        imports: text.lines().filter_map(import).collect(),
     })
 }
 
-/// Each item that begins with an attribute, up to the line that ends it, with
-/// the comment above it.
+/// What a line imports, where it does.
+fn import(line: &str) -> Option<Import> {
+    let (ghost, rest) = match line.strip_prefix("ghost use ") {
+        Some(rest) => (true, rest),
+        None => (false, line.strip_prefix("use ")?),
+    };
+    let rest = rest.strip_suffix(';')?;
+    let (path, names) = match rest.split_once(if ghost { ".{" } else { "::{" }) {
+        Some((path, names)) => (path, names.strip_suffix('}')?.split(", ").collect()),
+        None => {
+            let (path, name) = rest.rsplit_once(if ghost { "." } else { "::" })?;
+            (path, vec![name])
+        }
+    };
+    Some(Import {
+        ghost,
+        path: path.into(),
+        names: names.into_iter().map(String::from).collect(),
+    })
+}
+
+/// How a function of the C interface begins: the name says that it is one.
+const START: &str = "pub fn coronagamba_";
+
+/// Each public function and each item that begins with an attribute, up to the
+/// line that ends it, with the comment above it.
 fn items(text: &str) -> Vec<(Vec<&str>, String)> {
     let mut found = Vec::new();
     let (mut comment, mut item) = (Vec::new(), String::new());
     for line in text.lines() {
         if item.is_empty() && line.starts_with("// ") {
             comment.push(&line[3..]);
-        } else if !item.is_empty() || line.starts_with("#[") {
+        } else if !item.is_empty() || line.starts_with("#[") || line.starts_with("pub fn ") {
             item.push_str(line);
             item.push('\n');
             if line == "{" || line == "}" {
@@ -224,7 +264,7 @@ fn items(text: &str) -> Vec<(Vec<&str>, String)> {
 /// The project's own definitions that a file's contracts may cite.
 fn definitions(text: &str) -> Vec<&str> {
     text.lines()
-        .filter(|line| line.starts_with("ghost use Rattle·"))
+        .filter(|line| line.starts_with("ghost use Rattle.") && !line.contains(" Rattle.std."))
         .filter_map(|line| Some(line.split_once('{')?.1.split_once('}')?.0))
         .flat_map(|names| names.split(", "))
         .map(|name| name.rsplit(" as ").next().unwrap_or(name))
@@ -232,18 +272,19 @@ fn definitions(text: &str) -> Vec<&str> {
 }
 
 fn function(comment: &[&str], item: &str, definitions: &[&str]) -> Result<Function, String> {
-    let start = "#[no_mangle]\npub extern \"C\" fn ";
     let rest = item
-        .strip_prefix(start)
-        .ok_or_else(|| format!("not an exported function: {item}"))?;
+        .strip_prefix("pub fn ")
+        .ok_or_else(|| format!("not a public function: {item}"))?;
     let (name, rest) = rest.split_once('(').ok_or("no parameters")?;
     let wrong = |what: &str| format!("{name}: {what}");
     let (list, rest) = rest
         .split_once(')')
         .ok_or_else(|| wrong("no end of the parameters"))?;
-    let (head, clauses) = rest
-        .split_once("ensures ")
-        .ok_or_else(|| wrong("no contract"))?;
+    let (head, contract) = rest.split_once('\n').ok_or_else(|| wrong("no contract"))?;
+    let contract = contract.strip_suffix("{\n").unwrap_or(contract);
+    let clauses = contract
+        .strip_prefix("    ensures ")
+        .ok_or_else(|| wrong("a contract that does not begin with ensures"))?;
     let result = head
         .trim()
         .strip_prefix("-> ")
@@ -269,6 +310,7 @@ fn function(comment: &[&str], item: &str, definitions: &[&str]) -> Result<Functi
             .split("ensures ")
             .map(|clause| cited(clause, definitions))
             .collect(),
+        clauses: contract.into(),
     })
 }
 
@@ -336,9 +378,12 @@ fn structs(root: &Path) -> Result<Vec<Struct>, String> {
     for folder in folders {
         for path in rattle_files(&folder.join("src"))? {
             for (comment, item) in items(&text(&path)?) {
-                let Some(rest) = item.strip_prefix("#[repr(C)]\npub struct ") else {
+                let Some((attributes, rest)) = item.split_once("pub struct ") else {
                     continue;
                 };
+                if !attributes.lines().any(|line| line == "#[repr(C)]") {
+                    continue;
+                }
                 let (name, body) = rest.split_once(" {").ok_or("a struct without a body")?;
                 let fields = body
                     .lines()
@@ -406,21 +451,20 @@ mod tests {
 
     const TEXT: &str = "\
 // Things.
-ghost use mathlib.Core.Path.{_≡_};
-ghost use Rattle·a.specs.B.{shown, left as kept};
+ghost use Rattle.std.specs.Prelude.{◌≡◌};
+ghost use Rattle.a.specs.B.{shown, left as kept};
 
 // Copies all.
 // And more.
 // Refusals: 13 where there is no room, 14
-#[no_mangle]
-pub extern \"C\" fn copy_all(
+pub fn coronagamba_copy(
     from: &[u8],
     grid: &mut [u32; 3],
     out: &mut [u64],
     length: &mut u64,
 ) -> u64
-    ensures answer { λ r. ⌜ r ≡ shown (now (from .entry)) (shown 1) ⌝ }
-    ensures out { λ _. ⌜ now (out .exit) ≡ kept (now (out .entry)) ⌝ }
+    ensures answer { result ≡ shown from.now (shown 1) }
+    ensures out { out.new ≡ kept out.old }
 {
     0
 }
@@ -429,15 +473,15 @@ pub extern \"C\" fn copy_all(
     fn read(text: &str) -> Result<Function, String> {
         let found = items(text)
             .into_iter()
-            .find(|(_, item)| item.starts_with("#[no_mangle]"));
-        let (comment, item) = found.expect("an exported function");
+            .find(|(_, item)| item.starts_with(START));
+        let (comment, item) = found.expect("a function of the C interface");
         function(&comment, &item, &definitions(text))
     }
 
     #[test]
     fn a_function() {
         let found = read(TEXT).expect("it is whole");
-        assert_eq!(found.name, "copy_all");
+        assert_eq!(found.name, "coronagamba_copy");
         assert_eq!(found.about, "Copies all. And more.");
         assert_eq!(found.refusals, "13 where there is no room, 14");
         assert_eq!(found.result, Type::Plain("u64".into()));

@@ -80,10 +80,10 @@ module _ (spec : Sharding) (index d : List ℕ) (e : length index ≡ index_leng
 
 module _ {spec : Sharding} {index d : List ℕ} (s : Seamed spec index d) where
   pub seamed_index : index_part spec (index ++ d) ≡ index
-  seamed_index = seamed_front spec index d s.decreases
+  seamed_index = seamed_front spec index d s.measured
 
   pub seamed_data : data_part spec (index ++ d) ≡ d
-  seamed_data = seamed_back spec index d s.decreases
+  seamed_data = seamed_back spec index d s.measured
 
 -- ranges of the joined file before the seam, and from it on
 pub joined_front : (index d : List ℕ) (a k : ℕ) → a + k ≤ length index → take k (drop a (index ++ d)) ≡ take k (drop a index)
@@ -102,7 +102,7 @@ module _ (spec : Sharding) (index d : List ℕ) {n : ℕ} (p : n ≡ length_numb
   seamed = number_seamed spec index d (sym p ∙ z)
 
   pub seam_measured : length index ≡ index_length_of spec
-  seam_measured = seamed.decreases
+  seam_measured = seamed.measured
 
   pub seam_short : length d ≤ most_shard_bytes
   seam_short = omega (arith, seamed.short, length-append index d)
