@@ -1,0 +1,5 @@
+use Rattle.coronagamba.proofs.Given.{written}
+use Rattle.coronagamba.proofs.pairs.coronagamba_data_name.Goals as goal
+
+pub returns : goal.returns
+returns c = record { answer = search written; out = search written; length = search written }

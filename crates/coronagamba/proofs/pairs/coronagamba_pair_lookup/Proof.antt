@@ -1,8 +1,0 @@
-use borrow.Author.Rules.{rules}
-use Rattle.coronagamba.proofs.Given.{looked}
-use Rattle.coronagamba.proofs.Paired.{fitting}
-use Rattle.coronagamba.proofs.pairs.coronagamba_pair_lookup.Statement.{statement}
-use Rattle.coronagamba.proofs.pairs.coronagamba_pair_lookup.Tie as tie
-
-pub coronagamba_pair_lookup_spec : {M : Type 1} → statement M
-coronagamba_pair_lookup_spec = tie.close (tie.spec (λ c κs. search rules) (λ c κs. search rules) (λ c κs k p h. search fitting) (λ c. (search looked, (search looked, search looked))))

@@ -1,0 +1,9 @@
+use Rattle.coronagamba.proofs.Given.{looked}
+use Rattle.coronagamba.proofs.Checked.{fitting}
+use Rattle.coronagamba.proofs.shards.coronagamba_fragment.Goals as goal
+
+pub put_found-requires : goal.put_found-requires
+put_found-requires c = search fitting
+
+pub returns : goal.returns
+returns c = record { answer = search looked; start = search looked; length = search looked }

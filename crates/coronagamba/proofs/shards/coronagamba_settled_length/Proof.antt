@@ -1,8 +1,0 @@
-use borrow.Author.Rules.{rules}
-use Rattle.coronagamba.proofs.Given.{settled}
-use Rattle.coronagamba.proofs.Checked.{fitting}
-use Rattle.coronagamba.proofs.shards.coronagamba_settled_length.Statement.{statement}
-use Rattle.coronagamba.proofs.shards.coronagamba_settled_length.Tie as tie
-
-pub coronagamba_settled_length_spec : {M : Type 1} → statement M
-coronagamba_settled_length_spec = tie.close (tie.spec (λ c κs. search rules) (λ c κs. search rules) (λ c κs. search rules) (λ c κs k p h. search fitting) (λ c. (search settled, search settled)))
