@@ -100,8 +100,9 @@ module _ (spec : Sharding) (shard : ℕ) (index d : List ℕ) where
   check_decided_pair = pair_decided check_result C.Refused (λ k. refl) spec (no_such_shard spec shard) index (check_decided spec shard (index ++ d))
 
   pub check-names-pair : (k m p : ℕ) → (pair_check spec shard index d ≡ C.Faulty k m p) ↔ ((length index ≡ index_length_of spec) × FirstFaultIs spec shard (index ++ d) k m p)
+  unfolding pair_check
   check-names-pair k m p = (
-    λ e. go (first_number (pair_checks spec (no_such_shard spec shard) index)) refl (unfold pair_check in e),
+    λ e. go (first_number (pair_checks spec (no_such_shard spec shard) index)) refl e,
     λ g. check_as_joined spec shard index d g.0 ∙ (check-names spec shard (index ++ d) k m p).1 g.1,
   )
     where

@@ -108,7 +108,7 @@ module _ {spec : Sharding} {shard output waiting : ℕ} where
       rw (a, n) (part-numbers r.numbers l bytes r.output r.waiting (a ∙ n)) in
       let f₁ : Fit spec shard output waiting (after_part d bytes s) = hands_fit (part n no_part) f in
       let o : part_left (state_of r.numbers) bytes r.output r.waiting ≡ part_left d.state bytes d.output d.waiting = rw (m.back, m.output, m.waiting) in
-      let k = row_hands rest f₁ (mirrored f₁ x o m.waiting) in
+      let k = row_hands {d = after_part d bytes s} rest f₁ (mirrored f₁ x o m.waiting) in
       record { desk = k.desk; hands = part n k.hands; fit = k.fit; mirrors = k.mirrors }
 
   row-delivers : {d : Desk} {r e : Row} {xs : List Delivery} → RowDelivers r xs e → Fit spec shard output waiting d → Mirrors r d → Ends d xs e
@@ -124,7 +124,7 @@ module _ {spec : Sharding} {shard output waiting : ℕ} where
       let o : announce_left (state_of r.numbers) x.id x.size r.output r.waiting ≡ announce_left t x.id x.size d.output d.waiting = rw (m.back, m.output, m.waiting) in
       let w : announce_waiting (state_of r.numbers) x.id x.size r.output r.waiting ≡ announce_waiting t x.id x.size d.output d.waiting = rw (m.back, m.output, m.waiting) in
       let h = row_hands hands f₁ (mirrored f₁ y o w) in
-      let k = row-delivers rest h.fit h.mirrors in
+      let k = row-delivers {d = h.desk} rest h.fit h.mirrors in
       record { desk = k.desk; delivers = chunk l n h.hands k.delivers; mirrors = k.mirrors }
 
 -- ---- the run and its close

@@ -1,6 +1,6 @@
 -- What a call that writes has written, where it is not refused.
 use Prim.Native.Nat.{ℕ, zero, suc, ◌*◌}
-use mathlib.Core.Path.{◌≡◌, refl, sym, ◌∙◌}
+use mathlib.Core.Path.{◌≡◌, sym, ◌∙◌}
 use mathlib.Core.List.{List}
 use mathlib.Core.Option.{Option, none, some}
 use native.Mathlib.Omega.{arith}
@@ -12,7 +12,7 @@ use Rattle.refusal.specs.declared.Written.TheVariants.{Length, Refused}
 use Rattle.refusal.specs.declared.CountAnswer.TheVariants as N
 use Rattle.sharding.specs.declared.Sharding.{Sharding}
 use Rattle.sharding.specs.batch.Batch.{shards_of, minishards_of, places_checks, places_answer, shards_left, minishards_left}
-use Rattle.shard.specs.index.Index.{entry_start_of, entry_end_of}
+use Rattle.shard.specs.index.Index.{entry_start_of}
 use Rattle.shard.specs.File.{index_part, data_part}
 use Rattle.lookup.specs.entries.Entries.{listing_in}
 use Rattle.lookup.specs.listings.Listing.{listing_of, listed_count, count_checks, count_answer}

@@ -2,45 +2,24 @@
 use Rattle.std.specs.Prelude.{ℕ, ◌≡◌, ◌↔◌, List, ◌++◌, length}
 use Rattle.std.proofs.Math.Option.{none}
 use Rattle.refusal.specs.Result.{Result, faulty_in, written_result, count_result}
-use Rattle.refusal.specs.declared.Written.{Written}
-use Rattle.refusal.specs.declared.CountAnswer.{CountAnswer}
-use Rattle.morton.specs.declared.grid.GridAnswer.{GridAnswer}
-use Rattle.morton.specs.declared.KeyAnswer.{KeyAnswer}
-use Rattle.morton.specs.declared.CellAnswer.{CellAnswer}
-use Rattle.morton.specs.declared.bounds.BoundsAnswer.{BoundsAnswer}
 use Rattle.morton.specs.grid.Answers.{grid_result}
 use Rattle.morton.specs.Answers.{key_result, cell_result}
 use Rattle.morton.specs.bounds.Answers.{bounds_result}
 use Rattle.sharding.specs.declared.Sharding.{Sharding}
-use Rattle.sharding.specs.declared.placement.PlaceAnswer.{PlaceAnswer}
 use Rattle.sharding.specs.placement.Place.{place_result}
-use Rattle.shard.specs.declared.CheckAnswer.{CheckAnswer}
 use Rattle.shard.specs.File.{index_length_of, check_answer, check_result}
 use Rattle.shard.specs.Sound.{FirstFaultIs}
-use Rattle.lookup.specs.declared.id_search.LookupAnswer.{LookupAnswer}
 use Rattle.lookup.specs.Find.{lookup_result}
-use Rattle.split_shard.specs.declared.held_range.RangeAnswer.{RangeAnswer}
 use Rattle.split_shard.specs.seam.Range.{range_result}
 use Rattle.split_shard.specs.Answers.{pair_check}
-use Rattle.intake.specs.declared.IntakeAnswer.{IntakeAnswer}
-use Rattle.intake.specs.declared.CloseAnswer.{CloseAnswer}
 use Rattle.intake.specs.Calls.{intake_result, close_result}
-use Rattle.holdings.specs.declared.measures.MeasureAnswer.{MeasureAnswer}
 use Rattle.holdings.specs.measures.Answers.{measure_answer, pair_measure, measure_result}
-use Rattle.holdings.specs.declared.SheetAnswer.{SheetAnswer}
 use Rattle.holdings.specs.Answers.{sheet_result}
-use Rattle.card.specs.declared.CardAnswer.{CardAnswer}
 use Rattle.card.specs.Answers.{card_result}
-use Rattle.mesh_manifest.specs.declared.sound.ManifestAnswer.{ManifestAnswer}
-use Rattle.mesh_manifest.specs.declared.HeaderAnswer.{HeaderAnswer}
-use Rattle.mesh_manifest.specs.declared.Field.{Field}
-use Rattle.mesh_manifest.specs.declared.nodes.NodeAnswer.{NodeAnswer}
-use Rattle.mesh_manifest.specs.declared.corners.CornersAnswer.{CornersAnswer}
 use Rattle.mesh_manifest.specs.sound.Verdict.{manifest_result}
 use Rattle.mesh_manifest.specs.Fields.{header_result, field_result}
 use Rattle.mesh_manifest.specs.nodes.Nodes.{node_result}
 use Rattle.mesh_manifest.specs.corners.Boxes.{corners_result}
-use Rattle.compressed_segmentation.specs.declared.LabelAnswer.{LabelAnswer}
 use Rattle.compressed_segmentation.specs.Labels.{label_result}
 
 -- no answer of this kind names a minishard

@@ -2,7 +2,7 @@
 use Rattle.std.specs.Prelude.{ℕ, ◌-◌, ◌^◌, true, List, [], ◌∷◌, ◌++◌}
 use Rattle.endian.specs.Little.{row, row32}
 use Rattle.sharding.specs.declared.Sharding.{Sharding}
-use Rattle.sharding.specs.Specification.{identity, volume, mesh}
+use Rattle.sharding.specs.Specification.{volume, mesh}
 use Rattle.shard.specs.declared.CheckAnswer.{CheckAnswer}
 use Rattle.shard.specs.declared.CheckAnswer.TheVariants.{Sound, Faulty}
 use Rattle.shard.specs.Items.{Item}
