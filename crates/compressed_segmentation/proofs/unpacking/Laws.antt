@@ -152,11 +152,11 @@ module _ (s : List ℕ) (sh : Shape) (out : List ℕ) where
   pub refuses_by_voxels : RefusesByVoxels s sh out
   refuses_by_voxels =
       record {
-        other_width_lem = λ n. (
+        refused_29 = λ n. (
           λ e. found 29 (omega arith) (number_29 (no_voxels sh) (some_refused 29 s sh) (some_refused 28 s sh) short (sym checked ∙ refused_by 29 e)),
           λ r. by_first 29 (omega arith) (checked ∙ rw (n, some 29 r)),
         );
-        cut_off_lem = λ n. (
+        refused_28 = λ n. (
           λ e.
               let f = number_28 (no_voxels sh) (some_refused 29 s sh) (some_refused 28 s sh) short (sym checked ∙ refused_by 28 e) in
               (found 28 (omega arith) f.1, λ r. true≢false (sym (some 29 r) ∙ f.0)),

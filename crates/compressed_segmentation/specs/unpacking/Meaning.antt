@@ -31,5 +31,5 @@ pub record SomeRefused (k : ℕ) (s : List ℕ) (sh : Shape) : Type 0 where
 
 -- "it gives 29 if any voxel would, else 28 if any would" (RULES E9)
 pub record RefusesByVoxels (s : List ℕ) (sh : Shape) (out : List ℕ) : Type 0 where
-  pub other_width_lem : no_voxels sh ≡ false → (unpack_answer s sh out ≡ Refused 29) ↔ SomeRefused 29 s sh
-  pub cut_off_lem : no_voxels sh ≡ false → (unpack_answer s sh out ≡ Refused 28) ↔ (SomeRefused 28 s sh × (SomeRefused 29 s sh → ⊥))
+  pub refused_29 : no_voxels sh ≡ false → (unpack_answer s sh out ≡ Refused 29) ↔ SomeRefused 29 s sh
+  pub refused_28 : no_voxels sh ≡ false → (unpack_answer s sh out ≡ Refused 28) ↔ (SomeRefused 28 s sh × (SomeRefused 29 s sh → ⊥))
