@@ -6,16 +6,18 @@ use mathlib.Core.List.{List}
 use native.Mathlib.Omega.{arith}
 use lib.Bits.{bit_or}
 use lib.Dec.{ltb, eqb}
-use lib.ListN.{length, get_or, set, length-set}
-use lib.Seq.{get_or-set_same, get_or-set_other}
-use borrow.Author.Rules.{rules}
+use lib.ListN.{length, get_or, take, drop, set, replicate, length-set, length-append, length-take, length-drop, length-replicate}
+use lib.Seq.{get_or-set_same, get_or-set_other, get_or-take, get_or-drop}
+use borrow.Rule.Slice.PartMut.{put_mid}
+use Rattle.std.proofs.lemmas.List.{get_or-replicate}
+use Rattle.std.proofs.lemmas.Slice.{take-put_mid_below, drop-put_mid, between-put_mid}
 use borrow.Author.Tests.{ltb-true, ltb-false, eqb-true, eqb-false}
 use mir.Val.{Fits}
 use mir.Syntax.{w64}
 use Rattle.endian.specs.Range.{sum_to}
 use Rattle.bitmap.specs.Positions.{within, after, misses}
 use Rattle.bitmap.specs.Bits.{bit_of, bit_at, Marked}
-use Rattle.bitmap.proofs.Within.{or-second, within-yes, within-before, within-past, within_shift, within-empty, within_join}
+use Rattle.bitmap.proofs.Within.{or-second, within-yes, within-before, within-past, within_shift, within_join}
 use Rattle.bitmap.proofs.Counts.{misses-le, misses_split}
 use Rattle.bitmap.proofs.Words.{bit-or, bit_run, bit_shift, run_of}
 
@@ -81,26 +83,57 @@ range_at m e f = marked_as m (λ i l. rw (e, f))
 range_join : {p q r : List ℕ} {a b c d : ℕ} → Marked p q (within a b) → Marked q r (within c d) → b ≡ c → a ≤ b → c ≤ d → Marked p r (within a d)
 range_join {a = a} {b} {c} {d} m n e h k = marked-then m n (λ i. rw e (within_join a c d i (omega arith) k))
 
-full-word : (ws : List ℕ) (k : ℕ) → k < length ws → Marked ws (set ws k 18446744073709551615) (within (64 * k + 0) (64 * k + 64))
-full-word ws k h =
-    marked-word ws k 0 64 18446744073709551615 h (omega arith)
-    (λ i n.
-    let w : within 0 64 i ≡ true = within-yes 0 64 i (omega arith) n in
-    bit_run 0 64 i 18446744073709551615 refl ∙ w ∙ sym (or-second (bit_of (get_or ws k 0) i) (within 0 64 i) w))
+module _ (ws : List ℕ) (k l : ℕ) {ys : List ℕ} (h : k ≤ l) (m : l ≤ length ws) (e : ys ≡ replicate (l - k) 18446744073709551615) where
+  word_below : (j : ℕ) → j < k → get_or (put_mid k (l - k) ws ys) j 0 ≡ get_or ws j 0
+  word_below j g =
+      sym (get_or-take k (put_mid k (l - k) ws ys) j 0 g) ∙ ap (λ (v : List ℕ). get_or v j 0) (take-put_mid_below k (l - k) ws ys k (omega arith) (omega arith))
+      ∙ get_or-take k ws j 0 g
 
-pub fill_first : (ws : List ℕ) (k : ℕ) → Marked ws ws (within (64 * k) (64 * k))
-fill_first ws k = marked-none ws (λ i l. within-empty (64 * k) (64 * k) i (omega arith))
+  word_inside : (j : ℕ) → k ≤ j → j < l → get_or (put_mid k (l - k) ws ys) j 0 ≡ 18446744073709551615
+  word_inside j g f =
+      let p : k + (j - k) ≡ j = omega arith in
+      let n : length ys ≡ l - k = ap length e ∙ length-replicate (l - k) 18446744073709551615 in
+      ap (λ (i : ℕ). get_or (put_mid k (l - k) ws ys) i 0) (sym p)
+      ∙ sym (get_or-drop k (put_mid k (l - k) ws ys) (j - k) 0)
+      ∙ sym (get_or-take (l - k) (drop k (put_mid k (l - k) ws ys)) (j - k) 0 (omega arith))
+      ∙ ap (λ (v : List ℕ). get_or v (j - k) 0) (between-put_mid k (l - k) ws ys l (omega arith) n ∙ e)
+      ∙ get_or-replicate (l - k) (j - k) 18446744073709551615 0 (omega arith)
 
-pub fill_next : {p q : List ℕ} (k i : ℕ) {l : ℕ} → Marked p q (within (64 * k) (64 * i)) → k ≤ i → i < l → l ≤ length p
-    → Marked p (set q i 18446744073709551615) (within (64 * k) (64 * (i + 1)))
-fill_next {p} {q} k i m h n u =
-    let s = m.same in
-    range_at (range_join m (full-word q i (omega arith)) (omega arith) (omega arith) (omega arith)) refl (omega arith)
+  word_past : (j : ℕ) → l ≤ j → get_or (put_mid k (l - k) ws ys) j 0 ≡ get_or ws j 0
+  word_past j g =
+      let p : l + (j - l) ≡ j = omega arith in
+      let n : length ys ≡ l - k = ap length e ∙ length-replicate (l - k) 18446744073709551615 in
+      ap (λ (i : ℕ). get_or (put_mid k (l - k) ws ys) i 0) (sym p)
+      ∙ sym (get_or-drop l (put_mid k (l - k) ws ys) (j - l) 0)
+      ∙ ap (λ (v : List ℕ). get_or v (j - l) 0) (drop-put_mid k (l - k) ws ys l (omega arith) (omega arith) n)
+      ∙ get_or-drop l ws (j - l) 0 ∙ ap (λ (i : ℕ). get_or ws i 0) p
 
-pub fill_last : {p q : List ℕ} (k l i : ℕ) → Marked p q (within (64 * k) (64 * i)) → i ≤ l → l ≤ i → Marked p q (within (64 * k) (64 * l))
-fill_last k l i m g h = range_at m refl (omega arith)
+  filled-bit : (i : ℕ) → bit_at (put_mid k (l - k) ws ys) i ≡ bit_at ws i || within (64 * k) (64 * l) i
+  unfolding bit_at
+  filled-bit i = go (ltb (i / 64) k) refl (ltb (i / 64) l) refl
+    where
+      go : (s : Bool) → ltb (i / 64) k ≡ s → (t : Bool) → ltb (i / 64) l ≡ t
+          → bit_of (get_or (put_mid k (l - k) ws ys) (i / 64) 0) (i % 64) ≡ bit_of (get_or ws (i / 64) 0) (i % 64) || within (64 * k) (64 * l) i
+      go true a t b =
+          let c = ltb-true (i / 64) k a in
+          rw (word_below (i / 64) c, within-before (64 * k) (64 * l) i (omega arith)) (sym (or-false _))
+      go false a true b =
+          let c = ltb-false (i / 64) k a in
+          let d = ltb-true (i / 64) l b in
+          let w : within (64 * k) (64 * l) i ≡ true = within-yes (64 * k) (64 * l) i (omega arith) (omega arith) in
+          let u : bit_of 18446744073709551615 (i % 64) ≡ true = bit_run 0 64 (i % 64) 18446744073709551615 refl ∙ within-yes 0 64 (i % 64) (omega arith) (omega arith) in
+          rw (word_inside (i / 64) c d, u) (sym (or-second (bit_of (get_or ws (i / 64) 0) (i % 64)) (within (64 * k) (64 * l) i) w))
+      go false a false b =
+          let d = ltb-false (i / 64) l b in
+          rw (word_past (i / 64) d, within-past (64 * k) (64 * l) i (omega arith)) (sym (or-false _))
 
-pub ruleset filling = (fill_first, fill_next, fill_last, rules)
+  pub fill_marked : Marked ws (put_mid k (l - k) ws ys) (within (64 * k) (64 * l))
+  fill_marked = record {
+    same =
+        let n : length ys ≡ l - k = ap length e ∙ length-replicate (l - k) 18446744073709551615 in
+        simp (length-append, length-take, length-drop) (omega arith);
+    bits = λ i _. filled-bit i;
+  }
 
 -- ---- from a to b: in one word; or the end of a word, whole words, and the beginning of a word
 
@@ -146,10 +179,14 @@ open_next {ws} {k} {i} h l e =
     let c : misses (after (64 * k) (bit_at ws)) (64 * (i + 1)) ≡ misses (after (64 * k) (bit_at ws)) (64 * i + 64) = ap (misses (after (64 * k) (bit_at ws))) (omega arith) in
     record { below = omega arith; total = omega arith }
 
+-- the same, where the words are read as a part
+pub open_part : {ws : List ℕ} {k i t z : ℕ} → Open ws k i t → i < 64 → z ≡ misses (bit_of (get_or (take (k + 64 - k) (drop k ws)) i 0)) 64 → Open ws k (i + 1) (t + z)
+open_part {ws} {k} {i} h l e =
+    let n : i < k + 64 - k = omega arith in
+    open_next h l (e ∙ ap (λ (w : ℕ). misses (bit_of w) 64) (get_or-take (k + 64 - k) (drop k ws) i 0 n ∙ get_or-drop k ws i 0))
+
 pub open_last : {ws : List ℕ} {k i t : ℕ} → Open ws k i t → 64 ≤ i → t ≡ misses (after (64 * k) (bit_at ws)) 4096
 open_last {ws} {k} h l = let b = h.below in h.total ∙ ap (misses (after (64 * k) (bit_at ws))) (omega arith)
 
 pub open_most : {ws : List ℕ} {k i t : ℕ} → Open ws k i t → 64 ≤ i → t ≤ 4096
 open_most {ws} {k} h l = omega (arith, open_last h l, misses-le (after (64 * k) (bit_at ws)) 4096)
-
-pub ruleset opening = (open_first, open_fits, open_next, open_last, open_most, rules)

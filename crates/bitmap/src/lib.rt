@@ -16,9 +16,9 @@ fn low_bits(x: usize) -> u64
     ensures { result ≡ 2 ^ x - 1 }
 {
     if x == 64 {
-        return 18446744073709551615;
+        return u64::MAX;
     }
-    (1u64 << x as u64) - 1
+    (1u64 << x) - 1
 }
 
 // The bits x to y of word k.
@@ -27,19 +27,16 @@ fn mark_word(map: &mut [u64], k: usize, x: usize, y: usize)
     ensures { Marked map.old map.new (within (64 * k + x) (64 * k + y)) }
 {
     let bits = low_bits(y) - low_bits(x);
-    map[k] = map[k] | bits;
+    map[k] |= bits;
 }
 
 // All bits of the words k to l.
+#[tactic(auto, using(crate::proofs::Marks::fill_marked))]
 fn fill_words(map: &mut [u64], k: usize, l: usize)
     requires { (k ≤ l) × (l ≤ length map.old) }
     ensures { Marked map.old map.new (within (64 * k) (64 * l)) }
 {
-    let mut i = k;
-    while i < l {
-        map[i] = 18446744073709551615;
-        i += 1;
-    }
+    map[k..l].fill(u64::MAX);
 }
 
 // The bits a to b.
@@ -64,26 +61,25 @@ pub fn is_marked(map: &[u64], i: usize) -> bool
     requires { i < 64 * length map.now }
     ensures { result ≡ bit_at map.now i }
 {
-    (map[i / 64] >> (i % 64) as u64) % 2 == 1
+    (map[i / 64] >> (i % 64)) % 2 == 1
 }
 
 // How many bits of a word are not set.
 fn zeros(word: u64) -> u64
     ensures { (result ≡ misses (bit_of word) 64) × (result ≤ 64) }
 {
-    64 - u64::count_ones(word) as u64
+    u64::from(word.count_zeros())
 }
 
 // How many bits of the 64 words from k on are not set.
+#[tactic(auto, using(crate::proofs::Marks::open_first, crate::proofs::Marks::open_part, crate::proofs::Marks::open_last, crate::proofs::Marks::open_most))]
 pub fn zeros_of(map: &[u64], k: usize) -> u64
     requires { k + 64 ≤ length map.now }
     ensures { (result ≡ misses (after (64 * k) (bit_at map.now)) 4096) × (result ≤ 4096) }
 {
-    let mut total: u64 = 0;
-    let mut i: usize = 0;
-    while i < 64 {
-        total += zeros(map[k + i]);
-        i += 1;
+    let mut total = 0;
+    for word in &map[k..k + 64] {
+        total += zeros(*word);
     }
     total
 }

@@ -5,6 +5,8 @@ ghost use Rattle.bitmap.specs.Positions.{within};
 ghost use Rattle.bitmap.specs.Bits.{bit_at, Marked};
 ghost use Rattle.bitmap.specs.visited.Seen.{Sees, Blank};
 
+use crate::is_marked;
+
 pub const MAP_WORDS: usize = 4096;
 
 // Whether place o is noted: none past the map is.
@@ -13,18 +15,15 @@ pub fn is_seen(map: &[u64], o: u64) -> bool
     ensures { result ≡ bit_at map.now o }
 {
     let i = o as usize;
-    if map.len() <= i / 64 {
-        return false;
-    }
-    (map[i / 64] >> (i % 64) as u64) % 2 == 1
+    i / 64 < map.len() && is_marked(map, i)
 }
 
+// One bit by one shift: mark_word would take two and a test.
 fn set_bit(map: &mut [u64], k: usize, x: usize)
     requires { (k < length map.old) × (x < 64) }
     ensures { Marked map.old map.new (within (64 * k + x) (64 * k + (x + 1))) }
 {
-    let bit = 1u64 << x as u64;
-    map[k] = map[k] | bit;
+    map[k] |= 1u64 << x;
 }
 
 // A place past the map is not noted.
@@ -38,13 +37,9 @@ pub fn see(map: &mut [u64], o: u64)
     }
 }
 
+#[tactic(auto, using(crate::proofs::visited::Noted::blank_filled))]
 pub fn clear(map: &mut [u64])
     ensures { Blank map.new }
 {
-    let n = map.len();
-    let mut i: usize = 0;
-    while i < n {
-        map[i] = 0;
-        i += 1;
-    }
+    map.fill(0);
 }

@@ -16,7 +16,7 @@ pub fn note(map: &mut [u64], a: usize, b: usize)
     requires { (length map.old ≡ window_words) × (a ≤ b) × (b ≤ span) }
     ensures { Notes map.old map.new (within a b) }
 {
-    let first = (a + 4095) / 4096;
+    let first = a.div_ceil(4096);
     let last = b / 4096;
     if last <= first {
         mark(map, a, b);
@@ -39,15 +39,14 @@ fn open_in(map: &[u64], g: usize) -> u64
 }
 
 // How many positions are not noted.
+#[tactic(auto, using(crate::proofs::window::Windows::tally_first, crate::proofs::window::Windows::tally_next, crate::proofs::window::Windows::tally_last))]
 fn open_count(map: &[u64]) -> u64
     requires { length map.now ≡ window_words }
     ensures { result ≡ misses (noted map.now) span }
 {
-    let mut total: u64 = 0;
-    let mut g: usize = 0;
-    while g < 1016 {
+    let mut total = 0;
+    for g in 0..1016 {
         total += open_in(map, g);
-        g += 1;
     }
     total
 }

@@ -9,8 +9,11 @@ use borrow.Author.Tests.{lt-ltb, le-ltb}
 use Rattle.refusal.specs.Choice.{pick}
 use Rattle.refusal.specs.Checks.{first_number, unless}
 use Rattle.refusal.specs.Buffer.{room, over, written, left_by}
-use Rattle.refusal.specs.declared.Written.{Written}
-use Rattle.refusal.specs.declared.Written.TheVariants.{Length, Refused as WriteRefused}
+use Rattle.std.specs.Prelude.{Ok, Err}
+use Rattle.refusal.specs.declared.Refusal.{Refusal}
+use Rattle.refusal.specs.declared.Refusal.TheVariants.{ShardingNotAllowed, NoSuchCell, TooManyKeyBits}
+use Rattle.refusal.specs.Answers.{Answer, refuse, judged}
+use Rattle.refusal.proofs.Passed.{pass, pass-not, passed-on, passed-refused, passed-kept}
 use Rattle.refusal.proofs.Picks.{AllIn, all_in_lem}
 use Rattle.refusal.proofs.Refusing.{answered-both}
 use Rattle.refusal.proofs.Tests.{told-no, told-yes}
@@ -18,7 +21,6 @@ use Rattle.morton.specs.grid.Grid.{grid_of, zero_extent}
 use Rattle.morton.specs.Key.{key_bits_of, too_many_bits}
 use Rattle.sharding.specs.Specification.{allowed}
 use Rattle.card.specs.declared.Card.{Card}
-use Rattle.card.specs.declared.CardAnswer.TheVariants.{Says, Refused}
 use Rattle.card.specs.Layout.{card_bytes}
 use Rattle.card.specs.form.Form.{well_formed}
 use Rattle.card.specs.Reading.{card_in}
@@ -62,63 +64,68 @@ record_in : (c : Card) → AllIn (record_checks c)
 unfolding record_checks
 record_in c = all_in_lem (record_checks c) refl
 
--- ---- an answer by a number
-module _ {A : Type 0} (r : ℕ → A) (a : A) where
-  unless-none : (n : ℕ) → n ≡ 0 → unless r n a ≡ a
-  unfolding unless
-  unless-none zero e = refl
-  unless-none (suc n) e = absurd (omega arith)
+-- what the judge answers
+module _ (c : Card) {a : Bool} (ea : a ≡ allowed c.sharding) where
+  pub judged_1 : not a ≡ true → refuse 1 ≡ judged (fault c)
+  judged_1 t = pass-not (fault c) ShardingNotAllowed (sym (fault_1 c ea t)) (rw (← fault_1 c ea t) (omega arith))
 
-  unless-some : (n : ℕ) → (n ≡ 0 → ⊥) → unless r n a ≡ r n
-  unfolding unless
-  unless-some zero f = absurd (f refl)
-  unless-some (suc n) f = refl
+  module _ (na : not a ≡ false) {z : Bool} (ez : z ≡ zero_extent c.volume) where
+    pub judged_2 : z ≡ true → refuse 2 ≡ judged (fault c)
+    judged_2 t = pass-not (fault c) NoSuchCell (sym (fault_2 c ea na ez t)) (rw (← fault_2 c ea na ez t) (omega arith))
+
+    module _ (nz : z ≡ false) {b : ℕ} (eb : b ≡ key_bits_of (grid_of c.volume)) where
+      pub judged_3 : 64 < b → refuse 3 ≡ judged (fault c)
+      judged_3 h = pass-not (fault c) TooManyKeyBits (sym (fault_3 c ea na ez nz eb h)) (rw (← fault_3 c ea na ez nz eb h) (omega arith))
+
+      pub judged_0 : b ≤ 64 → Ok tt ≡ judged (fault c)
+      judged_0 h = pass (fault c) (sym (fault_0 c ea na ez nz eb h))
 
 -- ---- reading: w is whether the card is well formed, n its fault
 module _ (s : List ℕ) where
-  pub read_first : read_answer s ≡ unless Refused (pick (not (well_formed s)) 14 (fault (card_in s))) (Says (card_in s))
+  pub read_first : read_answer s ≡ unless refuse (pick (not (well_formed s)) 14 (fault (card_in s))) (Ok (card_in s))
   unfolding read_answer read_checks first_number
   read_first = refl
 
   module _ {w : Bool} (ew : w ≡ well_formed s) where
-    pub read_14 : not w ≡ true → Refused 14 ≡ read_answer s
+    pub read_14 : not w ≡ true → refuse 14 ≡ read_answer s
     unfolding unless
     read_14 t = sym (read_first ∙ rw (told-no ew t))
 
     pub formed-is : not w ≡ false → well_formed s ≡ true
     formed-is t = told-yes ew t
 
-    module _ (t : not w ≡ false) {c : Card} (ec : c ≡ card_in s) {n : ℕ} (en : n ≡ fault c) where
-      formed : read_answer s ≡ unless Refused n (Says c)
-      formed = read_first ∙ rw (formed-is t, ← ec, ← en)
+    module _ (t : not w ≡ false) {c : Card} (ec : c ≡ card_in s) where
+      formed : read_answer s ≡ unless refuse (fault c) (Ok c)
+      formed = read_first ∙ rw (formed-is t, ← ec)
 
-      pub read-refused : (n ≡ 0 → ⊥) → Refused n ≡ read_answer s
-      read-refused f = sym (formed ∙ unless-some Refused (Says c) n f)
+      pub read-refused : (k : Refusal) → Err k ≡ judged (fault c) → Err k ≡ read_answer s
+      read-refused k e = passed-refused (fault c) e (Ok c) ∙ sym formed
 
-      pub read_says : n ≡ 0 → Says c ≡ read_answer s
-      read_says e = sym (formed ∙ unless-none Refused (Says c) n e)
+      pub read_says : {x : Unit {0}} → Ok x ≡ judged (fault c) → Ok c ≡ read_answer s
+      read_says e = sym (formed ∙ passed-on (fault c) e refuse (Ok c))
 
 -- ---- writing
 module _ (c : Card) (d : List ℕ) where
-  pub write_first : write_answer c d ≡ unless WriteRefused (fault c) (written (card_bytes c) d)
+  pub write_first : write_answer c d ≡ unless refuse (fault c) (written (card_bytes c) d)
   unfolding write_answer write_checks written
-  write_first = answered-both WriteRefused (record_checks c) (room (card_bytes c) d ∷ []) (Length _) (record_in c)
+  write_first = answered-both refuse (record_checks c) (room (card_bytes c) d ∷ []) (Ok _) (record_in c)
 
   pub left-first : write_left c d ≡ unless (λ k. d) (fault c) (left_by (card_bytes c) d)
   unfolding write_left write_checks left_by
   left-first = answered-both (λ k. d) (record_checks c) (room (card_bytes c) d ∷ []) (over (card_bytes c) d) (record_in c)
 
-  module _ {n : ℕ} (en : n ≡ fault c) where
-    pub write_refused : (n ≡ 0 → ⊥) → WriteRefused n ≡ write_answer c d
-    write_refused f = sym (write_first ∙ rw (← en) (unless-some WriteRefused (written (card_bytes c) d) n f))
+  module _ (k : Refusal) (e : Err k ≡ judged (fault c)) where
+    pub write_refused : Err k ≡ write_answer c d
+    write_refused = passed-refused (fault c) e (written (card_bytes c) d) ∙ sym write_first
 
-    pub refused-left : (n ≡ 0 → ⊥) → d ≡ write_left c d
-    refused-left f = sym (left-first ∙ rw (← en) (unless-some (λ k. d) (left_by (card_bytes c) d) n f))
+    pub refused-left : d ≡ write_left c d
+    refused-left = passed-kept (fault c) e (left_by (card_bytes c) d) d ∙ sym left-first
 
-    pub write_written : n ≡ 0 → {r : Written} → r ≡ written (card_bytes c) d → r ≡ write_answer c d
-    write_written e p = p ∙ sym (write_first ∙ unless-none WriteRefused (written (card_bytes c) d) (fault c) (sym en ∙ e))
+  module _ {x : Unit {0}} (e : Ok x ≡ judged (fault c)) where
+    pub write_written : {r : Answer ℕ} → r ≡ written (card_bytes c) d → r ≡ write_answer c d
+    write_written p = p ∙ sym (write_first ∙ passed-on (fault c) e refuse (written (card_bytes c) d))
 
-    pub written-left : n ≡ 0 → {r : List ℕ} → r ≡ left_by (card_bytes c) d → r ≡ write_left c d
-    written-left e p = p ∙ sym (left-first ∙ unless-none (λ k. d) (left_by (card_bytes c) d) (fault c) (sym en ∙ e))
+    pub written-left : {r : List ℕ} → r ≡ left_by (card_bytes c) d → r ≡ write_left c d
+    written-left p = p ∙ sym (left-first ∙ passed-on (fault c) e (λ k. d) (left_by (card_bytes c) d))
 
-pub ruleset judging = (fault_1, fault_2, fault_3, fault_0, none-zero, read_14, formed-is, read-refused, read_says, write_refused, refused-left, write_written, written-left, rules)
+pub ruleset judging = (judged_1, judged_2, judged_3, judged_0, none-zero, read_14, formed-is, rules)

@@ -14,11 +14,14 @@ use Rattle.refusal.specs.Choice.{pick}
 use Rattle.endian.specs.Little.{le, le_at}
 use Rattle.refusal.specs.Checks.{first_number, unless}
 use Rattle.refusal.specs.Buffer.{written}
-use Rattle.refusal.specs.declared.Written.TheVariants.{Length, Refused as WriteRefused}
+use Rattle.std.specs.Prelude.{Ok}
+use Rattle.refusal.specs.Answers.{refuse}
 use Rattle.endian.proofs.Little.{le_at-le, le-le_at, le_at-bound}
 use Rattle.endian.proofs.Part.{part_length}
 use Rattle.endian.proofs.Buffer.{written-short, written-fits, left_by-fits}
 use Rattle.refusal.proofs.Tests.{both}
+use Rattle.refusal.specs.Table.{last, InTable}
+use Rattle.refusal.proofs.Table.{same-number}
 use Rattle.morton.specs.declared.grid.Offset.{Offset}
 use Rattle.morton.specs.grid.Grid.{InU32, grid_of, zero_extent}
 use Rattle.morton.specs.Key.{too_many_bits}
@@ -26,7 +29,6 @@ use Rattle.sharding.specs.Specification.{volume, mesh, is_mesh, minishard_bits_o
 use Rattle.sharding.specs.declared.Sharding.{Sharding}
 use Rattle.sharding.proofs.Allowed.{allowed-within}
 use Rattle.card.specs.declared.Card.{Card}
-use Rattle.card.specs.declared.CardAnswer.TheVariants.{Says, Refused}
 use Rattle.card.specs.Layout.{head, field, one_byte, three, sharding_bytes, extents_bytes, offset_tag, offset_bytes, volume_bytes, kind_bytes, card_bytes, Ranged, Bytes}
 use Rattle.card.specs.fields.Twos.{bits32, is_zero, no_offset, InI32, signed32}
 use Rattle.card.specs.fields.Fields.{field_at, six_fields, card_offset_at, offset_field, kind_field}
@@ -171,7 +173,7 @@ module _ (c : Card) (r : Ranged c) where
   card-bytes_say w = ap card_in (bytes-by c) ∙ card_back (no_offset c.volume.offset) c r refl w
 
   -- reading the bytes of a record gives the record back
-  reads_back : fault c ≡ 0 → read_answer (card_bytes c) ≡ Says c
+  reads_back : fault c ≡ 0 → read_answer (card_bytes c) ≡ Ok c
   unfolding unless
   reads_back e = read_first (card_bytes c) ∙ rw (formed-bytes, card-bytes_say (allowed-within (faultless c e).0), e)
 
@@ -330,15 +332,19 @@ module _ (s : List ℕ) (bs : Bytes s) where
 
 -- ---- what reading answers
 
-unless_says : (n : ℕ) (c d : Card) → unless Refused n (Says d) ≡ Says c → (n ≡ 0) × (d ≡ c)
+unless_says : (n : ℕ) (c d : Card) → unless refuse n (Ok d) ≡ Ok c → (n ≡ 0) × (d ≡ c)
 unfolding unless
 unless_says zero c d e = (refl, cc)
 unless_says (suc n) c d e = let z : ◌≡◌ {A = ℕ} 0 1 = cc in absurd (omega arith)
 
-unless-refuses : (n k : ℕ) (d : Card) → unless Refused n (Says d) ≡ Refused k → n ≡ k
+unless-refuses : (n k : ℕ) (d : Card) → n ≤ last → InTable k → unless refuse n (Ok d) ≡ refuse k → n ≡ k
 unfolding unless
-unless-refuses zero k d e = let z : ◌≡◌ {A = ℕ} 0 1 = cc in absurd (omega arith)
-unless-refuses (suc n) k d e = cc
+unless-refuses zero k d l t e = let z : ◌≡◌ {A = ℕ} 0 1 = cc in absurd (omega arith)
+unless-refuses (suc n) k d l t e = same-number (suc n) k (omega arith, l) t cc
+
+pick_small : (b : Bool) (m : ℕ) → m ≤ 3 → pick b 14 m ≤ last
+pick_small true m l = omega arith
+pick_small false m l = omega arith
 
 picked_none : (w : Bool) (m : ℕ) → pick (not w) 14 m ≡ 0 → (w ≡ true) × (m ≡ 0)
 picked_none true m e = (refl, e)
@@ -359,28 +365,28 @@ unfolding record_checks first_number
 fault-most c = fault_by (allowed c.sharding) (zero_extent c.volume) (too_many_bits (grid_of c.volume))
 
 module _ (s : List ℕ) where
-  pub said : (c : Card) → read_answer s ≡ Says c → (well_formed s ≡ true) × (fault (card_in s) ≡ 0) × (card_in s ≡ c)
+  pub said : (c : Card) → read_answer s ≡ Ok c → (well_formed s ≡ true) × (fault (card_in s) ≡ 0) × (card_in s ≡ c)
   said c e =
       let q = unless_says (pick (not (well_formed s)) 14 (fault (card_in s))) c (card_in s) (sym (read_first s) ∙ e) in
       let p = picked_none (well_formed s) (fault (card_in s)) q.0 in
       (p.0, p.1, q.1)
 
   -- a card that is read has no fault
-  pub read_faultless : (c : Card) → read_answer s ≡ Says c → fault c ≡ 0
+  pub read_faultless : (c : Card) → read_answer s ≡ Ok c → fault c ≡ 0
   read_faultless c e = sym (ap fault (said c e).2) ∙ (said c e).1
 
-  pub malformed_14 : well_formed s ≡ false → read_answer s ≡ Refused 14
+  pub malformed_14 : well_formed s ≡ false → read_answer s ≡ refuse 14
   unfolding unless
   malformed_14 e = read_first s ∙ rw e
 
   -- a card has no other length
-  pub never_14 : (length s ≡ 46 → ⊥) → (length s ≡ 61 → ⊥) → (length s ≡ 50 → ⊥) → (length s ≡ 65 → ⊥) → read_answer s ≡ Refused 14
+  pub never_14 : (length s ≡ 46 → ⊥) → (length s ≡ 61 → ⊥) → (length s ≡ 50 → ⊥) → (length s ≡ 65 → ⊥) → read_answer s ≡ refuse 14
   never_14 a b c d = malformed_14 (sym (formed-never s a b c d))
 
-  14-malformed : read_answer s ≡ Refused 14 → well_formed s ≡ false
+  14-malformed : read_answer s ≡ refuse 14 → well_formed s ≡ false
   14-malformed e =
       picked_14 (well_formed s) (fault (card_in s)) (fault-most (card_in s))
-      (unless-refuses (pick (not (well_formed s)) 14 (fault (card_in s))) 14 (card_in s) (sym (read_first s) ∙ e))
+      (unless-refuses (pick (not (well_formed s)) 14 (fault (card_in s))) 14 (card_in s) (pick_small (not (well_formed s)) (fault (card_in s)) (fault-most (card_in s))) (omega arith, omega arith) (sym (read_first s) ∙ e))
 
   formed-none : (c : Card) → Ranged c → s ≡ card_bytes c → well_formed s ≡ false → ⊥
   formed-none c r p e =
@@ -391,28 +397,28 @@ module _ (s : List ℕ) where
   formed-some bs f true e = absurd (f (card_in s) (said_ranged s bs) (formed-is-bytes s bs e))
   formed-some bs f false e = refl
 
-  read-is-written : (c : Card) → Bytes s → read_answer s ≡ Says c → (s ≡ card_bytes c) × (Ranged c × (fault c ≡ 0))
+  read-is-written : (c : Card) → Bytes s → read_answer s ≡ Ok c → (s ≡ card_bytes c) × (Ranged c × (fault c ≡ 0))
   read-is-written c bs e =
       let q = said c e in
       (formed-is-bytes s bs q.0 ∙ ap card_bytes q.2, (rw q.2 at (said_ranged s bs), read_faultless c e))
 
 -- ---- what writing answers
 
-written_of : (c : Card) (out : List ℕ) (n m : ℕ) → fault c ≡ m → unless WriteRefused m (written (card_bytes c) out) ≡ Length n
-    → (fault c ≡ 0) × (written (card_bytes c) out ≡ Length n)
+written_of : (c : Card) (out : List ℕ) (n m : ℕ) → fault c ≡ m → unless refuse m (written (card_bytes c) out) ≡ Ok n
+    → (fault c ≡ 0) × (written (card_bytes c) out ≡ Ok n)
 unfolding unless
 written_of c out n zero f e = (f, e)
 written_of c out n (suc m) f e = let z : ◌≡◌ {A = ℕ} 0 1 = cc in absurd (omega arith)
 
-long_of : (s out : List ℕ) (n : ℕ) → written s out ≡ Length n → (b : Bool) → ltb (length out) (length s) ≡ b → (length s ≤ length out) × (n ≡ length s)
+long_of : (s out : List ℕ) (n : ℕ) → written s out ≡ Ok n → (b : Bool) → ltb (length out) (length s) ≡ b → (length s ≤ length out) × (n ≡ length s)
 long_of s out n e true t =
-    let p : Length n ≡ WriteRefused 13 = sym e ∙ written-short s out (ltb-true _ _ t) in
+    let p : Ok n ≡ refuse 13 = sym e ∙ written-short s out (ltb-true _ _ t) in
     let z : ◌≡◌ {A = ℕ} 0 1 = cc in absurd (omega arith)
 long_of s out n e false t =
     let h : length s ≤ length out = ltb-false _ _ t in
-    let p : Length n ≡ Length (length s) = sym e ∙ written-fits s out h in (h, cc)
+    let p : Ok n ≡ Ok (length s) = sym e ∙ written-fits s out h in (h, cc)
 
-module _ (c : Card) (out : List ℕ) (n : ℕ) (e : write_answer c out ≡ Length n) where
+module _ (c : Card) (out : List ℕ) (n : ℕ) (e : write_answer c out ≡ Ok n) where
   pub left-bytes : take n (write_left c out) ≡ card_bytes c
   unfolding unless
   left-bytes =
@@ -420,7 +426,7 @@ module _ (c : Card) (out : List ℕ) (n : ℕ) (e : write_answer c out ≡ Lengt
       let p = long_of (card_bytes c) out n q.1 (ltb (length out) (length (card_bytes c))) refl in
       rw (p.1, left-first c out, q.0, left_by-fits (card_bytes c) out p.0) (take-append_seam (card_bytes c) (drop (length (card_bytes c)) out))
 
-  left_says : Ranged c → read_answer (take n (write_left c out)) ≡ Says c
+  left_says : Ranged c → read_answer (take n (write_left c out)) ≡ Ok c
   left_says r = rw left-bytes (reads_back c r (written_of c out n (fault c) refl (sym (write_first c out) ∙ e)).0)
 
 pub one_meaning_one-card : OneCard

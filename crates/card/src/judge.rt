@@ -1,24 +1,26 @@
 // The judge of what a card says, before it is written and after it is read.
 
 ghost use Rattle.std.specs.Prelude.{◌≡◌};
+ghost use Rattle.refusal.specs.Answers.{judged};
 ghost use Rattle.card.specs.Answers.{fault};
 
 use crate::Card;
+use refusal::Refusal;
 
-// The first of 1, 2 and 3 that holds of what a card says, or 0.
-pub fn judge(card: Card) -> u8
-    ensures { result ≡ fault card }
+// Refuses what a card says by the first of 1, 2 and 3 that holds.
+pub fn judge(card: Card) -> Result<(), Refusal>
+    ensures { result ≡ judged (fault card) }
 {
     let sharding = card.sharding;
     let volume = card.volume;
     if !sharding::limits::is_allowed(sharding) {
-        return 1;
+        return Err(Refusal::ShardingNotAllowed);
     }
     if morton::grid::inner::zero_extent(volume) {
-        return 2;
+        return Err(Refusal::NoSuchCell);
     }
     if 64 < morton::steps::volume_key_bits(volume) {
-        return 3;
+        return Err(Refusal::TooManyKeyBits);
     }
-    0
+    Ok(())
 }

@@ -15,6 +15,7 @@ ghost use Rattle.std.specs.Prelude.{◌≡◌};
 ghost use Rattle.card.specs.Answers.{read_answer};
 
 use morton::grid::Volume;
+use refusal::Refusal;
 use sharding::Sharding;
 pub use writing::write_card;
 
@@ -25,23 +26,14 @@ pub struct Card {
     pub volume: Volume,
 }
 
-#[derive(Clone, Copy)]
-pub enum CardAnswer {
-    Says(Card),
-    Refused(u8),
-}
-
 // What a card says: refused with 14, 1, 2 or 3.
-pub fn read_card(bytes: &[u8]) -> CardAnswer
+pub fn read_card(bytes: &[u8]) -> Result<Card, Refusal>
     ensures answer { result ≡ read_answer bytes.now }
 {
     if !crate::form::well_formed(bytes) {
-        return CardAnswer::Refused(14);
+        return Err(Refusal::CardMalformed);
     }
     let card = reading::card_in(bytes);
-    let number = judge::judge(card);
-    if number != 0 {
-        return CardAnswer::Refused(number);
-    }
-    CardAnswer::Says(card)
+    judge::judge(card)?;
+    Ok(card)
 }

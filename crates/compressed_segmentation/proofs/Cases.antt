@@ -8,14 +8,14 @@ use Rattle.endian.specs.Little.{le, le_at}
 use Rattle.morton.specs.declared.grid.Extents.{Extents}
 use Rattle.morton.specs.grid.Grid.{grid_size, has_zero}
 use Rattle.compressed_segmentation.specs.declared.Shape.{Shape}
-use Rattle.compressed_segmentation.specs.declared.LabelAnswer.{LabelAnswer}
-use Rattle.compressed_segmentation.specs.declared.LabelAnswer.TheVariants.{Label, Refused}
+use Rattle.std.specs.Prelude.{Ok}
+use Rattle.refusal.specs.Answers.{Answer, refuse}
 use Rattle.compressed_segmentation.specs.Words.{word, whole}
 use Rattle.compressed_segmentation.specs.Layout.{no_voxels, outside_shape, block_number, place_number, is_width}
 use Rattle.compressed_segmentation.specs.Labels.{value_in, label_at, other_width, cut_off, label_checks, label_answer}
 
 pub data Case : Type 0 where
-  label : List ℕ → Shape → ℕ → ℕ → ℕ → ℕ → LabelAnswer → Case
+  label : List ℕ → Shape → ℕ → ℕ → ℕ → ℕ → Answer ℕ → Case
 
 -- the case with the answer that the definitions give
 abbrev pub given : Case → Case
@@ -79,59 +79,59 @@ sheet-chunk =
 abbrev pub table : List Case
 table =
     -- "labels of voxels 0 to 7 (x fastest) are 9 7 9 7 7 9 7 9"
-    label whole_sample cube 0 0 0 0 (Label 9)
-    ∷ label whole_sample cube 1 0 0 0 (Label 7)
-    ∷ label whole_sample cube 0 1 0 0 (Label 9)
-    ∷ label whole_sample cube 1 1 0 0 (Label 7)
-    ∷ label whole_sample cube 0 0 1 0 (Label 7)
-    ∷ label whole_sample cube 1 0 1 0 (Label 9)
-    ∷ label whole_sample cube 0 1 1 0 (Label 7)
-    ∷ label whole_sample cube 1 1 1 0 (Label 9)
+    label whole_sample cube 0 0 0 0 (Ok 9)
+    ∷ label whole_sample cube 1 0 0 0 (Ok 7)
+    ∷ label whole_sample cube 0 1 0 0 (Ok 9)
+    ∷ label whole_sample cube 1 1 0 0 (Ok 7)
+    ∷ label whole_sample cube 0 0 1 0 (Ok 7)
+    ∷ label whole_sample cube 1 0 1 0 (Ok 9)
+    ∷ label whole_sample cube 0 1 1 0 (Ok 7)
+    ∷ label whole_sample cube 1 1 1 0 (Ok 9)
     -- a block that sticks out keeps its full size in the numbering of its voxels
-    ∷ label whole_sample (shape (box 1 2 2) 1 false) 0 1 0 0 (Label 9)
-    ∷ label whole_sample (shape (box 1 2 2) 1 false) 0 0 1 0 (Label 7)
+    ∷ label whole_sample (shape (box 1 2 2) 1 false) 0 1 0 0 (Ok 9)
+    ∷ label whole_sample (shape (box 1 2 2) 1 false) 0 0 1 0 (Ok 7)
     -- the last byte cut off: a voxel is refused only if its entry needs it
-    ∷ label cut_sample cube 0 0 0 0 (Refused 28)
-    ∷ label cut_sample cube 1 0 0 0 (Label 7)
+    ∷ label cut_sample cube 0 0 0 0 (refuse 28)
+    ∷ label cut_sample cube 1 0 0 0 (Ok 7)
     -- width 0 reads no packed word; width 3 is none
-    ∷ label (sample 0 (0 ∷ [])) cube 1 1 1 0 (Label 7)
-    ∷ label (sample 3 (0 ∷ [])) cube 1 1 1 0 (Refused 29)
-    ∷ label (sample 3 []) cube 0 0 0 0 (Refused 29)
+    ∷ label (sample 0 (0 ∷ [])) cube 1 1 1 0 (Ok 7)
+    ∷ label (sample 3 (0 ∷ [])) cube 1 1 1 0 (refuse 29)
+    ∷ label (sample 3 []) cube 0 0 0 0 (refuse 29)
     -- 64-bit labels take two words, low word first
-    ∷ label (sample 0 (0 ∷ [])) (shape (box 2 2 2) 1 true) 0 0 0 0 (Label 38654705671)
-    ∷ label whole_sample (shape (box 2 2 2) 1 true) 0 0 0 0 (Refused 28)
+    ∷ label (sample 0 (0 ∷ [])) (shape (box 2 2 2) 1 true) 0 0 0 0 (Ok 38654705671)
+    ∷ label whole_sample (shape (box 2 2 2) 1 true) 0 0 0 0 (refuse 28)
     -- the second channel's header lies past the end; there is no third, and no voxel past the extents
-    ∷ label whole_sample (shape (box 2 2 2) 2 false) 0 0 0 1 (Refused 28)
-    ∷ label whole_sample (shape (box 2 2 2) 2 false) 0 0 0 2 (Refused 2)
-    ∷ label whole_sample cube 2 0 0 0 (Refused 2)
-    ∷ label whole_sample cube 0 0 2 0 (Refused 2)
+    ∷ label whole_sample (shape (box 2 2 2) 2 false) 0 0 0 1 (refuse 28)
+    ∷ label whole_sample (shape (box 2 2 2) 2 false) 0 0 0 2 (refuse 2)
+    ∷ label whole_sample cube 2 0 0 0 (refuse 2)
+    ∷ label whole_sample cube 0 0 2 0 (refuse 2)
     -- 2 before 28
-    ∷ label [] (shape (box 2 2 2) 0 false) 0 0 0 0 (Refused 2)
-    ∷ label [] (shape (box 2 0 2) 1 false) 0 0 0 0 (Refused 2)
-    ∷ label [] cube 0 0 0 0 (Refused 28)
+    ∷ label [] (shape (box 2 2 2) 0 false) 0 0 0 0 (refuse 2)
+    ∷ label [] (shape (box 2 0 2) 1 false) 0 0 0 0 (refuse 2)
+    ∷ label [] cube 0 0 0 0 (refuse 28)
     -- the second chunk, row by row: 12 + 2^32, 22 + 3 × 2^32 and 5 × 2^32 have a high word
-    ∷ label sheet-chunk sheet 0 0 0 0 (Label 13)
-    ∷ label sheet-chunk sheet 1 0 0 0 (Label 11)
-    ∷ label sheet-chunk sheet 2 0 0 0 (Label 12884901910)
-    ∷ label sheet-chunk sheet 0 1 0 0 (Label 4294967308)
-    ∷ label sheet-chunk sheet 1 1 0 0 (Label 13)
-    ∷ label sheet-chunk sheet 2 1 0 0 (Label 21)
-    ∷ label sheet-chunk sheet 0 2 0 0 (Label 11)
-    ∷ label sheet-chunk sheet 1 2 0 0 (Label 4294967308)
-    ∷ label sheet-chunk sheet 2 2 0 0 (Label 12884901910)
-    ∷ label sheet-chunk sheet 0 0 0 1 (Label 31)
-    ∷ label sheet-chunk sheet 1 0 0 1 (Label 32)
-    ∷ label sheet-chunk sheet 2 0 0 1 (Label 21474836480)
-    ∷ label sheet-chunk sheet 0 1 0 1 (Label 21474836480)
-    ∷ label sheet-chunk sheet 1 1 0 1 (Label 31)
-    ∷ label sheet-chunk sheet 2 1 0 1 (Label 32)
-    ∷ label sheet-chunk sheet 0 2 0 1 (Label 21474836480)
-    ∷ label sheet-chunk sheet 1 2 0 1 (Label 21474836480)
-    ∷ label sheet-chunk sheet 2 2 0 1 (Label 32)
+    ∷ label sheet-chunk sheet 0 0 0 0 (Ok 13)
+    ∷ label sheet-chunk sheet 1 0 0 0 (Ok 11)
+    ∷ label sheet-chunk sheet 2 0 0 0 (Ok 12884901910)
+    ∷ label sheet-chunk sheet 0 1 0 0 (Ok 4294967308)
+    ∷ label sheet-chunk sheet 1 1 0 0 (Ok 13)
+    ∷ label sheet-chunk sheet 2 1 0 0 (Ok 21)
+    ∷ label sheet-chunk sheet 0 2 0 0 (Ok 11)
+    ∷ label sheet-chunk sheet 1 2 0 0 (Ok 4294967308)
+    ∷ label sheet-chunk sheet 2 2 0 0 (Ok 12884901910)
+    ∷ label sheet-chunk sheet 0 0 0 1 (Ok 31)
+    ∷ label sheet-chunk sheet 1 0 0 1 (Ok 32)
+    ∷ label sheet-chunk sheet 2 0 0 1 (Ok 21474836480)
+    ∷ label sheet-chunk sheet 0 1 0 1 (Ok 21474836480)
+    ∷ label sheet-chunk sheet 1 1 0 1 (Ok 31)
+    ∷ label sheet-chunk sheet 2 1 0 1 (Ok 32)
+    ∷ label sheet-chunk sheet 0 2 0 1 (Ok 21474836480)
+    ∷ label sheet-chunk sheet 1 2 0 1 (Ok 21474836480)
+    ∷ label sheet-chunk sheet 2 2 0 1 (Ok 32)
     -- one block along x and two along y, then two along z as well: the two counts are not alike
-    ∷ label sheet-chunk (flat (box 2 3 1)) 0 2 0 0 (Label 12884901910)
-    ∷ label sheet-chunk (flat (box 2 3 2)) 0 0 1 0 (Label 11)
-    ∷ label sheet-chunk (flat (box 2 3 2)) 0 2 1 0 (Label 12884901910)
+    ∷ label sheet-chunk (flat (box 2 3 1)) 0 2 0 0 (Ok 12884901910)
+    ∷ label sheet-chunk (flat (box 2 3 2)) 0 0 1 0 (Ok 11)
+    ∷ label sheet-chunk (flat (box 2 3 2)) 0 2 1 0 (Ok 12884901910)
     ∷ []
 
 pub cases_hold : map given table ≡ table

@@ -56,8 +56,17 @@ module _ (sh : Shape) (h : no_voxels sh ≡ false) where
       let l = begins-inside-is-cell sh.extents.x sh.block.x p.bx 0 (omega arith) in
       omega arith
 
+  pub some-rows : {d : ℕ} → d ≡ grid_size sh.extents.y sh.block.y → 0 < d
+  some-rows e =
+      let p = some-voxels sh h in
+      let l = begins-inside-is-cell sh.extents.y sh.block.y p.by 0 (omega arith) in
+      omega arith
+
   pub channels_some : 0 < sh.channels
   channels_some = (some-voxels sh h).ch
+
+-- what the code divides by
+pub ruleset positive = (block-x, block-y, block-z, some_blocks, some-rows)
 
 -- ---- words
 

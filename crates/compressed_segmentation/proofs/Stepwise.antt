@@ -8,8 +8,8 @@ use Rattle.refusal.specs.Choice.{pick}
 use Rattle.refusal.specs.Checks.{first_number, unless}
 use Rattle.endian.specs.Little.{le_at}
 use Rattle.compressed_segmentation.specs.declared.Shape.{Shape}
-use Rattle.compressed_segmentation.specs.declared.LabelAnswer.{LabelAnswer}
-use Rattle.compressed_segmentation.specs.declared.LabelAnswer.TheVariants.{Label, Refused}
+use Rattle.std.specs.Prelude.{Ok}
+use Rattle.refusal.specs.Answers.{Answer, refuse}
 use Rattle.compressed_segmentation.specs.Words.{word, whole}
 use Rattle.compressed_segmentation.specs.Layout.{no_voxels, outside_shape, block_number, place_number, table_in, is_width}
 use Rattle.compressed_segmentation.specs.Labels.{label_words, value_in, header_at, width, packed_at, label_at, other_width, cut_off, label_checks, label_answer}
@@ -21,37 +21,37 @@ number o h w z p e = pick (o && (h && not w)) 29 (pick (not o || (not h || ((not
 
 -- and the steps over the same tests; the entry's test and the label are those of the value, 0 or v
 by_tests : (o h w z p : Bool) (whole : ℕ → Bool) (label : ℕ → ℕ) (v : ℕ)
-    → unless Refused (number o h w z p (whole (pick z 0 v))) (Label (label (pick z 0 v)))
-    ≡ pick o (pick h (pick w (pick z (pick (whole 0) (Label (label 0)) (Refused 28)) (pick p (pick (whole v) (Label (label v)) (Refused 28)) (Refused 28))) (Refused 29)) (Refused 28)) (Refused 28)
+    → unless refuse (number o h w z p (whole (pick z 0 v))) (Ok (label (pick z 0 v)))
+    ≡ pick o (pick h (pick w (pick z (pick (whole 0) (Ok (label 0)) (refuse 28)) (pick p (pick (whole v) (Ok (label v)) (refuse 28)) (refuse 28))) (refuse 29)) (refuse 28)) (refuse 28)
 by_tests false h w z p whole label v = unfold unless in refl
 by_tests true false w z p whole label v = unfold unless in refl
 by_tests true true false z p whole label v = unfold unless in refl
 by_tests true true true true p whole label v = go (whole 0)
   where
-    go : (b : Bool) → unless Refused (number true true true true p b) (Label (label 0)) ≡ pick b (Label (label 0)) (Refused 28)
+    go : (b : Bool) → unless refuse (number true true true true p b) (Ok (label 0)) ≡ pick b (Ok (label 0)) (refuse 28)
     go true = unfold unless in refl
     go false = unfold unless in refl
 by_tests true true true false false whole label v = unfold unless in refl
 by_tests true true true false true whole label v = go (whole v)
   where
-    go : (b : Bool) → unless Refused (number true true true false true b) (Label (label v)) ≡ pick b (Label (label v)) (Refused 28)
+    go : (b : Bool) → unless refuse (number true true true false true b) (Ok (label v)) ≡ pick b (Ok (label v)) (refuse 28)
     go true = unfold unless in refl
     go false = unfold unless in refl
 
 module _ (s : List ℕ) (e c n m : ℕ) where
-  steps : unless Refused (pick (other_width s e c n m) 29 (pick (cut_off s e c n m) 28 0)) (Label (label_at s e c n m)) ≡ channel_answer s e c n m
+  steps : unless refuse (pick (other_width s e c n m) 29 (pick (cut_off s e c n m) 28 0)) (Ok (label_at s e c n m)) ≡ channel_answer s e c n m
   unfolding other_width cut_off label_at channel_answer block_answer value_answer entry_answer
   steps =
       let t = word s c + table_in (word s (header_at s e c n m)) in
       by_tests (whole s c 1) (whole s (header_at s e c n m) 2) (is_width (width s e c n m)) (eqb (width s e c n m) 0) (whole s (packed_at s e c n m) 1)
       (λ v. whole s (t + e * v) e) (λ v. le_at (4 * e) s (4 * (t + e * v))) (value_in s (packed_at s e c n m) (width s e c n m) m)
 
-refused-first : (b : Bool) (k : ℕ) (a : LabelAnswer) → unless Refused (pick b 2 k) a ≡ pick b (Refused 2) (unless Refused k a)
+refused-first : (b : Bool) (k : ℕ) (a : Answer ℕ) → unless refuse (pick b 2 k) a ≡ pick b (refuse 2) (unless refuse k a)
 unfolding unless
 refused-first true k a = refl
 refused-first false k a = refl
 
-pub stepwise : (s : List ℕ) (sh : Shape) (x y z c : ℕ) → label_answer s sh x y z c ≡ pick (no_voxels sh || outside_shape sh x y z c) (Refused 2) (voxel_answer s sh x y z c)
+pub stepwise : (s : List ℕ) (sh : Shape) (x y z c : ℕ) → label_answer s sh x y z c ≡ pick (no_voxels sh || outside_shape sh x y z c) (refuse 2) (voxel_answer s sh x y z c)
 unfolding label_answer label_checks first_number voxel_answer
 stepwise s sh x y z c =
     refused-first (no_voxels sh || outside_shape sh x y z c) _ _

@@ -1,3 +1,4 @@
+pub mod Judged
 pub mod Offsets
 pub mod Verdict
 pub mod Read

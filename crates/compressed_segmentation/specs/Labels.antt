@@ -1,12 +1,12 @@
 -- The label of a voxel (RULES E2, E4 to E7): what is read for it, what refuses it, and the answer. Every sum is exact.
-use Rattle.std.specs.Prelude.{ℕ, ◌+◌, ◌*◌, ◌/◌, ◌%◌, ◌^◌, Bool, not, ◌&&◌, ◌||◌, List, [], ◌∷◌, eqb}
+use Rattle.std.specs.Prelude.{ℕ, ◌+◌, ◌*◌, ◌/◌, ◌%◌, ◌^◌, Bool, not, ◌&&◌, ◌||◌, List, [], ◌∷◌, eqb, Ok, Err}
 use Rattle.refusal.specs.Choice.{pick}
 use Rattle.refusal.specs.Checks.{Check, check, answered}
 use Rattle.refusal.specs.Result.{Result, success, refused}
 use Rattle.endian.specs.Little.{le_at}
 use Rattle.compressed_segmentation.specs.declared.Shape.{Shape}
-use Rattle.compressed_segmentation.specs.declared.LabelAnswer.{LabelAnswer}
-use Rattle.compressed_segmentation.specs.declared.LabelAnswer.TheVariants.{Label, Refused}
+use Rattle.refusal.specs.Answers.{Answer, refuse}
+use Rattle.refusal.specs.Table.{number_of}
 use Rattle.compressed_segmentation.specs.Words.{word, whole}
 use Rattle.compressed_segmentation.specs.Layout.{no_voxels, outside_shape, block_number, place_number, table_in, width_in, is_width}
 
@@ -62,10 +62,10 @@ label_checks s sh x y z c =
     ∷ check 28 (cut_off s (label_words sh.wide) c (block_number sh x y z) (place_number sh x y z))
     ∷ []
 
-unfoldable pub label_answer : List ℕ → Shape → ℕ → ℕ → ℕ → ℕ → LabelAnswer
+unfoldable pub label_answer : List ℕ → Shape → ℕ → ℕ → ℕ → ℕ → Answer ℕ
 label_answer s sh x y z c =
-    answered Refused (label_checks s sh x y z c) (Label (label_at s (label_words sh.wide) c (block_number sh x y z) (place_number sh x y z)))
+    answered refuse (label_checks s sh x y z c) (Ok (label_at s (label_words sh.wide) c (block_number sh x y z) (place_number sh x y z)))
 
-abbrev pub label_result : LabelAnswer → Result ℕ
-label_result (Label label) = success label
-label_result (Refused k) = refused k
+abbrev pub label_result : Answer ℕ → Result ℕ
+label_result (Ok label) = success label
+label_result (Err k) = refused (number_of k)

@@ -1,14 +1,14 @@
 // Writing a run of labels in the raw form: the part of a row that lies in one block.
 
-ghost use Rattle.std.specs.Prelude.{◌≡◌, ◌+◌, ◌*◌, ◌/◌, ◌<◌, ◌≤◌, ◌^◌, length};
+ghost use Rattle.std.specs.Prelude.{◌≡◌, ◌+◌, ◌*◌, ◌/◌, ◌<◌, ◌≤◌, length};
 ghost use Rattle.endian.specs.Little.{le, le_at};
 ghost use Rattle.endian.specs.Place.{paste};
 ghost use Rattle.compressed_segmentation.specs.Layout.{width_in};
 ghost use Rattle.compressed_segmentation.specs.Labels.{label_words};
 ghost use Rattle.compressed_segmentation.specs.raw_form.Raw.{concat_to};
-ghost use Rattle.compressed_segmentation.specs.block.Checks.{Header};
 ghost use Rattle.compressed_segmentation.specs.raw_form.Writing.{run_voxel, ReadableRun};
 
+use crate::block::{Block, Run};
 use crate::packed_values::{bits, entry_word, word_at};
 use endian::{put_u32, put_u64, read_u32, read_u64};
 
@@ -29,92 +29,53 @@ fn put_label(chunk: &[u8], wide: bool, i: u64, out: &mut [u8], at: usize) -> usi
 }
 
 // A run at width 0: the table's first entry for each voxel.
-fn put_flat_run(
-    chunk: &[u8],
-    wide: bool,
-    o: u64,
-    first: u64,
-    second: u64,
-    step: u64,
-    high: u64,
-    count: u32,
-    out: &mut [u8],
-    at: usize,
-) -> usize
-    requires header { Header o first second }
-    requires first_value { width_in first ≡ 0 }
-    requires readable_run { ReadableRun chunk.now (label_words wide) o first second step high count }
-    requires wide_in_bounds { at + count * (4 * label_words wide) ≤ length out.old }
-    ensures value { result ≡ at + count * (4 * label_words wide) }
-    ensures out_after { out.new ≡ paste at (concat_to (run_voxel chunk.now (label_words wide) o first second step high) count) out.old }
+fn put_flat_run(chunk: &[u8], block: Block, run: Run, out: &mut [u8], at: usize) -> usize
+    requires first_value { width_in block.first ≡ 0 }
+    requires readable_run { ReadableRun chunk.now (label_words block.wide) block.start block.first block.second run.step run.high run.count }
+    requires wide_in_bounds { at + run.count * (4 * label_words block.wide) ≤ length out.old }
+    ensures value { result ≡ at + run.count * (4 * label_words block.wide) }
+    ensures out_after { out.new ≡ paste at (concat_to (run_voxel chunk.now (label_words block.wide) block.start block.first block.second run.step run.high) run.count) out.old }
 {
-    let entry = o + first % 16777216;
+    let entry = block.start + block.first % 16777216;
+    let wide = block.wide;
     let mut p = at;
-    let mut u = 0u32;
-    while u < count {
+    for _u in 0..run.count {
         p = put_label(chunk, wide, entry, out, p);
-        u += 1;
     }
     p
 }
 
 // A run of packed values. `from` is the word, and `start` the voxel counted from it, at which the run begins.
-fn put_packed_run(
-    chunk: &[u8],
-    wide: bool,
-    o: u64,
-    first: u64,
-    second: u64,
-    step: u64,
-    high: u64,
-    count: u32,
-    out: &mut [u8],
-    at: usize,
-) -> usize
-    requires first_nonzero { (0 < width_in first) × (0 < count) × (step < 2 ^ 32) }
-    requires header { Header o first second }
-    requires readable_run { ReadableRun chunk.now (label_words wide) o first second step high count }
-    requires wide_in_bounds { at + count * (4 * label_words wide) ≤ length out.old }
-    ensures value { result ≡ at + count * (4 * label_words wide) }
-    ensures out_after { out.new ≡ paste at (concat_to (run_voxel chunk.now (label_words wide) o first second step high) count) out.old }
+fn put_packed_run(chunk: &[u8], block: Block, run: Run, out: &mut [u8], at: usize) -> usize
+    requires first_nonzero { 0 < width_in block.first }
+    requires readable_run { ReadableRun chunk.now (label_words block.wide) block.start block.first block.second run.step run.high run.count }
+    requires wide_in_bounds { at + run.count * (4 * label_words block.wide) ≤ length out.old }
+    ensures value { result ≡ at + run.count * (4 * label_words block.wide) }
+    ensures out_after { out.new ≡ paste at (concat_to (run_voxel chunk.now (label_words block.wide) block.start block.first block.second run.step run.high) run.count) out.old }
 {
-    let width = first / 16777216;
+    let width = block.first / 16777216;
     let per = 32 / width;
-    let from = o + second + step * (high / per);
-    let start = step * (high % per);
-    let table = o + first % 16777216;
+    let from = block.start + block.second + run.step as u64 * (run.high / per);
+    let start = run.step as u64 * (run.high % per);
+    let table = block.start + block.first % 16777216;
+    let wide = block.wide;
     let mut p = at;
-    let mut u = 0u32;
-    while u < count {
+    for u in 0..run.count {
         let b = (start + u as u64) * width;
         let v = bits(word_at(chunk, from + b / 32), b % 32, width);
         p = put_label(chunk, wide, entry_word(wide, table, v), out, p);
-        u += 1;
     }
     p
 }
 
-pub fn put_run(
-    chunk: &[u8],
-    wide: bool,
-    o: u64,
-    first: u64,
-    second: u64,
-    step: u64,
-    high: u64,
-    count: u32,
-    out: &mut [u8],
-    at: usize,
-) -> usize
-    requires count_nonzero { (0 < count) × (step < 2 ^ 32) }
-    requires header { Header o first second }
-    requires readable_run { ReadableRun chunk.now (label_words wide) o first second step high count }
-    requires wide_in_bounds { at + count * (4 * label_words wide) ≤ length out.old }
-    ensures value { result ≡ at + count * (4 * label_words wide) }
-    ensures out_after { out.new ≡ paste at (concat_to (run_voxel chunk.now (label_words wide) o first second step high) count) out.old }
+pub fn put_run(chunk: &[u8], block: Block, run: Run, out: &mut [u8], at: usize) -> usize
+    requires readable_run { ReadableRun chunk.now (label_words block.wide) block.start block.first block.second run.step run.high run.count }
+    requires wide_in_bounds { at + run.count * (4 * label_words block.wide) ≤ length out.old }
+    ensures value { result ≡ at + run.count * (4 * label_words block.wide) }
+    ensures out_after { out.new ≡ paste at (concat_to (run_voxel chunk.now (label_words block.wide) block.start block.first block.second run.step run.high) run.count) out.old }
 {
-    if first / 16777216 == 0 {
-        return put_flat_run(chunk, wide, o, first, second, step, high, count, out, at);
+    if block.first / 16777216 == 0 {
+        return put_flat_run(chunk, block, run, out, at);
     }
-    put_packed_run(chunk, wide, o, first, second, step, high, count, out, at)
+    put_packed_run(chunk, block, run, out, at)
 }

@@ -19,16 +19,12 @@ pub use unpacking::{unpack, unpacked_length};
 pub use voxel::label_of;
 
 // How a chunk's labels are laid out: its extents and those of a block in voxels, its channels, and whether a label has 64 bits or 32.
+// `wide` comes from the caller at run time. As a const parameter it would double all that lies between the public functions and the few that
+// branch on it, and be no plainer.
 #[derive(Clone, Copy)]
 pub struct Shape {
     pub extents: Extents,
     pub block: Extents,
     pub channels: u32,
     pub wide: bool,
-}
-
-#[derive(Clone, Copy)]
-pub enum LabelAnswer {
-    Label(u64),
-    Refused(u8),
 }

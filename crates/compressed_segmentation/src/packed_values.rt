@@ -5,25 +5,11 @@ ghost use Rattle.compressed_segmentation.specs.Words.{word};
 ghost use Rattle.compressed_segmentation.specs.Layout.{width_in, is_width};
 ghost use Rattle.compressed_segmentation.specs.Labels.{label_words};
 ghost use Rattle.compressed_segmentation.specs.Steps.{entry_answer, value_answer};
-ghost use Rattle.compressed_segmentation.specs.packed_values.Far.{number, sum_below};
+ghost use Rattle.compressed_segmentation.specs.packed_values.Far.{sum_below};
 
-use crate::LabelAnswer;
+use crate::block::Block;
 use endian::{read_u32, read_u64};
-
-// The number low + step * high, which may pass 64 bits.
-#[derive(Clone, Copy)]
-pub struct Far {
-    pub low: u64,
-    pub step: u64,
-    pub high: u64,
-}
-
-// A sum below a limit, or none.
-#[derive(Clone, Copy)]
-pub enum Sum {
-    Below(u64),
-    Past,
-}
+use refusal::Refusal;
 
 pub fn linear(a: u32, step: u32, k: u32) -> u64
     ensures { result ≡ a + step * k }
@@ -31,28 +17,21 @@ pub fn linear(a: u32, step: u32, k: u32) -> u64
     a as u64 + step as u64 * k as u64
 }
 
-// a + n, where that is below the limit.
-pub fn below(a: u64, n: Far, limit: u64) -> Sum
-    requires { (0 < n.step) × (a + n.low < 2 ^ 64) }
-    ensures { result ≡ sum_below (a + number n) limit }
+// The number of the voxel or block at `a` of row `k`, of rows of `step`. It may pass 64 bits.
+pub(crate) fn row_number(a: u32, step: u32, k: u64) -> u128
+    ensures { result ≡ a + step * k }
 {
-    let from = a + n.low;
-    if limit <= from {
-        return Sum::Past;
-    }
-    if (limit - 1 - from) / n.step < n.high {
-        return Sum::Past;
-    }
-    Sum::Below(from + n.step * n.high)
+    a as u128 + step as u128 * k as u128
 }
 
-pub fn is_below(a: u64, n: Far, limit: u64) -> bool
-    requires { (0 < n.step) × (a + n.low < 2 ^ 64) }
-    ensures { result ≡ ltb (a + number n) limit }
+// n, where that is below the limit.
+pub fn below(n: u128, limit: u64) -> Option<u64>
+    ensures { result ≡ sum_below n limit }
 {
-    match below(a, n, limit) {
-        Sum::Below(_) => true,
-        Sum::Past => false,
+    if n < limit as u128 {
+        Some(n as u64)
+    } else {
+        None
     }
 }
 
@@ -69,6 +48,7 @@ pub fn words(chunk: &[u8]) -> u64
     (chunk.len() / 4) as u64
 }
 
+// A word as u64: words are summed at 64 bits, and as u32 each sum would cast them, and be no plainer.
 pub fn word_at(chunk: &[u8], i: u64) -> u64
     requires { i < length chunk.now / 4 }
     ensures { (result ≡ word chunk.now i) × (result < 4294967296) }
@@ -85,22 +65,22 @@ pub fn entry_word(wide: bool, t: u64, v: u64) -> u64
 }
 
 // Entry v of the table at word t.
-pub fn entry_label(chunk: &[u8], wide: bool, t: u64, v: u64) -> LabelAnswer
+pub fn entry_label(chunk: &[u8], wide: bool, t: u64, v: u64) -> Result<u64, Refusal>
     requires { (t < 2 ^ 34) × (v < 2 ^ 32) }
     ensures { result ≡ entry_answer chunk.now (label_words wide) t v }
 {
     if wide {
         let at = t + 2 * v;
         if words(chunk) < at + 2 {
-            return LabelAnswer::Refused(28);
+            return Err(Refusal::LabelsCutOff);
         }
-        return LabelAnswer::Label(read_u64(chunk, 4 * at as usize));
+        return Ok(read_u64(chunk, 4 * at as usize));
     }
     let at = t + v;
     if words(chunk) < at + 1 {
-        return LabelAnswer::Refused(28);
+        return Err(Refusal::LabelsCutOff);
     }
-    LabelAnswer::Label(word_at(chunk, at))
+    Ok(word_at(chunk, at))
 }
 
 // The value of `width` bits of the packed word from bit `shift` on.
@@ -111,49 +91,30 @@ pub fn bits(packed: u64, shift: u64, width: u64) -> u64
     (packed >> shift) % two_to(width)
 }
 
-// Where the voxel number m stands, counted from the packed values: `per` voxels to a word.
-pub fn packed_word(per: u64, m: Far) -> Far
-    requires { (0 < per) × (per ≤ 32) × (m.low < 2 ^ 32) × (m.step < 2 ^ 32) }
-    ensures { (number result ≡ number m / per) × (result.low < 2 ^ 38) × (result.step ≡ m.step) }
+// The voxel number m of a block whose width is not 0. Where the bits before it pass 128 bits, its word is past the chunk.
+fn packed_label(chunk: &[u8], block: Block, m: u128) -> Result<u64, Refusal>
+    requires first_nonzero { 0 < width_in block.first }
+    ensures { result ≡ value_answer chunk.now (label_words block.wide) block.start block.first block.second m }
 {
-    Far {
-        low: (m.step * (m.high % per) + m.low) / per,
-        step: m.step,
-        high: m.high / per,
-    }
-}
-
-// How many voxels of that word stand before it.
-fn packed_place(per: u64, m: Far) -> u64
-    requires { (0 < per) × (per ≤ 32) × (m.low < 2 ^ 32) × (m.step < 2 ^ 32) }
-    ensures { (result ≡ number m % per) × (result < per) }
-{
-    (m.step * (m.high % per) + m.low) % per
-}
-
-// The voxel number m of a block whose width is not 0.
-fn packed_label(chunk: &[u8], wide: bool, o: u64, first: u64, second: u64, m: Far) -> LabelAnswer
-    requires o_bound { (o < 2 ^ 32) × (second < 2 ^ 32) × (is_width (width_in first) ≡ true) × (0 < width_in first) × (first < 2 ^ 32) }
-    requires low_bound { (m.low < 2 ^ 32) × (0 < m.step) × (m.step < 2 ^ 32) }
-    ensures { result ≡ value_answer chunk.now (label_words wide) o first second (number m) }
-{
-    let width = first / 16777216;
-    let per = 32 / width;
-    let at = below(o + second, packed_word(per, m), words(chunk));
-    let Sum::Below(i) = at else {
-        return LabelAnswer::Refused(28);
+    let width = block.first / 16777216;
+    let bit = m.saturating_mul(width as u128);
+    let at = below(
+        (block.start + block.second) as u128 + bit / 32,
+        words(chunk),
+    );
+    let Some(i) = at else {
+        return Err(Refusal::LabelsCutOff);
     };
-    let v = bits(word_at(chunk, i), packed_place(per, m) * width, width);
-    entry_label(chunk, wide, o + first % 16777216, v)
+    let v = bits(word_at(chunk, i), (bit % 32) as u64, width);
+    entry_label(chunk, block.wide, block.start + block.first % 16777216, v)
 }
 
-pub fn value_label(chunk: &[u8], wide: bool, o: u64, first: u64, second: u64, m: Far) -> LabelAnswer
-    requires o_bound { (o < 2 ^ 32) × (second < 2 ^ 32) × (is_width (width_in first) ≡ true) × (first < 2 ^ 32) }
-    requires low_bound { (m.low < 2 ^ 32) × (0 < m.step) × (m.step < 2 ^ 32) }
-    ensures { result ≡ value_answer chunk.now (label_words wide) o first second (number m) }
+pub fn value_label(chunk: &[u8], block: Block, m: u128) -> Result<u64, Refusal>
+    ensures { result ≡ value_answer chunk.now (label_words block.wide) block.start block.first block.second m }
 {
-    if first / 16777216 == 0 {
-        return entry_label(chunk, wide, o + first % 16777216, 0);
+    let table = block.start + block.first % 16777216;
+    if block.first / 16777216 == 0 {
+        return entry_label(chunk, block.wide, table, 0);
     }
-    packed_label(chunk, wide, o, first, second, m)
+    packed_label(chunk, block, m)
 }

@@ -6,7 +6,9 @@ use mathlib.Core.Bool.{Bool}
 use mathlib.Core.List.{List}
 use lib.IntN.{ℤ}
 use borrow.Author.Rules.{rules}
-use Rattle.refusal.specs.declared.Written.{Written}
+use Rattle.card.specs.declared.Card.{Card}
+use Rattle.intake.specs.declared.state.Intake.{Intake}
+use Rattle.refusal.specs.Answers.{Answer}
 use Rattle.refusal.specs.declared.CountAnswer.{CountAnswer}
 use Rattle.refusal.specs.Result.{written_result, count_result}
 use Rattle.morton.specs.declared.grid.Volume.{Volume}
@@ -14,7 +16,6 @@ use Rattle.sharding.specs.declared.Sharding.{Sharding}
 use Rattle.sharding.specs.batch.Batch.{places_answer, shards_left, minishards_left}
 use Rattle.names.specs.declared.FileKind.{FileKind}
 use Rattle.names.specs.Shards.{file_name_answer, file_name_left}
-use Rattle.card.specs.declared.CardAnswer.{CardAnswer}
 use Rattle.card.specs.Answers.{card_result, write_answer, write_left}
 use Rattle.shard.specs.declared.CheckAnswer.{CheckAnswer}
 use Rattle.shard.specs.File.{check_answer, check_result}
@@ -28,10 +29,8 @@ use Rattle.split_shard.specs.Answers.{pair_check, pair_lookup, pair_fragment}
 use Rattle.split_shard.specs.form.Answers.{pair_count, pair_listing, pair_listing_left, pair_unlisted, pair_length, pair_settle, pair_settle_left}
 use Rattle.holdings.specs.declared.one_shard.Sheet.{Sheet}
 use Rattle.holdings.specs.declared.measures.MeasureAnswer.{MeasureAnswer}
-use Rattle.holdings.specs.declared.SheetAnswer.{SheetAnswer}
 use Rattle.holdings.specs.measures.Answers.{measure_answer, pair_measure, measure_result}
 use Rattle.holdings.specs.Answers.{join_answer, add_answer, pair_add_answer, sheet_result}
-use Rattle.intake.specs.declared.IntakeAnswer.{IntakeAnswer}
 use Rattle.intake.specs.Calls.{open_answer, open_left}
 use Rattle.coronagamba.specs.word.Word.{word_of, length_after}
 use Rattle.coronagamba.specs.Shards.{start_after, size_after, count_after}
@@ -41,7 +40,7 @@ use Rattle.coronagamba.proofs.Told.{word_same, left}
 
 -- ---- the word and the lent numbers of the answer b are those of a, b being a
 
-module _ {a b : Written} where
+module _ {a b : Answer ℕ} where
   pub written-word : {r : ℕ} → r ≡ word_of (written_result b) → b ≡ a → r ≡ word_of (written_result a)
   written-word h e = word_same written_result h e
 
@@ -76,14 +75,14 @@ module _ {a b : MeasureAnswer} where
   pub counts-left : (x : List ℕ) {y : List ℕ} → y ≡ counts_after_of b x → b ≡ a → y ≡ counts_after_of a x
   counts-left x h e = left counts_after_of x h e
 
-module _ {a b : SheetAnswer} where
+module _ {a b : Answer Sheet} where
   pub sheet-word : {r : ℕ} → r ≡ word_of (sheet_result b) → b ≡ a → r ≡ word_of (sheet_result a)
   sheet-word h e = word_same sheet_result h e
 
   pub rows_left : (x : List ℕ) {y : List ℕ} → y ≡ rows_after b x → b ≡ a → y ≡ rows_after a x
   rows_left x h e = left rows_after x h e
 
-module _ {a b : CardAnswer} where
+module _ {a b : Answer Card} where
   pub card-word : {r : ℕ} → r ≡ word_of (card_result b) → b ≡ a → r ≡ word_of (card_result a)
   card-word h e = word_same card_result h e
 
@@ -102,7 +101,7 @@ module _ {a b : CardAnswer} where
 -- ---- asked with the specification s, which is t
 
 module _ {s t : Sharding} (q : s ≡ t) where
-  pub places-asked : (ids shards minishards : List ℕ) {b : Written} → b ≡ places_answer s ids shards minishards → b ≡ places_answer t ids shards minishards
+  pub places-asked : (ids shards minishards : List ℕ) {b : Answer ℕ} → b ≡ places_answer s ids shards minishards → b ≡ places_answer t ids shards minishards
   places-asked ids shards minishards e = e ∙ ap (λ (u : Sharding). places_answer u ids shards minishards) q
 
   pub shards-asked : (ids shards minishards : List ℕ) {b : List ℕ} → b ≡ shards_left s ids shards minishards → b ≡ shards_left t ids shards minishards
@@ -111,13 +110,13 @@ module _ {s t : Sharding} (q : s ≡ t) where
   pub minishards-asked : (ids shards minishards : List ℕ) {b : List ℕ} → b ≡ minishards_left s ids shards minishards → b ≡ minishards_left t ids shards minishards
   minishards-asked ids shards minishards e = e ∙ ap (λ (u : Sharding). minishards_left u ids shards minishards) q
 
-  pub name-asked : (kind : FileKind) (n : ℕ) (o : List ℕ) {b : Written} → b ≡ file_name_answer kind s n o → b ≡ file_name_answer kind t n o
+  pub name-asked : (kind : FileKind) (n : ℕ) (o : List ℕ) {b : Answer ℕ} → b ≡ file_name_answer kind s n o → b ≡ file_name_answer kind t n o
   name-asked kind n o e = e ∙ ap (λ (u : Sharding). file_name_answer kind u n o) q
 
   pub name-left : (kind : FileKind) (n : ℕ) (o : List ℕ) {b : List ℕ} → b ≡ file_name_left kind s n o → b ≡ file_name_left kind t n o
   name-left kind n o e = e ∙ ap (λ (u : Sharding). file_name_left kind u n o) q
 
-  pub card-asked : (v : Volume) (o : List ℕ) {b : Written} → b ≡ write_answer (record { sharding = s; volume = v }) o → b ≡ write_answer (record { sharding = t; volume = v }) o
+  pub card-asked : (v : Volume) (o : List ℕ) {b : Answer ℕ} → b ≡ write_answer (record { sharding = s; volume = v }) o → b ≡ write_answer (record { sharding = t; volume = v }) o
   card-asked v o e = e ∙ ap (λ (u : Sharding). write_answer (record { sharding = u; volume = v }) o) q
 
   pub card-left : (v : Volume) (o : List ℕ) {b : List ℕ} → b ≡ write_left (record { sharding = s; volume = v }) o → b ≡ write_left (record { sharding = t; volume = v }) o
@@ -171,7 +170,7 @@ module _ {s t : Sharding} (q : s ≡ t) where
   pub pair-measure-asked : (n : ℕ) (i d : List ℕ) {b : MeasureAnswer} → b ≡ pair_measure s n i d → b ≡ pair_measure t n i d
   pair-measure-asked n i d e = e ∙ ap (λ (u : Sharding). pair_measure u n i d) q
 
-  pub open_asked : (n : ℕ) (o w : List ℕ) {b : IntakeAnswer} → b ≡ open_answer s n o w → b ≡ open_answer t n o w
+  pub open_asked : (n : ℕ) (o w : List ℕ) {b : Answer Intake} → b ≡ open_answer s n o w → b ≡ open_answer t n o w
   open_asked n o w e = e ∙ ap (λ (u : Sharding). open_answer u n o w) q
 
   pub open-left : (n : ℕ) (o : List ℕ) {b : List ℕ} → b ≡ open_left s n o → b ≡ open_left t n o
@@ -199,13 +198,13 @@ module _ {s t : Sharding} (q : s ≡ t) where
 
   -- and with the sheet x, which is y
   module _ {x y : Sheet} (g : x ≡ y) where
-    pub add-asked : (n : ℕ) (f : List ℕ) {b : SheetAnswer} → b ≡ add_answer x s n f → b ≡ add_answer y t n f
+    pub add-asked : (n : ℕ) (f : List ℕ) {b : Answer Sheet} → b ≡ add_answer x s n f → b ≡ add_answer y t n f
     add-asked n f e = e ∙ ap (λ (u : Sharding). add_answer x u n f) q ∙ ap (λ (u : Sheet). add_answer u t n f) g
 
-    pub pair-add-asked : (n : ℕ) (i d : List ℕ) {b : SheetAnswer} → b ≡ pair_add_answer x s n i d → b ≡ pair_add_answer y t n i d
+    pub pair-add-asked : (n : ℕ) (i d : List ℕ) {b : Answer Sheet} → b ≡ pair_add_answer x s n i d → b ≡ pair_add_answer y t n i d
     pair-add-asked n i d e = e ∙ ap (λ (u : Sharding). pair_add_answer x u n i d) q ∙ ap (λ (u : Sheet). pair_add_answer u t n i d) g
 
-pub join_asked : {a b c d : Sheet} {r : SheetAnswer} → a ≡ b → c ≡ d → r ≡ join_answer a c → r ≡ join_answer b d
+pub join_asked : {a b c d : Sheet} {r : Answer Sheet} → a ≡ b → c ≡ d → r ≡ join_answer a c → r ≡ join_answer b d
 join_asked {a} {b} {c} {d} p q e = e ∙ ap (λ (u : Sheet). join_answer u c) p ∙ ap (join_answer b) q
 
 -- ---- the needs of each kind of call

@@ -5,10 +5,11 @@ use mathlib.Core.List.{List}
 use lib.ListN.{set}
 use borrow.Author.Rules.{rules}
 use Rattle.intake.specs.declared.state.Intake.{Intake}
-use Rattle.intake.specs.declared.IntakeAnswer.{IntakeAnswer}
-use Rattle.intake.specs.declared.IntakeAnswer.TheVariants.{Next, Refused}
-use Rattle.intake.specs.declared.CloseAnswer.{CloseAnswer}
-use Rattle.intake.specs.declared.CloseAnswer.TheVariants.{Closed, Refused as NotClosed}
+use Rattle.std.specs.Prelude.{Ok, Err}
+use Rattle.refusal.specs.Answers.{Answer}
+use Rattle.intake.specs.declared.Closed.{Closed}
+use Rattle.refusal.specs.declared.Refusal.{Refusal}
+use Rattle.refusal.specs.Table.{number_of}
 use Rattle.intake.specs.Calls.{announce_answer, announce_left, announce_waiting, part_answer, part_left, close_answer, close_left, intake_result, close_result}
 use Rattle.intake.specs.numbers.Numbers.{numbers_of, state_of}
 use Rattle.coronagamba.specs.word.Word.{word_of}
@@ -18,22 +19,22 @@ use Rattle.coronagamba.proofs.Told.{word-success, word-refused, word_same, after
 
 -- ---- an answer of open, announce or part
 
-module _ {a b : IntakeAnswer} (e : b ≡ a) where
-  pub next_word : {s : Intake} → b ≡ Next s → 0 ≡ word_of (intake_result a)
+module _ {a b : Answer Intake} (e : b ≡ a) where
+  pub next_word : {s : Intake} → b ≡ Ok s → 0 ≡ word_of (intake_result a)
   next_word h = word-success intake_result e h refl
 
-  pub next-state : (xs : List ℕ) {s : Intake} {l : List ℕ} → l ≡ numbers_of s → b ≡ Next s → l ≡ state_after_of a xs
+  pub next-state : (xs : List ℕ) {s : Intake} {l : List ℕ} → l ≡ numbers_of s → b ≡ Ok s → l ≡ state_after_of a xs
   unfolding state_after_of
   next-state xs n h = n ∙ after state_after_of xs e h
 
-  pub refused-word : {k : ℕ} → b ≡ Refused k → k ≡ word_of (intake_result a)
-  refused-word h = word-refused intake_result e h refl
+  pub refused-word : {k : Refusal} {n : ℕ} → b ≡ Err k → n ≡ number_of k → n ≡ word_of (intake_result a)
+  refused-word h m = m ∙ word-refused intake_result e h refl
 
-  pub refused-state : (xs : List ℕ) {k : ℕ} → b ≡ Refused k → xs ≡ state_after_of a xs
+  pub refused-state : (xs : List ℕ) {k : Refusal} → b ≡ Err k → xs ≡ state_after_of a xs
   unfolding state_after_of
   refused-state xs h = after state_after_of xs e h
 
-module _ {a b : IntakeAnswer} where
+module _ {a b : Answer Intake} where
   pub intake-word : {r : ℕ} → r ≡ word_of (intake_result b) → b ≡ a → r ≡ word_of (intake_result a)
   intake-word h e = word_same intake_result h e
 
@@ -48,7 +49,7 @@ module _ (xs : List ℕ) {s : Intake} (g : s ≡ state_of xs) where
   -- ---- announce
 
   module _ (id size : ℕ) (o w : List ℕ) where
-    module _ {b : IntakeAnswer} (e : b ≡ announce_answer s id size o w) where
+    module _ {b : Answer Intake} (e : b ≡ announce_answer s id size o w) where
       announced_of : b ≡ announce_answer (state_of xs) id size o w
       announced_of = e ∙ ap (λ (t : Intake). announce_answer t id size o w) g
 
@@ -67,21 +68,21 @@ module _ (xs : List ℕ) {s : Intake} (g : s ≡ state_of xs) where
   -- ---- part
 
   module _ (d o w : List ℕ) where
-    module _ {b : IntakeAnswer} (e : b ≡ part_answer s d o w) where
+    module _ {b : Answer Intake} (e : b ≡ part_answer s d o w) where
       taken_of : b ≡ part_answer (state_of xs) d o w
       taken_of = e ∙ ap (λ (t : Intake). part_answer t d o w) g
 
-      pub part-word : {t : Intake} → b ≡ Next t → 0 ≡ word_of (intake_result (part_answer (state_of xs) d o w))
+      pub part-word : {t : Intake} → b ≡ Ok t → 0 ≡ word_of (intake_result (part_answer (state_of xs) d o w))
       part-word h = next_word taken_of h
 
-      pub part-state : {t : Intake} → b ≡ Next t → set (set xs 12 t.next) 13 t.owed ≡ part_after (part_answer (state_of xs) d o w) xs
+      pub part-state : {t : Intake} → b ≡ Ok t → set (set xs 12 t.next) 13 t.owed ≡ part_after (part_answer (state_of xs) d o w) xs
       unfolding part_after
       part-state h = after part_after xs taken_of h
 
-      pub part-refused : {k : ℕ} → b ≡ Refused k → k ≡ word_of (intake_result (part_answer (state_of xs) d o w))
-      part-refused h = refused-word taken_of h
+      pub part-refused : {k : Refusal} {n : ℕ} → b ≡ Err k → n ≡ number_of k → n ≡ word_of (intake_result (part_answer (state_of xs) d o w))
+      part-refused h m = refused-word taken_of h m
 
-      pub part-kept : {k : ℕ} → b ≡ Refused k → xs ≡ part_after (part_answer (state_of xs) d o w) xs
+      pub part-kept : {k : Refusal} → b ≡ Err k → xs ≡ part_after (part_answer (state_of xs) d o w) xs
       unfolding part_after
       part-kept h = after part_after xs taken_of h
 
@@ -91,29 +92,29 @@ module _ (xs : List ℕ) {s : Intake} (g : s ≡ state_of xs) where
   -- ---- close
 
   module _ (o w : List ℕ) where
-    module _ {b : CloseAnswer} (e : b ≡ close_answer s o w) where
+    module _ {b : Answer Closed} (e : b ≡ close_answer s o w) where
       closed_of : b ≡ close_answer (state_of xs) o w
       closed_of = e ∙ ap (λ (t : Intake). close_answer t o w) g
 
-      pub close-word : {t : Intake} {n : ℕ} → b ≡ Closed t n → 0 ≡ word_of (close_result (close_answer (state_of xs) o w))
+      pub close-word : {c : Closed} → b ≡ Ok c → 0 ≡ word_of (close_result (close_answer (state_of xs) o w))
       close-word h = word-success close_result closed_of h refl
 
-      pub close-state : {t : Intake} {n : ℕ} {l : List ℕ} → l ≡ numbers_of t → b ≡ Closed t n → l ≡ closed_after (close_answer (state_of xs) o w) xs
+      pub close-state : {c : Closed} {l : List ℕ} → l ≡ numbers_of c.state → b ≡ Ok c → l ≡ closed_after (close_answer (state_of xs) o w) xs
       unfolding closed_after
       close-state n h = n ∙ after closed_after xs closed_of h
 
-      pub close-length : (x : ℕ) {t : Intake} {n : ℕ} → b ≡ Closed t n → n ≡ shard_length_after (close_answer (state_of xs) o w) x
+      pub close-length : (x : ℕ) {c : Closed} → b ≡ Ok c → c.length ≡ shard_length_after (close_answer (state_of xs) o w) x
       unfolding shard_length_after
       close-length x h = after shard_length_after x closed_of h
 
-      pub close-refused : {k : ℕ} → b ≡ NotClosed k → k ≡ word_of (close_result (close_answer (state_of xs) o w))
-      close-refused h = word-refused close_result closed_of h refl
+      pub close-refused : {k : Refusal} {n : ℕ} → b ≡ Err k → n ≡ number_of k → n ≡ word_of (close_result (close_answer (state_of xs) o w))
+      close-refused h m = m ∙ word-refused close_result closed_of h refl
 
-      pub close-kept : {k : ℕ} → b ≡ NotClosed k → xs ≡ closed_after (close_answer (state_of xs) o w) xs
+      pub close-kept : {k : Refusal} → b ≡ Err k → xs ≡ closed_after (close_answer (state_of xs) o w) xs
       unfolding closed_after
       close-kept h = after closed_after xs closed_of h
 
-      pub close-unsaid : (x : ℕ) {k : ℕ} → b ≡ NotClosed k → x ≡ shard_length_after (close_answer (state_of xs) o w) x
+      pub close-unsaid : (x : ℕ) {k : Refusal} → b ≡ Err k → x ≡ shard_length_after (close_answer (state_of xs) o w) x
       unfolding shard_length_after
       close-unsaid x h = after shard_length_after x closed_of h
 

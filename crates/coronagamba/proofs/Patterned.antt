@@ -14,15 +14,15 @@ use Rattle.mesh_manifest.specs.layout.Bits.{real_at}
 use Rattle.mesh_manifest.specs.sound.Verdict.{manifest_verdict}
 use Rattle.mesh_manifest.specs.Fields.{header_at, header_answer, field_at, field_answer}
 use Rattle.mesh_manifest.specs.declared.Header.{Header}
-use Rattle.mesh_manifest.specs.declared.HeaderAnswer.{HeaderAnswer}
-use Rattle.mesh_manifest.specs.declared.HeaderAnswer.TheVariants as H
+use Rattle.std.specs.Prelude.{Ok}
+use Rattle.refusal.specs.Answers.{Answer}
 use Rattle.mesh_manifest.specs.declared.Field.TheVariants as F
 use Rattle.mesh_manifest.proofs.sound.Sounds.{sound-ends}
 use Rattle.mesh_manifest.proofs.Asked.{header-given, field-given}
 use Rattle.mesh_manifest.proofs.Fields.{real-bits, header-number}
 use Rattle.coronagamba.specs.Manifests.{header_after, value_after}
 
-module _ (s : List ℕ) {a : HeaderAnswer} {h : Header} (e : a ≡ header_answer s) (g : a ≡ H.Header h) where
+module _ (s : List ℕ) {a : Answer Header} {h : Header} (e : a ≡ header_answer s) (g : a ≡ Ok h) where
   pub shape-x : T (not (is_nan h.shape_x))
   unfolding header_at
   shape-x = header-number s e g (λ (h : Header). h.shape_x) 0 refl (omega arith)
@@ -53,7 +53,7 @@ module _ (s : List ℕ) (sound : manifest_verdict s ≡ 0) (bytes : (i : ℕ) �
   pub header_items : (before : List ℕ) → header_after (header_answer s) before ≡ manifest_item s 0 ∷ manifest_item s 1 ∷ manifest_item s 2 ∷ manifest_item s 3 ∷ manifest_item s 4 ∷ manifest_item s 5 ∷ []
   unfolding header_at is_real_of header_after
   header_items before =
-      ap (λ (a : HeaderAnswer). header_after a before) (sym (header-given s (sym sound) refl refl))
+      ap (λ (a : Answer Header). header_after a before) (sym (header-given s sound refl))
       ∙ rw (item 0 (omega arith), item 1 (omega arith), item 2 (omega arith), item 3 (omega arith), item 4 (omega arith), item 5 (omega arith))
     where
       item : (i : ℕ) → i < 6 → to_bits binary32 (real_at s i) ≡ manifest_item s i
@@ -63,9 +63,9 @@ module _ (s : List ℕ) (sound : manifest_verdict s ≡ 0) (bytes : (i : ℕ) �
   pub field-item : (i before : ℕ) → i < field_count s → value_after (field_answer s i) before ≡ manifest_item s i
   unfolding field_at value_after
   field-item i before h =
-      ap (λ a. value_after a before) (sym (field-given s (sym sound) i refl refl (omega (arith, sound-ends s sound))))
+      ap (λ a. value_after a before) (sym (field-given s sound i refl (omega (arith, sound-ends s sound))))
       ∙ value (is_real_of (levels_of s) i) refl
     where
-      value : (b : Bool) → is_real_of (levels_of s) i ≡ b → value_after (pick b (F.Real (real_at s i)) (F.Whole (manifest_item s i))) before ≡ manifest_item s i
+      value : (b : Bool) → is_real_of (levels_of s) i ≡ b → value_after (Ok (pick b (F.Real (real_at s i)) (F.Whole (manifest_item s i)))) before ≡ manifest_item s i
       value true e = real-bits s sound bytes i h e
       value false e = refl

@@ -14,8 +14,10 @@ use Rattle.holdings.specs.declared.measures.MeasureAnswer.TheVariants as M
 use Rattle.holdings.specs.measures.Answers.{measure_answer, pair_measure, measure_result}
 use Rattle.holdings.proofs.measures.Answered.{named-fault}
 use Rattle.holdings.specs.declared.one_shard.Sheet.{Sheet}
-use Rattle.holdings.specs.declared.SheetAnswer.{SheetAnswer}
-use Rattle.holdings.specs.declared.SheetAnswer.TheVariants.{Total, Refused}
+use Rattle.std.specs.Prelude.{Ok, Err}
+use Rattle.refusal.specs.declared.Refusal.{Refusal}
+use Rattle.refusal.specs.Table.{number_of}
+use Rattle.refusal.specs.Answers.{Answer}
 use Rattle.holdings.specs.one_shard.Sheet.{rows}
 use Rattle.holdings.specs.Answers.{sheet_result}
 use Rattle.coronagamba.specs.word.Word.{word, word_of}
@@ -78,18 +80,18 @@ pub ruleset measuring = (measure-given, measure-refused, measure-faulty, counts-
 
 -- ---- the sheet
 
-module _ {a b : SheetAnswer} (e : b ≡ a) where
-  pub sheet-given : {s : Sheet} → b ≡ Total s → 0 ≡ word_of (sheet_result a)
+module _ {a b : Answer Sheet} (e : b ≡ a) where
+  pub sheet-given : {s : Sheet} → b ≡ Ok s → 0 ≡ word_of (sheet_result a)
   sheet-given h = word-success sheet_result e h refl
 
-  pub sheet-refused : {k : ℕ} → b ≡ Refused k → k ≡ word_of (sheet_result a)
-  sheet-refused h = word-refused sheet_result e h refl
+  pub sheet-refused : {k : Refusal} {n : ℕ} → b ≡ Err k → n ≡ number_of k → n ≡ word_of (sheet_result a)
+  sheet-refused h m = m ∙ word-refused sheet_result e h refl
 
-  pub rows-given : (x : List ℕ) {s : Sheet} {r : List ℕ} → r ≡ rows s → b ≡ Total s → r ≡ rows_after a x
+  pub rows-given : (x : List ℕ) {s : Sheet} {r : List ℕ} → r ≡ rows s → b ≡ Ok s → r ≡ rows_after a x
   unfolding rows_after
   rows-given x q h = q ∙ after rows_after x e h
 
-  pub rows-refused : (x : List ℕ) {k : ℕ} → b ≡ Refused k → x ≡ rows_after a x
+  pub rows-refused : (x : List ℕ) {k : Refusal} → b ≡ Err k → x ≡ rows_after a x
   unfolding rows_after
   rows-refused x h = after rows_after x e h
 

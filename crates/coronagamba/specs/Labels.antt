@@ -1,12 +1,9 @@
 -- Labels across the C border: how a chunk's labels are laid out, and what the lent label holds afterwards.
 use Rattle.std.specs.Prelude.{ℕ, Bool, not, ◌&&◌, List, [], ◌∷◌, eqb}
 use Rattle.refusal.specs.Checks.{Check, check, answered, left}
-use Rattle.refusal.specs.declared.Written.{Written}
-use Rattle.refusal.specs.declared.Written.TheVariants as W
+use Rattle.refusal.specs.Answers.{Answer, refuse}
 use Rattle.morton.specs.declared.grid.Extents.{Extents}
 use Rattle.compressed_segmentation.specs.declared.Shape.{Shape}
-use Rattle.compressed_segmentation.specs.declared.LabelAnswer.{LabelAnswer}
-use Rattle.compressed_segmentation.specs.declared.LabelAnswer.TheVariants.{Refused}
 use Rattle.compressed_segmentation.specs.Labels.{label_result}
 use Rattle.coronagamba.specs.word.Word.{after}
 
@@ -18,11 +15,11 @@ no_width bits = not (eqb bits 32) && not (eqb bits 64)
 abbrev pub width_checks : ℕ → List Check
 width_checks bits = check 2 (no_width bits) ∷ []
 
-abbrev pub label_by : ℕ → LabelAnswer → LabelAnswer
-label_by bits answer = answered Refused (width_checks bits) answer
+abbrev pub label_by : ℕ → Answer ℕ → Answer ℕ
+label_by bits answer = answered refuse (width_checks bits) answer
 
-abbrev pub written_by : ℕ → Written → Written
-written_by bits answer = answered W.Refused (width_checks bits) answer
+abbrev pub written_by : ℕ → Answer ℕ → Answer ℕ
+written_by bits answer = answered refuse (width_checks bits) answer
 
 -- and what an output then holds
 abbrev pub labels_left_by : ℕ → List ℕ → List ℕ → List ℕ
@@ -31,5 +28,5 @@ labels_left_by bits after before = left (width_checks bits) after before
 abbrev pub shape_of : Extents → Extents → ℕ → ℕ → Shape
 shape_of size block channels bits = record { extents = size; block = block; channels = channels; wide = eqb bits 64 }
 
-unfoldable pub label_after : LabelAnswer → ℕ → ℕ
+unfoldable pub label_after : Answer ℕ → ℕ → ℕ
 label_after a before = after (λ (label : ℕ). label) (label_result a) before

@@ -2,7 +2,8 @@
 use Rattle.std.specs.Prelude.{ℕ, List, [], ◌∷◌}
 use Rattle.holdings.specs.declared.measures.Counts.{Counts}
 use Rattle.holdings.specs.declared.measures.MeasureAnswer.{MeasureAnswer}
-use Rattle.holdings.specs.declared.SheetAnswer.{SheetAnswer}
+use Rattle.holdings.specs.declared.one_shard.Sheet.{Sheet}
+use Rattle.refusal.specs.Answers.{Answer}
 use Rattle.holdings.specs.measures.Answers.{measure_result}
 use Rattle.holdings.specs.one_shard.Sheet.{rows}
 use Rattle.holdings.specs.Answers.{sheet_result}
@@ -19,5 +20,5 @@ counts_after_of a before = after counts_of (measure_result a) before
 
 -- ---- the sheet
 
-unfoldable pub rows_after : SheetAnswer → List ℕ → List ℕ
+unfoldable pub rows_after : Answer Sheet → List ℕ → List ℕ
 rows_after a before = after rows (sheet_result a) before

@@ -12,20 +12,20 @@ ghost use Rattle.coronagamba.specs.Shards.{start_after, size_after, count_after}
 
 use crate::word::{fault_word, position_word};
 use lookup::LookupAnswer;
-use refusal::{CountAnswer, Written};
+use refusal::{CountAnswer, Refusal};
 use shard::CheckAnswer;
 
 // A length is written, or the word is the refusal.
-pub fn put_length(answer: Written, length: &mut u64) -> u64
+pub fn put_length(answer: Result<usize, Refusal>, length: &mut u64) -> u64
     ensures word { result ≡ word_of (written_result answer) }
     ensures length { length.new ≡ length_after answer length.old }
 {
     match answer {
-        Written::Length(n) => {
+        Ok(n) => {
             *length = n as u64;
             0
         }
-        Written::Refused(number) => number as u64,
+        Err(refusal) => refusal.number() as u64,
     }
 }
 

@@ -12,9 +12,8 @@ ghost use Rattle.coronagamba.specs.word.Word.{length_after, word_of};
 ghost use Rattle.coronagamba.specs.Cells.{grid_after, key_after, cell_after, begin_after, end_after};
 
 use crate::answers::put_length;
-use morton::bounds::{BoundsAnswer, Point};
-use morton::grid::{Cell, GridAnswer, Volume};
-use morton::{CellAnswer, KeyAnswer};
+use morton::bounds::Point;
+use morton::grid::{Cell, Volume};
 
 // How many cells the volume has. Writes the numbers along x, y and z to `grid`.
 // Refusals: 2 where an extent is 0
@@ -23,11 +22,11 @@ pub fn coronagamba_grid_of(volume: Volume, grid: &mut [u32; 3]) -> u64
     ensures grid { grid.new ≡ grid_after (grid_answer volume) grid.old }
 {
     match morton::grid_of(volume) {
-        GridAnswer::Grid(g) => {
+        Ok(g) => {
             *grid = [g.x, g.y, g.z];
             0
         }
-        GridAnswer::Refused(number) => number as u64,
+        Err(refusal) => refusal.number() as u64,
     }
 }
 
@@ -38,11 +37,11 @@ pub fn coronagamba_key_of(volume: Volume, cell: Cell, key: &mut u64) -> u64
     ensures key { key.new ≡ key_after (key_answer volume cell) key.old }
 {
     match morton::key_of(volume, cell) {
-        KeyAnswer::Key(k) => {
+        Ok(k) => {
             *key = k;
             0
         }
-        KeyAnswer::Refused(number) => number as u64,
+        Err(refusal) => refusal.number() as u64,
     }
 }
 
@@ -110,11 +109,11 @@ pub fn coronagamba_cell_of(volume: Volume, key: u64, cell: &mut [u32; 3]) -> u64
     ensures cell { cell.new ≡ cell_after (cell_answer volume key) cell.old }
 {
     match morton::cell_of(volume, key) {
-        CellAnswer::At(c) => {
+        Ok(c) => {
             *cell = [c.x, c.y, c.z];
             0
         }
-        CellAnswer::Refused(number) => number as u64,
+        Err(refusal) => refusal.number() as u64,
     }
 }
 
@@ -138,11 +137,11 @@ pub fn coronagamba_bounds_of(
     ensures end { end.new ≡ end_after (bounds_answer volume cell) end.old }
 {
     match morton::bounds_of(volume, cell) {
-        BoundsAnswer::Within(bounds) => {
+        Ok(bounds) => {
             *begin = three(bounds.begin);
             *end = three(bounds.end);
             0
         }
-        BoundsAnswer::Refused(number) => number as u64,
+        Err(refusal) => refusal.number() as u64,
     }
 }

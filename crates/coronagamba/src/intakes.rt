@@ -8,19 +8,21 @@ ghost use Rattle.coronagamba.specs.Specification.{given_sharding};
 ghost use Rattle.coronagamba.specs.Intakes.{state_after_of, part_after, closed_after, shard_length_after};
 
 use crate::numbers::{CSharding, sharding_of};
-use intake::{CloseAnswer, IntakeAnswer, numbers_of, state_of};
+use intake::state::Intake;
+use intake::{numbers_of, state_of};
+use refusal::Refusal;
 
 // The numbers of the new state, or the refusal.
-fn put_state(state: &mut [u64; 15], answer: IntakeAnswer) -> u64
+fn put_state(state: &mut [u64; 15], answer: Result<Intake, Refusal>) -> u64
     ensures value { result ≡ word_of (intake_result answer) }
     ensures state_after { state.new ≡ state_after_of answer state.old }
 {
     match answer {
-        IntakeAnswer::Next(next) => {
+        Ok(next) => {
             *state = numbers_of(next);
             0
         }
-        IntakeAnswer::Refused(refusal) => refusal as u64,
+        Err(refusal) => refusal.number() as u64,
     }
 }
 
@@ -88,12 +90,12 @@ pub fn coronagamba_intake_part(
 {
     let given = state_of(state);
     match intake::part(given, bytes, out, waiting) {
-        IntakeAnswer::Next(next) => {
+        Ok(next) => {
             state[12] = next.next as u64;
             state[13] = next.owed as u64;
             0
         }
-        IntakeAnswer::Refused(refusal) => refusal as u64,
+        Err(refusal) => refusal.number() as u64,
     }
 }
 
@@ -114,14 +116,11 @@ pub fn coronagamba_intake_close(
 {
     let given = state_of(state);
     match intake::close(given, out, waiting) {
-        CloseAnswer::Closed {
-            state: next,
-            length: bytes,
-        } => {
-            *state = numbers_of(next);
-            *length = bytes as u64;
+        Ok(closed) => {
+            *state = numbers_of(closed.state);
+            *length = closed.length as u64;
             0
         }
-        CloseAnswer::Refused(refusal) => refusal as u64,
+        Err(refusal) => refusal.number() as u64,
     }
 }

@@ -8,7 +8,7 @@ ghost use Rattle.coronagamba.specs.word.Word.{length_after, word_of};
 ghost use Rattle.coronagamba.specs.Labels.{no_width, label_by, written_by, labels_left_by, shape_of, label_after};
 
 use crate::answers::put_length;
-use compressed_segmentation::{LabelAnswer, Shape};
+use compressed_segmentation::Shape;
 use morton::grid::Extents;
 
 // No label has this many bits.
@@ -64,11 +64,11 @@ pub fn coronagamba_label(
         z,
         channel,
     ) {
-        LabelAnswer::Label(n) => {
+        Ok(n) => {
             *label = n;
             0
         }
-        LabelAnswer::Refused(number) => number as u64,
+        Err(refusal) => refusal.number() as u64,
     }
 }
 

@@ -11,10 +11,8 @@ ghost use Rattle.coronagamba.specs.word.Word.{length_after, word_of};
 ghost use Rattle.coronagamba.specs.Manifests.{header_after, kind_after, value_after, position_after, fragment_after, bytes_after, corner_bits, near_after, far_after};
 
 use crate::answers::put_length;
-use mesh_manifest::corners::{Corner, CornersAnswer};
-use mesh_manifest::nodes::NodeAnswer;
-use mesh_manifest::sound::ManifestAnswer;
-use mesh_manifest::{Field, HeaderAnswer};
+use mesh_manifest::Field;
+use mesh_manifest::corners::Corner;
 
 // Whether the bytes are a sound manifest. Writes nothing.
 // Refusals: 15, 16, 17
@@ -22,8 +20,8 @@ pub fn coronagamba_manifest_check(bytes: &[u8]) -> u64
     ensures answer { result ≡ word_of (manifest_result (manifest_answer bytes.now)) }
 {
     match mesh_manifest::check_manifest(bytes) {
-        ManifestAnswer::Sound => 0,
-        ManifestAnswer::Refused(refusal) => refusal as u64,
+        Ok(()) => 0,
+        Err(refusal) => refusal.number() as u64,
     }
 }
 
@@ -35,7 +33,7 @@ pub fn coronagamba_manifest_header(bytes: &[u8], header: &mut [u32; 6]) -> u64
     ensures header { header.new ≡ header_after (header_answer bytes.now) header.old }
 {
     match mesh_manifest::header_of(bytes) {
-        HeaderAnswer::Header(h) => {
+        Ok(h) => {
             *header = [
                 f32::to_bits(h.shape_x),
                 f32::to_bits(h.shape_y),
@@ -46,7 +44,7 @@ pub fn coronagamba_manifest_header(bytes: &[u8], header: &mut [u32; 6]) -> u64
             ];
             0
         }
-        HeaderAnswer::Refused(refusal) => refusal as u64,
+        Err(refusal) => refusal.number() as u64,
     }
 }
 
@@ -60,17 +58,17 @@ pub fn coronagamba_manifest_field(bytes: &[u8], number: u32, kind: &mut u32, val
     ensures value { value.new ≡ value_after (field_answer bytes.now number) value.old }
 {
     match mesh_manifest::field_of(bytes, number) {
-        Field::Real(x) => {
+        Ok(Field::Real(x)) => {
             *kind = 1;
             *value = f32::to_bits(x);
             0
         }
-        Field::Whole(n) => {
+        Ok(Field::Whole(n)) => {
             *kind = 0;
             *value = n;
             0
         }
-        Field::Refused(refusal) => refusal as u64,
+        Err(refusal) => refusal.number() as u64,
     }
 }
 
@@ -92,13 +90,13 @@ pub fn coronagamba_manifest_node(
     ensures size { size.new ≡ bytes_after (node_answer bytes.now level node) size.old }
 {
     match mesh_manifest::node_of(bytes, level, node) {
-        NodeAnswer::Node(n) => {
+        Ok(n) => {
             *position = [n.x, n.y, n.z];
             *start = n.start;
             *size = n.size;
             0
         }
-        NodeAnswer::Refused(refusal) => refusal as u64,
+        Err(refusal) => refusal.number() as u64,
     }
 }
 
@@ -146,11 +144,11 @@ pub fn coronagamba_manifest_corners(
     ensures far { far_corner.new ≡ far_after (corners_answer bytes.now level node) far_corner.old }
 {
     match mesh_manifest::corners_of(bytes, level, node) {
-        CornersAnswer::Corners(corners) => {
+        Ok(corners) => {
             *near_corner = three_patterns(corners.near);
             *far_corner = three_patterns(corners.far);
             0
         }
-        CornersAnswer::Refused(refusal) => refusal as u64,
+        Err(refusal) => refusal.number() as u64,
     }
 }

@@ -7,9 +7,10 @@ ghost use Rattle.coronagamba.specs.word.Word.{word_of};
 ghost use Rattle.coronagamba.specs.Specification.{given_sharding};
 ghost use Rattle.coronagamba.specs.Cards.{sharding_after, volume_after, chunk_after, offset_after};
 
-use card::CardAnswer;
+use card::Card;
 use intake::numbers::capped;
 use morton::grid::{Extents, Offset};
+use refusal::Refusal;
 use sharding::Sharding;
 
 // A sharding specification, its numbers as in a card: hash 0 is identity, 1 is murmur; kind 0 is
@@ -63,7 +64,7 @@ pub fn three_offsets(o: Offset) -> [i32; 3]
 }
 
 pub fn put_card(
-    answer: CardAnswer,
+    answer: Result<Card, Refusal>,
     sharding: &mut [u8; 5],
     size: &mut [u32; 3],
     chunk: &mut [u32; 3],
@@ -76,7 +77,7 @@ pub fn put_card(
     ensures offset { offset.new ≡ offset_after answer offset.old }
 {
     match answer {
-        CardAnswer::Says(card) => {
+        Ok(card) => {
             let volume = card.volume;
             *sharding = five(card.sharding);
             *size = three_extents(volume.size);
@@ -84,6 +85,6 @@ pub fn put_card(
             *offset = three_offsets(volume.offset);
             0
         }
-        CardAnswer::Refused(refusal) => refusal as u64,
+        Err(refusal) => refusal.number() as u64,
     }
 }

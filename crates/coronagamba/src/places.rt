@@ -10,7 +10,6 @@ ghost use Rattle.coronagamba.specs.Places.{shard_after, minishard_after};
 
 use crate::answers::put_length;
 use crate::numbers::{CSharding, sharding_of};
-use sharding::placement::PlaceAnswer;
 
 // The shard and the minishard of an id. Writes them to `shard` and `minishard`.
 // Refusals: 1
@@ -25,12 +24,12 @@ pub fn coronagamba_place_of(
     ensures minishard { minishard.new ≡ minishard_after (place_answer (given_sharding sharding) id) minishard.old }
 {
     match sharding::place_of(sharding_of(sharding), id) {
-        PlaceAnswer::At(place) => {
+        Ok(place) => {
             *shard = place.shard;
             *minishard = place.minishard;
             0
         }
-        PlaceAnswer::Refused(number) => number as u64,
+        Err(refusal) => refusal.number() as u64,
     }
 }
 

@@ -11,9 +11,9 @@ ghost use Rattle.coronagamba.specs.Sheets.{counts_of, counts_after_of, rows_afte
 
 use crate::numbers::{CSharding, sharding_of};
 use crate::word::fault_word;
-use holdings::SheetAnswer;
 use holdings::measures::{Counts, MeasureAnswer};
-use holdings::one_shard::{from_rows, rows_of};
+use holdings::one_shard::{Sheet, from_rows, rows_of};
+use refusal::Refusal;
 
 fn counts_of(counts: Counts) -> [u64; 4]
     ensures { result ≡ counts_of counts }
@@ -42,16 +42,16 @@ fn put_counts(counts: &mut [u64; 4], answer: MeasureAnswer) -> u64
 }
 
 // The new rows, or the refusal.
-fn put_sheet(sheet: &mut [u64; 17], answer: SheetAnswer) -> u64
+fn put_sheet(sheet: &mut [u64; 17], answer: Result<Sheet, Refusal>) -> u64
     ensures value { result ≡ word_of (sheet_result answer) }
     ensures sheet_after { sheet.new ≡ rows_after answer sheet.old }
 {
     match answer {
-        SheetAnswer::Total(next) => {
+        Ok(next) => {
             *sheet = rows_of(next);
             0
         }
-        SheetAnswer::Refused(refusal) => refusal as u64,
+        Err(refusal) => refusal.number() as u64,
     }
 }
 

@@ -9,7 +9,8 @@ use lib.ListN.{length}
 use borrow.Author.Rules.{rules}
 use borrow.Author.Tests.{ltb-false}
 use Rattle.refusal.specs.Checks.{first_number}
-use Rattle.refusal.specs.declared.Written.TheVariants.{Length, Refused}
+use Rattle.std.specs.Prelude.{Ok}
+use Rattle.refusal.specs.Answers.{refuse}
 use Rattle.refusal.proofs.Refusing.{by_number, by_none}
 use Rattle.endian.specs.Place.{paste}
 use Rattle.endian.proofs.Paste.{paste-front}
@@ -25,9 +26,9 @@ use Rattle.cover.specs.overlap.Marked.{left_bits, part_keys, marked_width, Frame
 use Rattle.cover.proofs.descent.Cuts.{marked_cells, keys-count}
 
 module _ (v : Volume) (lower upper : Point) (d : List ℕ) where
-  pub cover-refused : {k : ℕ} → first_number (cover_checks v lower upper d) ≡ k → 0 < k → Refused k ≡ cover_answer v lower upper d
+  pub cover-refused : (k : ℕ) → 0 < k → first_number (cover_checks v lower upper d) ≡ k → refuse k ≡ cover_answer v lower upper d
   unfolding cover_answer
-  cover-refused {k} f h = sym (by_number Refused (cover_checks v lower upper d) _ k f h)
+  cover-refused k h f = sym (by_number refuse (cover_checks v lower upper d) _ k f h)
 
   pub cover-kept : (k : ℕ) → 0 < k → first_number (cover_checks v lower upper d) ≡ k → d ≡ cover_left v lower upper d
   unfolding cover_left
@@ -84,14 +85,14 @@ module _ (v : Volume) (lower upper : Point) (d : List ℕ) {z : Bool} (ez : z �
               let m : length (cover_keys v lower upper) ≤ length d = ltb-false _ _ (sym test ∙ k) in
               omega (arith, product, count)
 
-          pub cover-yes : {n : ℕ} → n ≡ length (part_keys p 0) → Length n ≡ cover_answer v lower upper d
+          pub cover-yes : {n : ℕ} → n ≡ length (part_keys p 0) → Ok n ≡ cover_answer v lower upper d
           unfolding cover_answer
           cover-yes {n} e =
               let m : n ≡ length (cover_keys v lower upper) = omega (arith, product, count) in
-              sym (by_none Refused (cover_checks v lower upper d) _ none ∙ rw m)
+              sym (by_none refuse (cover_checks v lower upper d) _ none ∙ rw m)
 
           pub left-yes : {e : List ℕ} → e ≡ paste 0 (part_keys p 0) d → e ≡ cover_left v lower upper d
           unfolding cover_left
           left-yes q = q ∙ rw w.keys (paste-front (cover_keys v lower upper) d _ refl) ∙ sym (by_none (λ j. d) (cover_checks v lower upper d) _ none)
 
-pub ruleset entry = (tested, cover_2, cover_3, cover_13, cover-refused, whole-few, whole-framed, whole_room, cover-yes, left-yes, rules)
+pub ruleset entry = (tested, cover_2, cover_3, cover_13, whole-few, whole-framed, whole_room, cover-yes, left-yes, rules)

@@ -13,15 +13,14 @@ use morton::grid::{Cell, Extents};
 use morton::steps::{key, key_bits};
 
 // n keys one after the other, and where they end.
+#[tactic(auto, using(crate::proofs::descent::Counts::count_first, crate::proofs::descent::Counts::count_next, crate::proofs::descent::Counts::count_past))]
 fn put_keys(out: &mut [u64], at: usize, first: u64, n: usize) -> usize
     requires { (at + n ≤ length out.old) × (first + n ≤ 2 ^ 64) }
     ensures next { result ≡ at + n }
     ensures out { out.new ≡ paste at (counting first n) out.old }
 {
-    let mut i = 0;
-    while i < n {
+    for i in 0..n {
         out[at + i] = first + i as u64;
-        i += 1;
     }
     at + n
 }

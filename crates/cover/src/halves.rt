@@ -26,7 +26,8 @@ pub struct Cut {
     pub first: u64,
 }
 
-// 2 to the power n.
+// 2 to the power n: by a shift, since the library's pow is a loop.
+#[tactic(auto, using(crate::proofs::halves::Ways::powers))]
 fn power(n: u32) -> u64
     requires { n < 64 }
     ensures { (result ≡ 2 ^ n) × (0 < result) × (result ≤ 2 ^ 63) }
@@ -43,6 +44,7 @@ fn has(k: u64, n: u32) -> bool
 }
 
 // No key of the box is in the half with n bits that begins at `first`: the half lies past the box's last key or before its first.
+#[tactic(auto, using(crate::proofs::halves::Ways::missing))]
 fn misses(first: u64, n: u32, low: u64, high: u64) -> bool
     requires { (n < 64) × (low ≤ high) × (first + 2 ^ n ≤ 2 ^ 64) × Beside low high first n }
     ensures { Misses low high first n result }
@@ -54,6 +56,7 @@ fn misses(first: u64, n: u32, low: u64, high: u64) -> bool
 }
 
 // The two halves at bit n of what begins at `first`, each tested by itself.
+#[tactic(auto, using(crate::proofs::halves::Ways::halving))]
 pub fn halve(first: u64, n: u32, low: u64, high: u64) -> Halves
     requires { (n < 64) × (low ≤ high) × Halvable low high first n }
     ensures { Halved low high first n result }
@@ -74,6 +77,7 @@ pub fn halve(first: u64, n: u32, low: u64, high: u64) -> Halves
 }
 
 // The axis that has bit n.
+#[tactic(auto, using(crate::proofs::halves::Ways::bits))]
 fn owner(x: u64, y: u64, z: u64, n: u32) -> u64
     requires { Axes x y z n × (n < 64) }
     ensures { Owns x y z n result }
@@ -88,6 +92,7 @@ fn owner(x: u64, y: u64, z: u64, n: u32) -> u64
 }
 
 // The last key of the box in the lower half: the bit's axis goes on to the half's end there.
+#[tactic(auto, using(crate::proofs::halves::Ways::corner))]
 fn last_below(own: u64, high: u64, n: u32) -> u64
     requires { (n < 64) × (2 ^ n ≤ high) }
     ensures { result ≡ last_below own high n }
@@ -97,6 +102,7 @@ fn last_below(own: u64, high: u64, n: u32) -> u64
 }
 
 // The first key of the box in the upper half: the bit's axis begins anew there.
+#[tactic(auto, using(crate::proofs::halves::Ways::corner))]
 fn first_above(own: u64, low: u64, n: u32) -> u64
     requires { (n < 64) × (first_above own low n < 2 ^ 64) }
     ensures { result ≡ first_above own low n }
@@ -106,6 +112,7 @@ fn first_above(own: u64, low: u64, n: u32) -> u64
 }
 
 // The box in two, where it has cells in both halves at bit n.
+#[tactic(auto, using(crate::proofs::halves::Ways::cutting))]
 pub fn cut_box(x: u64, y: u64, z: u64, low: u64, high: u64, n: u32) -> Cut
     requires { (n < 64) × BoxCorners x y z low high × SplitAt low high n }
     ensures { CutBox x y z low high n result }
@@ -118,6 +125,7 @@ pub fn cut_box(x: u64, y: u64, z: u64, low: u64, high: u64, n: u32) -> Cut
 }
 
 // The keys from low to high are all that bits 0 to n can make.
+#[tactic(auto, using(crate::proofs::halves::Ways::corner))]
 pub fn full(low: u64, high: u64, n: u32) -> bool
     requires { (n < 64) × (low ≤ high) }
     ensures { result ≡ eqb (high - low) (2 ^ n + (2 ^ n - 1)) }

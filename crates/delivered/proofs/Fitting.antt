@@ -22,7 +22,7 @@ use Rattle.intake.specs.state.State.{sane, announceable, Usable}
 use Rattle.intake.specs.call_tests.Tests.{other_lengths, unusable, forged, forged_turn, count_in}
 use Rattle.intake.specs.admission.Refusals.{announce_checks}
 use Rattle.intake.proofs.admission.Passing.{opens, announces, hands}
-use Rattle.intake.specs.declared.IntakeAnswer.TheVariants.{Next}
+use Rattle.std.specs.Prelude.{Ok}
 use Rattle.intake.specs.steps.Steps.{ended_left, turned_left, announced}
 use Rattle.intake.specs.Calls.{announce_answer, announce_left, announce_waiting, part_left}
 use Rattle.intake.proofs.Answered.{announce-left, announce-waiting, part_left_lem}
@@ -99,7 +99,7 @@ module _ {spec : Sharding} {shard output waiting : ℕ} where
       let t = d.state in
       let u = part-told t bytes d.output d.waiting q in
       let p = hands t (length bytes) (length d.output) d.waiting u.0 in
-      let v : paste (index_length_of t.spec + t.next) bytes d.output ≡ part_left t bytes d.output d.waiting = part_left_lem t bytes d.output d.waiting refl u.0 refl in
+      let v : paste (index_length_of t.spec + t.next) bytes d.output ≡ part_left t bytes d.output d.waiting = part_left_lem t bytes d.output d.waiting u.0 refl in
       let l : length (paste (index_length_of t.spec + t.next) bytes d.output) ≡ length d.output =
       length-paste (index_length_of t.spec + t.next) bytes d.output (omega (arith, p.usual.room, p.usual.outputs, p.due)) in
       hands_fit r
@@ -124,9 +124,9 @@ module _ {spec : Sharding} {shard output waiting : ℕ} where
       let p = announces t x.id x.size (length d.output) d.waiting z in
       let q = turns t d.waiting m in
       let v : turned_left t m d.output d.waiting ≡ announce_left t x.id x.size d.output d.waiting =
-      announce-left t x.id x.size d.output d.waiting refl z refl in
+      announce-left t x.id x.size d.output d.waiting z refl in
       let w : paste (16 * count_in t m) (pair x.id x.size) d.waiting ≡ announce_waiting t x.id x.size d.output d.waiting =
-      announce-waiting t x.id x.size d.output d.waiting refl z refl in
+      announce-waiting t x.id x.size d.output d.waiting z refl in
       record {
         of_spec = q.spec ∙ f.of_spec;
         of_shard = q.shard ∙ f.of_shard;
@@ -140,7 +140,7 @@ module _ {spec : Sharding} {shard output waiting : ℕ} where
       }
 
   -- a chunk announced and handed over
-  pub chunk-fit : {d e : Desk} (x : Delivery) {s : Intake} → x.id < 2 ^ 64 → announce_answer d.state x.id x.size d.output d.waiting ≡ Next s
+  pub chunk-fit : {d e : Desk} (x : Delivery) {s : Intake} → x.id < 2 ^ 64 → announce_answer d.state x.id x.size d.output d.waiting ≡ Ok s
       → HandsOver (after_announce d x.id x.size s) x.parts e → Fit spec shard output waiting d → Fit spec shard output waiting e
   chunk-fit {d} x {s} b q r h =
       let u = announce_told d.state x.id x.size d.output d.waiting q in

@@ -41,7 +41,7 @@ handed {d} {e} (part {bytes = bytes} {parts = parts} {s = s} q r) =
     let u = part-told t bytes d.output d.waiting q in
     let p = hands t (length bytes) (length d.output) d.waiting u.0 in
     let at = index_length_of t.spec + t.next in
-    let v : part_left t bytes d.output d.waiting ≡ paste at bytes d.output = sym (part_left_lem t bytes d.output d.waiting refl u.0 refl) in
+    let v : part_left t bytes d.output d.waiting ≡ paste at bytes d.output = sym (part_left_lem t bytes d.output d.waiting u.0 refl) in
     let i = handed r in
     let k = concat_parts parts in
     let room = p.usual.room in

@@ -25,10 +25,9 @@ use Rattle.intake.specs.declared.state.Intake.{Intake}
 use Rattle.intake.specs.state.State.{announced_length}
 use Rattle.intake.proofs.admission.Passing.{announces, closes}
 use Rattle.intake.proofs.call_tests.Passing.{not-below}
-use Rattle.intake.specs.declared.IntakeAnswer.TheVariants.{Next}
-use Rattle.intake.specs.declared.CloseAnswer.TheVariants.{Closed}
+use Rattle.std.specs.Prelude.{Ok}
 use Rattle.intake.specs.steps.Steps.{ended_left, opened, turned, turned_left, noted, announced, taken}
-use Rattle.intake.specs.Calls.{open_left, announce_answer, announce_left, announce_waiting, close_answer, close_left}
+use Rattle.intake.specs.Calls.{open_left, announce_answer, announce_left, announce_waiting, close_answer, close_left, closes_with}
 use Rattle.intake.proofs.steps.Stepped.{turned-count}
 use Rattle.intake.proofs.Answered.{open-left, announce-left, announce-waiting, close-left}
 use Rattle.intake.proofs.Refused.{open_told, announce_told, close-told}
@@ -185,7 +184,7 @@ noted-keeps {s = s} x h e f g =
 
 module _ (spec : Sharding) {out : List ℕ} (items : List Item) {d e : Desk} (x : Delivery) {s : Intake} (h : d.state.owed ≡ 0 → Keeps spec out (arrived spec items) d.state d.output d.waiting) where
   pub chunk-keeps : x.id < 2 ^ 64
-      → announce_answer d.state x.id x.size d.output d.waiting ≡ Next s
+      → announce_answer d.state x.id x.size d.output d.waiting ≡ Ok s
       → HandsOver (after_announce d x.id x.size s) x.parts e
       → e.state.owed ≡ 0 → Keeps spec out (arrived spec (items ++ (as_item x ∷ []))) e.state e.output e.waiting
   chunk-keeps l q r z =
@@ -199,9 +198,9 @@ module _ (spec : Sharding) {out : List ℕ} (items : List Item) {d e : Desk} (x 
       let sp : minishard_count_of t.spec ≡ minishard_count_of spec = ap minishard_count_of k.same in
       let g = turned-keeps k m (omega (arith, minishard-below t.spec x.id)) (not-below t x.id p.order) in
       let b = concat_parts x.parts in
-      let ol : announce_left t x.id x.size o w ≡ turned_left t m o w = sym (announce-left t x.id x.size o w refl u.0 refl) in
+      let ol : announce_left t x.id x.size o w ≡ turned_left t m o w = sym (announce-left t x.id x.size o w u.0 refl) in
       let wl : announce_waiting t x.id x.size o w ≡ paste (16 * (turned t m).count) (pair x.id x.size) w =
-      rw (turned-count t m) (sym (announce-waiting t x.id x.size o w refl u.0 refl)) in
+      rw (turned-count t m) (sym (announce-waiting t x.id x.size o w u.0 refl)) in
       let i = handed r in
       let is : e.state ≡ taken (announced t x.id x.size) (length b) = rw (← u.1) at i.state in
       let io : e.output ≡ paste (index_length_of (turned t m).spec + (turned t m).next) b (turned_left t m o w) = rw (← u.1, ol) at i.output in
@@ -240,7 +239,7 @@ takes_idle {spec} {shard} {out} {waiting} t =
     let owed : t.state.owed ≡ 0 = ap (λ (s : Intake). s.owed) (sym u.1) in
     let n : length b ≡ 0 = omega (arith, i.due) in
     let none : b ≡ [] = nothing b n in
-    let o : open_left spec shard out ≡ paste 0 (replicate (index_length_of spec) 0) out = sym (open-left spec shard out refl u.0 refl) in
+    let o : open_left spec shard out ≡ paste 0 (replicate (index_length_of spec) 0) out = sym (open-left spec shard out u.0 refl) in
     record {
       state = i.state ∙ rw (none, ← u.1);
       output = i.output ∙ rw none (paste-nil _ (open_left spec shard out)) ∙ o;
@@ -269,12 +268,12 @@ module _ {spec : Sharding} {out : List ℕ} {c : List (List Item)} {s : Intake} 
 
 -- it reports the length of the settled form of what arrived, and leaves the output with that at its front, and behind it as it was opened
 pub closes_arrived : {spec : Sharding} {shard : ℕ} {out waiting : List ℕ} {xs : List Delivery} {d : Desk} {s : Intake} {n : ℕ}
-    → Takes spec shard out waiting xs d → close_answer d.state d.output d.waiting ≡ Closed s n
+    → Takes spec shard out waiting xs d → close_answer d.state d.output d.waiting ≡ closes_with s n
     → (n ≡ length (settled (arrived spec (as_items xs)))) × Begins out (close_left d.state d.output d.waiting) (settled (arrived spec (as_items xs)))
 closes_arrived {d = d} t q =
     let u = close-told d.state d.output d.waiting q in
     let p = closes d.state (length d.output) d.waiting u.0 in
     let k = takes_keeps t p.paid in
     let o : close_left d.state d.output d.waiting ≡ ended_left d.state d.output d.waiting =
-    sym (close-left d.state d.output d.waiting refl u.0 refl) in
+    sym (close-left d.state d.output d.waiting u.0 refl) in
     (sym u.1.1 ∙ keeps-length k p.paid, rw o (keeps-ended k))

@@ -29,9 +29,8 @@ use Rattle.intake.specs.state.State.{announced_length}
 use Rattle.intake.proofs.state.Passing.{volume-allowed, volume-kind}
 use Rattle.intake.proofs.admission.Passing.{Opens, opens, closes}
 use Rattle.intake.specs.declared.state.Intake.{Intake}
-use Rattle.intake.specs.declared.CloseAnswer.TheVariants.{Closed}
 use Rattle.intake.specs.steps.Steps.{closed}
-use Rattle.intake.specs.Calls.{close_answer, close_left}
+use Rattle.intake.specs.Calls.{close_answer, close_left, closes_with}
 use Rattle.intake.proofs.Answered.{close-closed}
 use Rattle.intake.proofs.Refused.{open_told, close-told}
 use Rattle.delivered.specs.Delivered.{Delivery, as_items, in_minishard, gathered, delivered_form, InOrder}
@@ -59,12 +58,12 @@ takes_gathered {spec} {xs = xs} t = gathered_arrived spec (as_items xs) (λ m. i
 -- "the close reports the length of the settled form of what was delivered, and the output begins with it, however the parts were cut"; past it nothing
 -- was touched since the opening
 pub closes-settled : {spec : Sharding} {shard : ℕ} {out waiting : List ℕ} {xs : List Delivery} {d : Desk} {s : Intake} {n : ℕ}
-    → Takes spec shard out waiting xs d → close_answer d.state d.output d.waiting ≡ Closed s n
+    → Takes spec shard out waiting xs d → close_answer d.state d.output d.waiting ≡ closes_with s n
     → (n ≡ length (delivered_form spec xs)) × (close_left d.state d.output d.waiting ≡ over (delivered_form spec xs) out)
 closes-settled t q = let c = closes_arrived t q in rw (takes_gathered t) (c.0, c.1.is)
 
 closes-front : {spec : Sharding} {shard : ℕ} {out waiting : List ℕ} {xs : List Delivery} {d : Desk} {s : Intake} {n : ℕ}
-    → Takes spec shard out waiting xs d → close_answer d.state d.output d.waiting ≡ Closed s n
+    → Takes spec shard out waiting xs d → close_answer d.state d.output d.waiting ≡ closes_with s n
     → take n (close_left d.state d.output d.waiting) ≡ delivered_form spec xs
 closes-front {spec} {out = out} {xs = xs} {n = n} t q =
     let c = closes-settled t q in
@@ -77,16 +76,16 @@ nothing_owed xs z = rw (le-ltb 0 (owing xs) (omega arith))
 
 -- and it is not refused where nothing is owed
 pub closes-paid : {spec : Sharding} {shard : ℕ} {out waiting : List ℕ} {xs : List Delivery} {d : Desk}
-    → Takes spec shard out waiting xs d → owing xs ≡ 0 → close_answer d.state d.output d.waiting ≡ Closed (closed d.state) (length (delivered_form spec xs))
+    → Takes spec shard out waiting xs d → owing xs ≡ 0 → close_answer d.state d.output d.waiting ≡ closes_with (closed d.state) (length (delivered_form spec xs))
 closes-paid {spec} {xs = xs} {d = d} t z =
-    let a : Closed (closed d.state) (announced_length d.state) ≡ close_answer d.state d.output d.waiting =
-    close-closed d.state d.output d.waiting refl (close-says t ∙ nothing_owed xs z) refl refl in
-    sym a ∙ ap (Closed (closed d.state)) (closes-settled t (sym a)).0
+    let a : closes_with (closed d.state) (announced_length d.state) ≡ close_answer d.state d.output d.waiting =
+    close-closed d.state d.output d.waiting (close-says t ∙ nothing_owed xs z) refl refl in
+    sym a ∙ ap (λ (k : ℕ). closes_with (closed d.state) k) (closes-settled t (sym a)).0
 
 -- so the cut into parts, the buffers' lengths and what they held make no difference
 pub cut_differently : {spec : Sharding} {shard shard' : ℕ} {out waiting out' waiting' : List ℕ} {xs ys : List Delivery} {d e : Desk} {s t : Intake} {m n : ℕ}
-    → Takes spec shard out waiting xs d → close_answer d.state d.output d.waiting ≡ Closed s m
-    → Takes spec shard' out' waiting' ys e → close_answer e.state e.output e.waiting ≡ Closed t n
+    → Takes spec shard out waiting xs d → close_answer d.state d.output d.waiting ≡ closes_with s m
+    → Takes spec shard' out' waiting' ys e → close_answer e.state e.output e.waiting ≡ closes_with t n
     → as_items xs ≡ as_items ys
     → (m ≡ n) × (take m (close_left d.state d.output d.waiting) ≡ take n (close_left e.state e.output e.waiting))
 cut_differently {spec} a p b q r =
@@ -137,7 +136,7 @@ module _ {spec : Sharding} {shard : ℕ} {out waiting : List ℕ} {xs : List Del
       never : ◌≡◌ {A = Bool} true false → ⊥
       never z = let o : ◌≡◌ {A = ℕ} 0 1 = cc in omega arith
 
-  pub closes-sound : {s : Intake} {n : ℕ} → close_answer d.state d.output d.waiting ≡ Closed s n
+  pub closes-sound : {s : Intake} {n : ℕ} → close_answer d.state d.output d.waiting ≡ closes_with s n
       → ClosedShard spec shard xs (take n (close_left d.state d.output d.waiting))
   unfolding form_of
   closes-sound {s} {n} q =

@@ -20,10 +20,9 @@ use Rattle.intake.proofs.waiting.Pairs.{length-pair}
 use Rattle.intake.specs.declared.state.Intake.{Intake}
 use Rattle.intake.specs.state.State.{Usable}
 use Rattle.intake.proofs.call_tests.Passing.{usable}
-use Rattle.intake.specs.declared.IntakeAnswer.TheVariants.{Next}
-use Rattle.intake.specs.declared.CloseAnswer.TheVariants.{Closed}
+use Rattle.std.specs.Prelude.{Ok}
 use Rattle.intake.specs.steps.Steps.{ended_left, turned, turned_left}
-use Rattle.intake.specs.Calls.{announce_answer, announce_left, part_answer, part_left, close_answer, close_left}
+use Rattle.intake.specs.Calls.{announce_answer, announce_left, part_answer, part_left, close_answer, close_left, closes_with}
 use Rattle.intake.proofs.Answered.{announce-left, part_left_lem, close-left}
 use Rattle.intake.proofs.Refused.{announce_told, part-told, close-told}
 use Rattle.delivered.specs.Delivered.{Delivery, concat_parts}
@@ -120,14 +119,14 @@ module _ {spec : Sharding} {shard output waiting : ℕ} where
               (behind-holds d.output p b h.here (index_length_of d.state.spec + d.state.next) (concat_parts parts) (omega arith) (omega (arith, u.room, u.outputs)));
         }
 
-    chunk-stays : {d e : Desk} (x : Delivery) {s : Intake} → x.id < 2 ^ 64 → announce_answer d.state x.id x.size d.output d.waiting ≡ Next s
+    chunk-stays : {d e : Desk} (x : Delivery) {s : Intake} → x.id < 2 ^ 64 → announce_answer d.state x.id x.size d.output d.waiting ≡ Ok s
         → HandsOver (after_announce d x.id x.size s) x.parts e → Fit spec shard output waiting d → Stays spec p b d → Stays spec p b e
     chunk-stays {d} x {s} l q r f h =
         let t = d.state in
         let m = minishard_of t.spec x.id in
         let u = announce_told t x.id x.size d.output d.waiting q in
         let o : turned_left t m d.output d.waiting ≡ announce_left t x.id x.size d.output d.waiting =
-        announce-left t x.id x.size d.output d.waiting refl u.0 refl in
+        announce-left t x.id x.size d.output d.waiting u.0 refl in
         let lo = h.low in
         let hi = h.high in
         let sp : index_length_of t.spec ≡ index_length_of spec = ap index_length_of f.of_spec in
@@ -145,8 +144,8 @@ module _ {spec : Sharding} {shard output waiting : ℕ} where
 
 -- the bytes of a part stand, right after the call, at the place where they stand after the close, within the form
 pub part_placed : {spec : Sharding} {shard : ℕ} {out waiting : List ℕ} {xs ys : List Delivery} {d e f : Desk} {bytes : List ℕ} {parts : List (List ℕ)} {s c : Intake} {n : ℕ}
-    → Takes spec shard out waiting xs d → part_answer d.state bytes d.output d.waiting ≡ Next s → HandsOver (after_part d bytes s) parts e → Delivers e ys f
-    → close_answer f.state f.output f.waiting ≡ Closed c n
+    → Takes spec shard out waiting xs d → part_answer d.state bytes d.output d.waiting ≡ Ok s → HandsOver (after_part d bytes s) parts e → Delivers e ys f
+    → close_answer f.state f.output f.waiting ≡ closes_with c n
     → Holds (part_left d.state bytes d.output d.waiting) (index_length_of spec + d.state.next) bytes
     × (Holds (close_left f.state f.output f.waiting) (index_length_of spec + d.state.next) bytes × (index_length_of spec + d.state.next + length bytes ≤ n))
 part_placed {spec} {shard} {out} {waiting} {d = d} {e = e} {f = f} {bytes = bytes} {s = s} {n = n} t q r g z =
@@ -156,7 +155,7 @@ part_placed {spec} {shard} {out} {waiting} {d = d} {e = e} {f = f} {bytes = byte
     let p = index_length_of spec + d.state.next in
     let us = ready fd in
     let o : part_left d.state bytes d.output d.waiting ≡ paste p bytes d.output =
-    sym (part_left_lem d.state bytes d.output d.waiting refl u.0 refl) ∙ ap (λ (k : ℕ). paste (k + d.state.next) bytes d.output) sp in
+    sym (part_left_lem d.state bytes d.output d.waiting u.0 refl) ∙ ap (λ (k : ℕ). paste (k + d.state.next) bytes d.output) sp in
     let there : Holds (part_left d.state bytes d.output d.waiting) p bytes = rw o (paste-holds p bytes d.output (omega (arith, us.room, us.outputs))) in
     let nx : d.state.next + length bytes ≡ s.next = ap (λ (y : Intake). y.next) u.1 in
     let f₁ : Fit spec shard (length out) (length waiting) (after_part d bytes s) = hands_fit (part q no_part) fd in
@@ -166,7 +165,7 @@ part_placed {spec} {shard} {out} {waiting} {d = d} {e = e} {f = f} {bytes = byte
     let h₃ = delivers-stays p bytes g f₂ (handed_stays p bytes r f₁ h₁) in
     let v = close-told f.state f.output f.waiting z in
     let w : ended_left f.state f.output f.waiting ≡ close_left f.state f.output f.waiting =
-    close-left f.state f.output f.waiting refl v.0 refl in
+    close-left f.state f.output f.waiting v.0 refl in
     let lo = h₃.low in
     let hi = h₃.high in
     let sf : index_length_of f.state.spec ≡ index_length_of spec = ap index_length_of f₃.of_spec in (

@@ -18,10 +18,10 @@ use Rattle.intake.specs.call_tests.Tests.{other_lengths, foreign, unusable, out_
 use Rattle.intake.specs.admission.Refusals.{announce_checks, part_checks, close_checks}
 use Rattle.intake.proofs.state.Passing.{volume-allowed, sane-parts}
 use Rattle.intake.proofs.admission.Passing.{Closes, closes}
-use Rattle.intake.specs.declared.IntakeAnswer.TheVariants.{Next, Refused}
-use Rattle.intake.specs.declared.CloseAnswer.TheVariants.{Closed, Refused as NotClosed}
+use Rattle.std.specs.Prelude.{Ok}
+use Rattle.refusal.specs.Answers.{refuse}
 use Rattle.intake.specs.steps.Steps.{turned, announced, taken, closed}
-use Rattle.intake.specs.Calls.{announce_answer, part_answer, close_answer, close_left}
+use Rattle.intake.specs.Calls.{announce_answer, part_answer, close_answer, close_left, closes_with}
 use Rattle.intake.proofs.Answered.{close-left}
 use Rattle.intake.proofs.Refused.{announce_told, close-told}
 use Rattle.delivered.specs.Delivered.{Delivery, concat_parts}
@@ -51,7 +51,7 @@ record After (spec : Sharding) (x : Delivery) (s : Intake) : Type 0 where
   left : s.owed ≡ x.size - length (concat_parts x.parts)
 
 module _ {spec : Sharding} {shard output waiting : ℕ} where
-  after-chunk : {d e : Desk} (x : Delivery) {s : Intake} → announce_answer d.state x.id x.size d.output d.waiting ≡ Next s
+  after-chunk : {d e : Desk} (x : Delivery) {s : Intake} → announce_answer d.state x.id x.size d.output d.waiting ≡ Ok s
       → HandsOver (after_announce d x.id x.size s) x.parts e → Fit spec shard output waiting d → After spec x e.state
   after-chunk {d} {e} x {s} q r h =
       let t = d.state in
@@ -147,7 +147,7 @@ refused_by : {A : Type 0} (r : ℕ → A) (b : Bool) (a : A) → unless r (pick 
 refused_by r true a = refused_with r 25 a (omega arith)
 refused_by r false a = refused_with r 10 a (omega arith)
 
-module _ (d : Desk) {s : Intake} {n : ℕ} (q : close_answer d.state d.output d.waiting ≡ Closed s n) where
+module _ (d : Desk) {s : Intake} {n : ℕ} (q : close_answer d.state d.output d.waiting ≡ closes_with s n) where
   not-refused : Closes d.state (length d.output) d.waiting
   not-refused = closes d.state (length d.output) d.waiting (close-told d.state d.output d.waiting q).0
 
@@ -157,7 +157,7 @@ module _ (d : Desk) {s : Intake} {n : ℕ} (q : close_answer d.state d.output d.
       let t = d.state in
       let p = not-refused.usual in
       let l : length (close_left t d.output d.waiting) ≡ length d.output =
-      ap length (sym (close-left t d.output d.waiting refl (close-told t d.output d.waiting q).0 refl)) ∙ length-ended t d.output d.waiting p in
+      ap length (sym (close-left t d.output d.waiting (close-told t d.output d.waiting q).0 refl)) ∙ length-ended t d.output d.waiting p in
       rw (eq-eqb t.output (length (close_left t d.output d.waiting)) (p.outputs ∙ sym l), eq-eqb t.waiting (length d.waiting) p.waits)
 
   closed-ours : (id : ℕ) → foreign (closed d.state) id ≡ not (eqb (shard_of d.state.spec id) d.state.shard)
@@ -170,7 +170,7 @@ module _ (d : Desk) {s : Intake} {n : ℕ} (q : close_answer d.state d.output d.
   over_closed =
       let u = closed-unusable d.state d.waiting in
       record {
-        announces = λ id size. rw (closed_lengths, closed-ours id, u) (refused_by Refused (eqb (shard_of d.state.spec id) d.state.shard) _);
-        parts = λ bytes. rw (closed_lengths, u) (refused_with Refused 25 _ (omega arith));
-        closes = rw (closed_lengths, u) (refused_with NotClosed 25 _ (omega arith));
+        announces = λ id size. rw (closed_lengths, closed-ours id, u) (refused_by refuse (eqb (shard_of d.state.spec id) d.state.shard) _);
+        parts = λ bytes. rw (closed_lengths, u) (refused_with refuse 25 _ (omega arith));
+        closes = rw (closed_lengths, u) (refused_with refuse 25 _ (omega arith));
       }

@@ -1,14 +1,13 @@
 -- Runs of calls that deliver chunks to an intake, where "each call gets the last call's state and both buffers as it left them" and none is refused
 -- (RULES N6).
-use Rattle.std.specs.Prelude.{ℕ, ◌^◌, ◌<◌, ◌≡◌, List, [], ◌∷◌, eqb}
+use Rattle.std.specs.Prelude.{ℕ, ◌^◌, ◌<◌, ◌≡◌, List, [], ◌∷◌, eqb, Ok}
 use Rattle.refusal.specs.Choice.{pick}
 use Rattle.sharding.specs.declared.Sharding.{Sharding}
 use Rattle.sharding.specs.placement.Place.{shard_of}
 use Rattle.shard.specs.Sound.{SoundShard}
 use Rattle.settled_form.specs.Content.{file_content, file_form}
 use Rattle.intake.specs.declared.state.Intake.{Intake}
-use Rattle.intake.specs.declared.IntakeAnswer.TheVariants.{Next, Refused}
-use Rattle.intake.specs.declared.CloseAnswer.TheVariants.{Refused as NotClosed}
+use Rattle.refusal.specs.Answers.{refuse}
 use Rattle.intake.specs.Calls.{open_answer, open_left, announce_answer, announce_left, announce_waiting, part_answer, part_left, close_answer, close_left}
 use Rattle.intake.specs.steps.Steps.{closed}
 use Rattle.delivered.specs.Delivered.{Delivery, as_items, gathered}
@@ -40,7 +39,7 @@ after_close d = record { state = closed d.state; output = close_left d.state d.o
 pub data HandsOver : Desk → List (List ℕ) → Desk → Type 0 where
   no_part : {d : Desk} → HandsOver d [] d
   part : {d e : Desk} {bytes : List ℕ} {parts : List (List ℕ)} {s : Intake}
-      → part_answer d.state bytes d.output d.waiting ≡ Next s
+      → part_answer d.state bytes d.output d.waiting ≡ Ok s
       → HandsOver (after_part d bytes s) parts e
       → HandsOver d (bytes ∷ parts) e
 
@@ -49,7 +48,7 @@ pub data Delivers : Desk → List Delivery → Desk → Type 0 where
   no_chunk : {d : Desk} → Delivers d [] d
   chunk : {d e f : Desk} {x : Delivery} {xs : List Delivery} {s : Intake}
       → x.id < 2 ^ 64
-      → announce_answer d.state x.id x.size d.output d.waiting ≡ Next s
+      → announce_answer d.state x.id x.size d.output d.waiting ≡ Ok s
       → HandsOver (after_announce d x.id x.size s) x.parts e
       → Delivers e xs f
       → Delivers d (x ∷ xs) f
@@ -58,7 +57,7 @@ pub data Delivers : Desk → List Delivery → Desk → Type 0 where
 -- handed over (RULES N6)
 pub record Takes (spec : Sharding) (shard : ℕ) (out waiting : List ℕ) (xs : List Delivery) (d : Desk) : Type 0 where
   pub state : Intake
-  pub opens : open_answer spec shard out waiting ≡ Next state
+  pub opens : open_answer spec shard out waiting ≡ Ok state
   pub idle : List (List ℕ)
   pub first : Desk
   pub idles : HandsOver (after_open spec shard out waiting state) idle first
@@ -75,6 +74,6 @@ pub record ClosedShard (spec : Sharding) (shard : ℕ) (xs : List Delivery) (fil
 
 -- 25 "after the close", at a desk as it left it: of every call but an announcement of an id that belongs to another shard
 pub record Over (d : Desk) : Type 0 where
-  pub announces : (id size : ℕ) → announce_answer d.state id size d.output d.waiting ≡ Refused (pick (eqb (shard_of d.state.spec id) d.state.shard) 25 10)
-  pub parts : (bytes : List ℕ) → part_answer d.state bytes d.output d.waiting ≡ Refused 25
-  pub closes : close_answer d.state d.output d.waiting ≡ NotClosed 25
+  pub announces : (id size : ℕ) → announce_answer d.state id size d.output d.waiting ≡ refuse (pick (eqb (shard_of d.state.spec id) d.state.shard) 25 10)
+  pub parts : (bytes : List ℕ) → part_answer d.state bytes d.output d.waiting ≡ refuse 25
+  pub closes : close_answer d.state d.output d.waiting ≡ refuse 25

@@ -50,8 +50,7 @@ fn sift(data: &[u8], p: usize, n: usize, words: &mut [u64]) -> Told
 {
     let mut vain: u64 = 0;
     let mut id: u64 = 0;
-    let mut i = 0;
-    while i < n {
+    for i in 0..n {
         id = next_id(data, p, i, id);
         if !note(words, id) {
             if stands_before(data, p, i, id) {
@@ -62,7 +61,6 @@ fn sift(data: &[u8], p: usize, n: usize, words: &mut [u64]) -> Told
             }
             vain += 1;
         }
-        i += 1;
     }
     Told { at: n, sure: true }
 }

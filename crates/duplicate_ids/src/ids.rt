@@ -13,7 +13,7 @@ pub fn next_id(data: &[u8], p: usize, i: usize, before: u64) -> u64
     requires before_value { before ≡ sum_to (row_at «data».now p) i % 2 ^ 64 }
     ensures { result ≡ id_at (row_at «data».now p) i }
 {
-    std::num::wrapping_add_u64(before, read_u64(data, p + 8 * i))
+    before.wrapping_add(read_u64(data, p + 8 * i))
 }
 
 // As many of the first entries as have ids that rise: none of them has the id of an earlier one.
@@ -22,19 +22,15 @@ pub fn rising(data: &[u8], p: usize, n: usize) -> usize
     ensures { (result ≡ first (stops_rising (id_at (row_at «data».now p))) n) × (result ≤ n) × (any_below result (repeats (id_at (row_at «data».now p))) ≡ false) }
 {
     let mut id: u64 = 0;
-    let mut i: usize = 0;
-    while i < n {
+    for i in 0..n {
         let step = read_u64(data, p + 8 * i);
-        if 0 < i {
-            if step == 0 {
-                return i;
-            }
+        if 0 < i && step == 0 {
+            return i;
         }
-        if 18446744073709551615 - id < step {
+        if u64::MAX - id < step {
             return i;
         }
         id += step;
-        i += 1;
     }
     n
 }
@@ -53,13 +49,11 @@ pub fn stands_before(data: &[u8], p: usize, i: usize, x: u64) -> bool
     ensures { result ≡ any_below i (λ j. nat_eq (id_at (row_at «data».now p) j) x) }
 {
     let mut id: u64 = 0;
-    let mut j = 0;
-    while j < i {
+    for j in 0..i {
         id = next_id(data, p, j, id);
         if id == x {
             return true;
         }
-        j += 1;
     }
     false
 }

@@ -13,7 +13,12 @@ ghost use Rattle.duplicate_ids.specs.ids.Ids.{first_twice};
 
 use crate::filter::sifted;
 use crate::ids::{rising, stays};
-use crate::passes::inner::{few_passes, many_passes};
+use crate::passes::inner::in_passes;
+
+// How many ids a pass has room for: fewer entries than FEW take one pass, and little of the stack.
+const FEW: usize = 1024;
+
+const MANY: usize = 32768;
 
 // Of more than 2^16 entries a sixteenth is searched before all are: what stands twice often does so soon. As this function calls
 // itself, the compiler joins it with no caller, and those that it calls keep their blocks on a stack of their own.
@@ -27,13 +32,13 @@ fn search(data: &[u8], p: usize, n: usize) -> usize
         if soon < few {
             return soon;
         }
-        return many_passes(data, p, n);
+        return in_passes::<MANY>(data, p, n);
     }
     let found = sifted(data, p, n);
     if found.sure {
         return found.at;
     }
-    many_passes(data, p, n)
+    in_passes::<MANY>(data, p, n)
 }
 
 // The first of the n entries whose id steps stand at p that has the id of an earlier one; n where there is none.
@@ -48,8 +53,8 @@ pub fn first_twice(data: &[u8], p: usize, n: usize) -> usize
     if stays(data, p, k) {
         return k;
     }
-    if n < 1024 {
-        return few_passes(data, p, n);
+    if n < FEW {
+        return in_passes::<FEW>(data, p, n);
     }
     search(data, p, n)
 }

@@ -3,9 +3,10 @@ use Prim.Native.Nat.{ℕ, zero, suc, ◌+◌, ◌*◌, ◌/◌, ◌%◌, ◌^◌
 use mathlib.Core.Path.{◌≡◌, refl, sym, ap, ◌∙◌}
 use mathlib.Core.List.{List, [], ◌∷◌, ◌++◌}
 use native.Mathlib.Omega.{arith}
-use native.Mathlib.Nat.{add-zero, zero-add, add-suc, suc-add, mul_assoc, pow-succ', div-one, div-div-eq-div-mul}
+use native.Mathlib.Nat.{add-zero, add-suc, mul_comm, pow-succ', div-one, div-div-eq-div-mul}
 use lib.ListN.{length, get_or, take, drop, replicate, length-append}
 use lib.Seq.{get_or-drop, get_or-take, drop-append_seam, drop-cons}
+use Rattle.std.specs.Int.{bytes_low_first, from_le_bytes, w16, w32, w64}
 use Rattle.endian.specs.Little.{le, le_at, row}
 
 -- ---- a number read from a part
@@ -70,21 +71,17 @@ le-le_at (suc k) s p b h =
     let g : p < length s = omega arith in
     rw (drop-cons s p 0 g, e, f, t)
 
--- ---- a number by its halves
+-- ---- as the library has them
 
-pub le_at_halves : (j k : ℕ) (s : List ℕ) (at : ℕ) → le_at (j + k) s at ≡ le_at j s at + 256 ^ j * le_at k s (at + j)
-unfolding le_at
-le_at_halves zero k s at = rw (zero-add, add-zero) (omega arith)
-le_at_halves (suc j) k s at =
-    rw (suc-add, pow-succ', le_at_halves j k s (suc at), suc-add at j, add-suc at j, mul_assoc) (omega arith)
-
-pub le_halves : (j k v : ℕ) → le (j + k) v ≡ le j v ++ le k (v / 256 ^ j)
+bytes_le-from : (i k n : ℕ) → bytes_low_first i k n ≡ le k (n / 256 ^ i)
 unfolding le
-le_halves zero k v = rw (zero-add, div-one)
-le_halves (suc j) k v = rw (suc-add, pow-succ', le_halves j k (v / 256), div-div-eq-div-mul)
+bytes_le-from i zero n = refl
+bytes_le-from zero (suc k) n = rw (div-one, bytes_le-from 1 k n)
+bytes_le-from (suc i) (suc k) n = rw (bytes_le-from (suc (suc i)) k n, div-div-eq-div-mul, mul_comm (256 ^ suc i) 256, pow-succ' 256 (suc i)) refl
 
-pub le_at_join : (j k : ℕ) (s : List ℕ) (at : ℕ) {a b : ℕ} → a ≡ le_at j s at → b ≡ le_at k s (at + j) → a + 256 ^ j * b ≡ le_at (j + k) s at
-le_at_join j k s at p q = rw (p, q) (sym (le_at_halves j k s at))
+-- the bytes that `to_le_bytes` makes
+pub le_bytes : (k n : ℕ) → le k n ≡ bytes_low_first 0 k n
+le_bytes k n = sym (bytes_le-from 0 k n ∙ rw div-one)
 
 get_d_zeros : (s : List ℕ) (n i : ℕ) → get_or (s ++ replicate n 0) i 0 ≡ get_or s i 0
 get_d_zeros [] zero i = refl
@@ -98,3 +95,29 @@ pub le_at-zeros : (k : ℕ) (s : List ℕ) (n at : ℕ) → le_at k (s ++ replic
 unfolding le_at
 le_at-zeros zero s n at = refl
 le_at-zeros (suc k) s n at = rw (get_d_zeros s n at, le_at-zeros k s n (suc at))
+
+-- ---- what `from_le_bytes` makes of a part's bytes
+
+part_at : (k : ℕ) (s : List ℕ) (at : ℕ) → le_at k s at ≡ le_at k (take k (drop at s)) 0
+part_at k s at = rw (le_at-take k (drop at s) k 0 (omega arith), le_at-drop k s at 0, add-zero)
+
+number_2 : (b : List ℕ) → le_at 2 b 0 ≡ from_le_bytes w16 b
+unfolding le_at
+number_2 b = omega arith
+
+number_4 : (b : List ℕ) → le_at 4 b 0 ≡ from_le_bytes w32 b
+unfolding le_at
+number_4 b = omega arith
+
+number_8 : (b : List ℕ) → le_at 8 b 0 ≡ from_le_bytes w64 b
+unfolding le_at
+number_8 b = omega arith
+
+pub le_at_bytes_2 : (s : List ℕ) (at : ℕ) → le_at 2 s at ≡ from_le_bytes w16 (take 2 (drop at s))
+le_at_bytes_2 s at = part_at 2 s at ∙ number_2 (take 2 (drop at s))
+
+pub le_at_bytes_4 : (s : List ℕ) (at : ℕ) → le_at 4 s at ≡ from_le_bytes w32 (take 4 (drop at s))
+le_at_bytes_4 s at = part_at 4 s at ∙ number_4 (take 4 (drop at s))
+
+pub le_at_bytes_8 : (s : List ℕ) (at : ℕ) → le_at 8 s at ≡ from_le_bytes w64 (take 8 (drop at s))
+le_at_bytes_8 s at = part_at 8 s at ∙ number_8 (take 8 (drop at s))

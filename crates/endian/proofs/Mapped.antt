@@ -20,5 +20,6 @@ module _ {A : Type 0} (f : A → ℕ) (xs : List A) (i : ℕ) (d : List ℕ) {e 
       let p : map f (drop i xs) ≡ v ∷ map f (drop (i + 1) xs) = rw (l, w) in
       paste-cons i v (map f (drop (i + 1) xs)) d m ∙ ap (λ (y : List ℕ). paste i y d) (sym p) ∙ h
 
-  pub map_last : length xs ≤ i → d ≡ e
-  map_last l = sym (paste-nil i d) ∙ ap (λ (y : List A). paste i (map f y) d) (sym (drop_all xs i l)) ∙ h
+-- past the last element nothing is left to write
+pub map_past : {A : Type 0} (f : A → ℕ) (xs : List A) (i : ℕ) (d : List ℕ) → length xs ≤ i → paste i (map f (drop i xs)) d ≡ d
+map_past f xs i d l = rw (drop_all xs i l) (paste-nil i d)

@@ -1,5 +1,5 @@
--- Laws of `paste`: lengths, one write after another, writes apart, and what writers by halves leave.
-use Prim.Native.Nat.{ℕ, ◌+◌, ◌-◌, ◌/◌, ◌%◌, ◌^◌, ◌≤◌, ◌<◌}
+-- Laws of `paste`: lengths, one write after another, writes apart, a write to a part of a slice.
+use Prim.Native.Nat.{ℕ, ◌+◌, ◌-◌, ◌≤◌, ◌<◌}
 use mathlib.Core.Path.{◌≡◌, refl, sym, ap, ◌∙◌}
 use mathlib.Core.List.{List, [], ◌∷◌, ◌++◌, append_assoc}
 use native.Mathlib.Omega.{arith}
@@ -7,9 +7,8 @@ use native.Mathlib.Numerals.{add-one}
 use native.Mathlib.Nat.{zero-add, add-zero}
 use lib.ListN.{length, take, drop, set, length-append, length-take, length-drop, take-append-drop}
 use lib.Seq.{take-append-le, drop-append-le, length-take-le, take_at, drop-drop, set_split, drop-append-add, take-append-add, take-append_seam, drop-append_seam}
-use Rattle.endian.specs.Little.{le}
 use Rattle.endian.specs.Place.{Holds, paste}
-use Rattle.endian.proofs.Little.{length-le, le_halves}
+use borrow.Rule.Slice.PartMut.{put_mid}
 
 pub paste-nil : (at : ℕ) (d : List ℕ) → paste at [] d ≡ d
 unfolding paste
@@ -119,14 +118,11 @@ paste-cons at x xs d h =
     let e : set d at x ≡ paste at (x ∷ []) d = store at x d h in
     ap (paste (at + 1) xs) e ∙ paste-on at (x ∷ []) xs d (at + 1) (omega arith) (omega arith)
 
--- ---- a number by its halves, low half first
+-- ---- a write to a part, of len places from `at` on
 
-pub paste_byte : (v at : ℕ) (d : List ℕ) {b : ℕ} {e : List ℕ} → b ≡ v % 256 → e ≡ paste at (b ∷ []) d → e ≡ paste at (le 1 v) d
-unfolding le
-paste_byte v at d h f = f ∙ ap (λ (x : ℕ). paste at (x ∷ []) d) h
-
-pub paste_halves : (j k v at : ℕ) (d : List ℕ) {e f : List ℕ} → e ≡ paste at (le j v) d → f ≡ paste (at + j) (le k (v / 256 ^ j)) e → at + (j + k) ≤ length d
-    → f ≡ paste at (le (j + k) v) d
-paste_halves j k v at d u w h =
-    paste-then at (at + j) (le j v) (le k (v / 256 ^ j)) d u w (ap (◌+◌ at) (length-le j v)) (omega (arith, length-le j v))
-    ∙ ap (λ (x : List ℕ). paste at x d) (sym (le_halves j k v))
+pub part_pasted : (at len : ℕ) (xs d : List ℕ) {ys : List ℕ} → ys ≡ xs → length xs ≡ len → put_mid at (at + len - at) d ys ≡ paste at xs d
+unfolding paste
+part_pasted at len xs d e l =
+    let f : at + len - at ≡ len = omega arith in
+    let g : at + len ≡ at + length xs = omega arith in
+    rw (f, e, drop-drop len at d, g) refl

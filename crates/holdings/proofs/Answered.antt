@@ -21,8 +21,8 @@ use Rattle.holdings.specs.chunk_sums.Totals.{most_total, passes}
 use Rattle.holdings.specs.measures.Answers.{measured_in, after_verdict, measure_answer, pair_measure}
 use Rattle.holdings.proofs.measures.Answered.{measured-pick}
 use Rattle.holdings.specs.declared.one_shard.Sheet.{Sheet}
-use Rattle.holdings.specs.declared.SheetAnswer.{SheetAnswer}
-use Rattle.holdings.specs.declared.SheetAnswer.TheVariants.{Total, Refused}
+use Rattle.std.specs.Prelude.{Ok}
+use Rattle.refusal.specs.Answers.{Answer, refuse}
 use Rattle.holdings.specs.one_shard.Sheet.{rows, from_rows_of, reporting, has_row, sound_sheet, refused_sheet, shard_sheet}
 use Rattle.holdings.specs.totals.Totals.{added, any_passes, both, Totals}
 use Rattle.holdings.specs.Answers.{join_answer, sheet_of, add_answer, pair_sheet, pair_add_answer, measured_answer}
@@ -31,11 +31,11 @@ use Rattle.holdings.proofs.one_shard.Numbers.{Told, check-told, pair-told}
 -- ---- joining
 
 module _ (a b : Sheet) where
-  pub join_pick : join_answer a b ≡ pick (any_passes (rows (both a b))) (Refused 27) (Total (both a b))
+  pub join_pick : join_answer a b ≡ pick (any_passes (rows (both a b))) (refuse 27) (Ok (both a b))
   unfolding join_answer first_number
   join_pick = go (any_passes (rows (both a b)))
     where
-      go : (t : Bool) → unless Refused (pick t 27 0) (Total (both a b)) ≡ pick t (Refused 27) (Total (both a b))
+      go : (t : Bool) → unless refuse (pick t 27 0) (Ok (both a b)) ≡ pick t (refuse 27) (Ok (both a b))
       go true = unfold unless in refl
       go false = unfold unless in refl
 
@@ -51,17 +51,17 @@ module _ (a b : Sheet) {xs ys after : List ℕ} {t : Bool} (h : Totals xs ys aft
   same : added xs ys ≡ rows (both a b)
   same = rw (p, q) (sym (rows_both a b))
 
-  pub join_refused : t ≡ true → Refused 27 ≡ join_answer a b
+  pub join_refused : t ≡ true → refuse 27 ≡ join_answer a b
   join_refused e = rw (join_pick a b, ← same, ← h.test, e)
 
-  pub join_total : t ≡ false → {s : Sheet} → s ≡ from_rows_of after → Total s ≡ join_answer a b
+  pub join_total : t ≡ false → {s : Sheet} → s ≡ from_rows_of after → Ok s ≡ join_answer a b
   join_total e k = rw (join_pick a b, ← same, ← h.test, e, k, h.exact e, same, from-rows (both a b))
 
 pub ruleset joining = (join_refused, join_total, rules)
 
 -- ---- a shard, by its measure
 
-module _ (a : Sheet) {found : MeasureAnswer} {r : SheetAnswer} where
+module _ (a : Sheet) {found : MeasureAnswer} {r : Answer Sheet} where
   pub measured-sound : {k : Counts} {s : Sheet} → found ≡ M.Sound k → s ≡ sound_sheet k → r ≡ join_answer a s → r ≡ measured_answer a found
   unfolding measured_answer
   measured-sound e q p = rw e (p ∙ rw q)
@@ -74,7 +74,7 @@ module _ (a : Sheet) {found : MeasureAnswer} {r : SheetAnswer} where
   unfolding measured_answer
   measured-faulty e q p = rw e (p ∙ rw q)
 
-pub measured-past : (a : Sheet) {found : MeasureAnswer} {k : ℕ} → found ≡ M.Refused k → k ≡ 27 → Refused 27 ≡ measured_answer a found
+pub measured-past : (a : Sheet) {found : MeasureAnswer} {k : ℕ} → found ≡ M.Refused k → k ≡ 27 → refuse 27 ≡ measured_answer a found
 unfolding measured_answer
 measured-past a {found} {k} e q = rw (e, eq-eqb k 27 q)
 
@@ -108,7 +108,7 @@ module _ (s : Sheet) (spec : Sharding) (index d : List ℕ) where
   by_measure (C.Refused k) t = unfold measured_answer in rw (ne_eqb k 27 (no_row k t))
   by_measure (C.Faulty k m p) t = unfold measured_answer in refl
 
-module _ (s : Sheet) (spec : Sharding) (shard : ℕ) {found : MeasureAnswer} {r : SheetAnswer} where
+module _ (s : Sheet) (spec : Sharding) (shard : ℕ) {found : MeasureAnswer} {r : Answer Sheet} where
   pub add_is : (file : List ℕ) → found ≡ measure_answer spec shard file → r ≡ measured_answer s found → r ≡ add_answer s spec shard file
   unfolding measure_answer add_answer sheet_of
   add_is file e p = p ∙ rw e (by_measure s spec (index_part spec file) (data_part spec file) (check_answer spec shard file) (check-told spec shard file))

@@ -18,10 +18,8 @@ pub fn chunk_count(index: &[u8], n: u64) -> u64
     ensures { result ≡ sum_to (count_in index.now) n }
 {
     let mut sum: u64 = 0;
-    let mut m: u64 = 0;
-    while m < n {
+    for m in 0..n {
         sum += (entry_end(index, m) - entry_start(index, m)) / 24;
-        m += 1;
     }
     sum
 }
@@ -35,15 +33,14 @@ fn sizes_sum(data: &[u8], s: usize, n: usize) -> u64
 {
     let sizes = s + 16 * n;
     let mut sum: u64 = 0;
-    let mut i: usize = 0;
-    while i < n {
+    for i in 0..n {
         sum += read_u64(data, sizes + 8 * i);
-        i += 1;
     }
     sum
 }
 
 // Those of minishard m. An empty one may point past the data, and is not read.
+#[tactic(auto, using(crate::proofs::chunk_sums::Counting::one))]
 fn sizes_in(index: &[u8], data: &[u8], m: u64) -> u64
     requires { SizedIn index.now «data».now m }
     ensures { result ≡ sizes_in index.now «data».now m }
@@ -69,8 +66,7 @@ pub fn chunk_bytes(index: &[u8], data: &[u8], n: u64) -> Total
     ensures { result ≡ total_of (sum_to (sizes_in index.now «data».now) n) }
 {
     let mut sum: u64 = 0;
-    let mut m: u64 = 0;
-    while m < n {
+    for m in 0..n {
         let next = sizes_in(index, data, m);
         if u64::MAX - sum < next {
             return Total {
@@ -79,7 +75,6 @@ pub fn chunk_bytes(index: &[u8], data: &[u8], n: u64) -> Total
             };
         }
         sum += next;
-        m += 1;
     }
     Total { passed: false, sum }
 }

@@ -14,36 +14,36 @@ use crate::adding::add_measured;
 use crate::one_shard::{Sheet, from_rows, rows_of};
 use crate::totals::add_rows;
 pub use measures::{measure, measure_pair};
+use refusal::Refusal;
 use sharding::Sharding;
 
-// The new sheet, or 27.
-#[derive(Clone, Copy)]
-pub enum SheetAnswer {
-    Total(Sheet),
-    Refused(u8),
-}
-
 // Two sheets together, as those of the parts of a year's work.
-pub fn join(sheet: Sheet, other: Sheet) -> SheetAnswer
+pub fn join(sheet: Sheet, other: Sheet) -> Result<Sheet, Refusal>
     ensures answer { result ≡ join_answer sheet other }
 {
     let mut totals = rows_of(sheet);
     let others = rows_of(other);
     if add_rows(&mut totals, &others) {
-        return SheetAnswer::Refused(27);
+        return Err(Refusal::TotalTooLarge);
     }
-    SheetAnswer::Total(from_rows(totals))
+    Ok(from_rows(totals))
 }
 
 // A sheet with one shard more, sound or not.
-pub fn add(sheet: Sheet, spec: Sharding, shard: u64, file: &[u8]) -> SheetAnswer
+pub fn add(sheet: Sheet, spec: Sharding, shard: u64, file: &[u8]) -> Result<Sheet, Refusal>
     ensures answer { result ≡ add_answer sheet spec shard file.now }
 {
     add_measured(sheet, measure(spec, shard, file))
 }
 
 // A sheet with one pair more of the earlier edition.
-pub fn add_pair(sheet: Sheet, spec: Sharding, shard: u64, index: &[u8], data: &[u8]) -> SheetAnswer
+pub fn add_pair(
+    sheet: Sheet,
+    spec: Sharding,
+    shard: u64,
+    index: &[u8],
+    data: &[u8],
+) -> Result<Sheet, Refusal>
     ensures answer { result ≡ pair_add_answer sheet spec shard index.now «data».now }
 {
     add_measured(sheet, measure_pair(spec, shard, index, data))

@@ -29,6 +29,7 @@ pub struct Sheet {
 }
 
 // Its rows, in the order of the fields.
+#[tactic(auto, using(crate::proofs::one_shard::Rows::rowing))]
 pub fn rows_of(sheet: Sheet) -> [u64; 17]
     ensures { result ≡ rows sheet }
 {
@@ -54,6 +55,7 @@ pub fn rows_of(sheet: Sheet) -> [u64; 17]
 }
 
 // The sheet with these rows.
+#[tactic(auto, using(crate::proofs::one_shard::Rows::rowing))]
 pub fn from_rows(rows: [u64; 17]) -> Sheet
     ensures { result ≡ from_rows_of rows }
 {
@@ -85,16 +87,15 @@ pub fn empty() -> Sheet
 }
 
 // 1 in the row of the number, 0 in the others.
+#[tactic(auto, using(crate::proofs::one_shard::Rows::row))]
 fn one(row: u8, number: u8) -> u64
     ensures { result ≡ tally row number }
 {
-    if number == row {
-        return 1;
-    }
-    0
+    u64::from(number == row)
 }
 
 // The sheet of a sound shard.
+#[tactic(auto, using(crate::proofs::one_shard::Rows::sounding))]
 pub fn sound_sheet(counts: Counts) -> Sheet
     ensures { result ≡ sound_sheet counts }
 {
@@ -107,6 +108,7 @@ pub fn sound_sheet(counts: Counts) -> Sheet
 }
 
 // The sheet of a shard that the check refuses: none of its chunks is counted.
+#[tactic(auto, using(crate::proofs::one_shard::Rows::refusing))]
 pub fn refused_sheet(number: u8) -> Sheet
     ensures { result ≡ refused_sheet number }
 {

@@ -8,13 +8,11 @@ pub fn add_rows(totals: &mut [u64], rows: &[u64]) -> bool
     requires { length totals.old ≡ length rows.now }
     ensures { Totals totals.old rows.now totals.new result }
 {
-    let mut i: usize = 0;
-    while i < totals.len() {
-        if u64::MAX - totals[i] < rows[i] {
+    for (i, total) in totals.iter_mut().enumerate() {
+        if u64::MAX - *total < rows[i] {
             return true;
         }
-        totals[i] += rows[i];
-        i += 1;
+        *total += rows[i];
     }
     false
 }

@@ -1,148 +1,81 @@
 // The settings of one scale of an info file.
 
 ghost use Rattle.std.specs.Prelude.{◌≡◌};
-ghost use Rattle.info.specs.scale.Scale.{extents_of, extents_at, offset_of, offset_at_of, offset_by, formed, numbers_of, numbers_in, sharding_at, settings_at};
+ghost use Rattle.info.specs.scale.Scale.{extents_at, offset_at_of, offset_by, formed, numbers_in, sharding_at, settings_at};
 ghost use Rattle.info.specs.scale.Parts.{size_by, chunk_by, volume_by, typed_by, hash_by, number_by, sharding_by};
 
-use crate::numbers::Number;
-use crate::sharding_members::{HashIn, ShardingIn, hash_at, raw, sharding_of};
+use crate::sharding_members::{SettingsError, hash_at, raw, sharding_of};
 use card::Card;
-use json_text::members::{Given, Threes};
-use json_text::tokens::Found;
+use json_text::members::{Given, NotOnce};
 use morton::grid::{Extents, Offset, Volume};
-
-// Parts of the settings, if the text has them.
-#[derive(Clone, Copy)]
-pub enum ExtentsIn {
-    Are(Extents),
-    Wrong,
-}
-
-#[derive(Clone, Copy)]
-pub enum OffsetIn {
-    Is(Offset),
-    Wrong,
-}
-
-#[derive(Clone, Copy)]
-pub enum VolumeIn {
-    Is(Volume),
-    Wrong,
-}
-
-#[derive(Clone, Copy)]
-pub enum Settings {
-    Are(Card),
-    UnknownHash,
-    Wrong,
-}
-
-fn extents_of(p: Number, q: Number, r: Number) -> ExtentsIn
-    ensures { result ≡ extents_of p q r }
-{
-    let Number::Is(x) = p else {
-        return ExtentsIn::Wrong;
-    };
-    let Number::Is(y) = q else {
-        return ExtentsIn::Wrong;
-    };
-    let Number::Is(z) = r else {
-        return ExtentsIn::Wrong;
-    };
-    ExtentsIn::Are(Extents { x, y, z })
-}
+use sharding::Sharding;
 
 // The array of three numbers at p.
-fn extents_at(s: &[u8], p: usize) -> ExtentsIn
+#[tactic(auto, unfolding(crate::specs::scale::Scale::extents_at, crate::specs::scale::Scale::extents_of))]
+fn extents_at(s: &[u8], p: usize) -> Option<Extents>
     ensures { result ≡ extents_at s.now p }
 {
-    let Threes::Are(t) = json_text::members::just_three(s, p) else {
-        return ExtentsIn::Wrong;
-    };
-    let x = crate::numbers::natural(s, t.x);
-    let y = crate::numbers::natural(s, t.y);
-    let z = crate::numbers::natural(s, t.z);
-    extents_of(x, y, z)
+    let t = json_text::members::just_three(s, p)?;
+    let x = crate::numbers::natural(s, t.x)?;
+    let y = crate::numbers::natural(s, t.y)?;
+    let z = crate::numbers::natural(s, t.z)?;
+    Some(Extents { x, y, z })
 }
 
-fn offset_of(p: Number, q: Number, r: Number) -> OffsetIn
-    ensures { result ≡ offset_of p q r }
+// The array of three signed numbers at p. The walk is that of `extents_at`, but how a number is read, what it becomes and the struct
+// made of three all differ: one function for both would take each of them from its caller and be no plainer.
+#[tactic(auto, unfolding(crate::specs::scale::Scale::offset_at_of, crate::specs::scale::Scale::offset_of))]
+fn offset_at(s: &[u8], p: usize) -> Option<Offset>
+    ensures { result ≡ offset_at_of s.now p }
 {
-    let Number::Is(x) = p else {
-        return OffsetIn::Wrong;
-    };
-    let Number::Is(y) = q else {
-        return OffsetIn::Wrong;
-    };
-    let Number::Is(z) = r else {
-        return OffsetIn::Wrong;
-    };
-    OffsetIn::Is(Offset {
+    let t = json_text::members::just_three(s, p)?;
+    let x = crate::numbers::coordinate(s, t.x)?;
+    let y = crate::numbers::coordinate(s, t.y)?;
+    let z = crate::numbers::coordinate(s, t.z)?;
+    Some(Offset {
         x: card::fields::twos::signed(x),
         y: card::fields::twos::signed(y),
         z: card::fields::twos::signed(z),
     })
 }
 
-fn offset_at(s: &[u8], p: usize) -> OffsetIn
-    ensures { result ≡ offset_at_of s.now p }
-{
-    let Threes::Are(t) = json_text::members::just_three(s, p) else {
-        return OffsetIn::Wrong;
-    };
-    let x = crate::numbers::coordinate(s, t.x);
-    let y = crate::numbers::coordinate(s, t.y);
-    let z = crate::numbers::coordinate(s, t.z);
-    offset_of(x, y, z)
-}
-
 // The size, by the member found.
-fn size_by(s: &[u8], given: Given) -> ExtentsIn
+#[tactic(auto, unfolding(crate::specs::scale::Parts::size_by))]
+fn size_by(s: &[u8], given: Given) -> Option<Extents>
     ensures { result ≡ size_by s.now given }
 {
-    let Found::At(v) = json_text::members::once(given) else {
-        return ExtentsIn::Wrong;
-    };
-    extents_at(s, v)
+    extents_at(s, json_text::members::once(given)?)
 }
 
 // The one chunk size.
-fn chunk_by(s: &[u8], given: Given) -> ExtentsIn
+#[tactic(auto, unfolding(crate::specs::scale::Parts::chunk_by))]
+fn chunk_by(s: &[u8], given: Given) -> Option<Extents>
     ensures { result ≡ chunk_by s.now given }
 {
-    let Found::At(v) = json_text::members::once(given) else {
-        return ExtentsIn::Wrong;
-    };
-    let Found::At(e) = json_text::members::just_one(s, v) else {
-        return ExtentsIn::Wrong;
-    };
-    extents_at(s, e)
+    let sizes = json_text::members::once(given)?;
+    extents_at(s, json_text::members::just_one(s, sizes)?)
 }
 
 // The offset, 0,0,0 where there is none.
-fn offset_by(s: &[u8], given: Given) -> OffsetIn
+#[tactic(auto, unfolding(crate::specs::scale::Scale::offset_by))]
+fn offset_by(s: &[u8], given: Given) -> Option<Offset>
     ensures { result ≡ offset_by s.now given }
 {
     match given {
-        Given::Once(v) => offset_at(s, v),
-        Given::Never => OffsetIn::Is(Offset { x: 0, y: 0, z: 0 }),
-        Given::Twice => OffsetIn::Wrong,
+        Ok(v) => offset_at(s, v),
+        Err(NotOnce::Never) => Some(Offset { x: 0, y: 0, z: 0 }),
+        Err(NotOnce::Twice) => None,
     }
 }
 
-fn volume_by(s: &[u8], sizes: Given, chunks: Given, offsets: Given) -> VolumeIn
+#[tactic(auto, unfolding(crate::specs::scale::Parts::volume_by))]
+fn volume_by(s: &[u8], sizes: Given, chunks: Given, offsets: Given) -> Option<Volume>
     ensures { result ≡ volume_by s.now sizes chunks offsets }
 {
-    let ExtentsIn::Are(size) = size_by(s, sizes) else {
-        return VolumeIn::Wrong;
-    };
-    let ExtentsIn::Are(chunk) = chunk_by(s, chunks) else {
-        return VolumeIn::Wrong;
-    };
-    let OffsetIn::Is(offset) = offset_by(s, offsets) else {
-        return VolumeIn::Wrong;
-    };
-    VolumeIn::Is(Volume {
+    let size = size_by(s, sizes)?;
+    let chunk = chunk_by(s, chunks)?;
+    let offset = offset_by(s, offsets)?;
+    Some(Volume {
         size,
         chunk,
         offset,
@@ -150,16 +83,18 @@ fn volume_by(s: &[u8], sizes: Given, chunks: Given, offsets: Given) -> VolumeIn
 }
 
 // The type found is the one that the format names.
+#[tactic(auto, unfolding(crate::specs::scale::Parts::typed_by))]
 fn typed(s: &[u8], given: Given) -> bool
     ensures { result ≡ typed_by s.now given }
 {
-    let Found::At(v) = json_text::members::once(given) else {
+    let Some(v) = json_text::members::once(given) else {
         return false;
     };
     json_text::members::is_text(s, v, b"neuroglancer_uint64_sharded_v1")
 }
 
 // The sharding at p is of the type and in the encodings that are read. A walk tells of four names, one of which is not used.
+#[tactic(auto, unfolding(crate::specs::scale::Scale::formed, crate::specs::scale::Scale::typed, crate::specs::scale::Parts::typed_by, json_text::specs::members::Places::needed))]
 fn formed(s: &[u8], p: usize) -> bool
     ensures { result ≡ formed s.now p }
 {
@@ -177,41 +112,24 @@ fn formed(s: &[u8], p: usize) -> bool
     typed(s, named) & (raw(s, index) & raw(s, data))
 }
 
-fn hash_by(s: &[u8], given: Given) -> HashIn
+#[tactic(auto, unfolding(crate::specs::scale::Parts::hash_by))]
+fn hash_by(s: &[u8], given: Given) -> Result<u8, SettingsError>
     ensures { result ≡ hash_by s.now given }
 {
-    let Found::At(v) = json_text::members::once(given) else {
-        return HashIn::Wrong;
-    };
+    let v = json_text::members::once(given).ok_or(SettingsError::Wrong)?;
     hash_at(s, v)
 }
 
 // The number that the member found has.
-fn number_by(s: &[u8], given: Given) -> Number
+#[tactic(auto, unfolding(crate::specs::scale::Parts::number_by))]
+fn number_by(s: &[u8], given: Given) -> Option<u32>
     ensures { result ≡ number_by s.now given }
 {
-    let Found::At(v) = json_text::members::once(given) else {
-        return Number::Wrong;
-    };
-    crate::numbers::natural(s, v)
+    crate::numbers::natural(s, json_text::members::once(given)?)
 }
 
-fn numbers_of(p: Number, h: HashIn, r: Number, t: Number) -> ShardingIn
-    ensures { result ≡ numbers_of p h r t }
-{
-    let Number::Is(a) = p else {
-        return ShardingIn::Wrong;
-    };
-    let Number::Is(m) = r else {
-        return ShardingIn::Wrong;
-    };
-    let Number::Is(n) = t else {
-        return ShardingIn::Wrong;
-    };
-    sharding_of(a, h, m, n)
-}
-
-fn numbers_in(s: &[u8], p: usize) -> ShardingIn
+#[tactic(auto, unfolding(crate::specs::scale::Scale::numbers_in, crate::specs::scale::Scale::numbers_of, crate::specs::scale::Scale::number_in, crate::specs::scale::Scale::hash_in, crate::specs::scale::Parts::number_by, crate::specs::scale::Parts::hash_by, json_text::specs::members::Places::needed))]
+fn numbers_in(s: &[u8], p: usize) -> Result<Sharding, SettingsError>
     ensures { result ≡ numbers_in s.now p }
 {
     let found = json_text::members::four_members(
@@ -222,38 +140,33 @@ fn numbers_in(s: &[u8], p: usize) -> ShardingIn
         b"minishard_bits",
         b"shard_bits",
     );
-    let preshift = found.a;
-    let hash = found.b;
-    let minishard = found.c;
-    let shard = found.d;
-    numbers_of(
-        number_by(s, preshift),
-        hash_by(s, hash),
-        number_by(s, minishard),
-        number_by(s, shard),
-    )
+    let preshift = number_by(s, found.a).ok_or(SettingsError::Wrong)?;
+    let minishard = number_by(s, found.c).ok_or(SettingsError::Wrong)?;
+    let shard = number_by(s, found.d).ok_or(SettingsError::Wrong)?;
+    sharding_of(preshift, hash_by(s, found.b), minishard, shard)
 }
 
-fn sharding_at(s: &[u8], p: usize) -> ShardingIn
+#[tactic(auto, unfolding(crate::specs::scale::Scale::sharding_at))]
+fn sharding_at(s: &[u8], p: usize) -> Result<Sharding, SettingsError>
     ensures { result ≡ sharding_at s.now p }
 {
-    if formed(s, p) {
-        return numbers_in(s, p);
+    if !formed(s, p) {
+        return Err(SettingsError::Wrong);
     }
-    ShardingIn::Wrong
+    numbers_in(s, p)
 }
 
-fn sharding_by(s: &[u8], given: Given) -> ShardingIn
+#[tactic(auto, unfolding(crate::specs::scale::Parts::sharding_by))]
+fn sharding_by(s: &[u8], given: Given) -> Result<Sharding, SettingsError>
     ensures { result ≡ sharding_by s.now given }
 {
-    let Found::At(v) = json_text::members::once(given) else {
-        return ShardingIn::Wrong;
-    };
+    let v = json_text::members::once(given).ok_or(SettingsError::Wrong)?;
     sharding_at(s, v)
 }
 
 // The settings of the scale at p.
-pub fn settings_at(s: &[u8], p: usize) -> Settings
+#[tactic(auto, unfolding(crate::specs::scale::Scale::settings_at, crate::specs::scale::Scale::volume_in, crate::specs::scale::Scale::size_in, crate::specs::scale::Scale::chunk_in, crate::specs::scale::Scale::offset_in, crate::specs::scale::Scale::sharding_in, crate::specs::scale::Scale::settings_by, crate::specs::scale::Parts::volume_by, crate::specs::scale::Parts::size_by, crate::specs::scale::Parts::chunk_by, crate::specs::scale::Parts::sharding_by, json_text::specs::members::Places::needed))]
+pub fn settings_at(s: &[u8], p: usize) -> Result<Card, SettingsError>
     ensures { result ≡ settings_at s.now p }
 {
     let found = json_text::members::four_members(
@@ -264,16 +177,7 @@ pub fn settings_at(s: &[u8], p: usize) -> Settings
         b"voxel_offset",
         b"sharding",
     );
-    let size = found.a;
-    let chunk = found.b;
-    let offset = found.c;
-    let given = found.d;
-    let VolumeIn::Is(volume) = volume_by(s, size, chunk, offset) else {
-        return Settings::Wrong;
-    };
-    match sharding_by(s, given) {
-        ShardingIn::Is(sharding) => Settings::Are(Card { sharding, volume }),
-        ShardingIn::UnknownHash => Settings::UnknownHash,
-        ShardingIn::Wrong => Settings::Wrong,
-    }
+    let volume = volume_by(s, found.a, found.b, found.c).ok_or(SettingsError::Wrong)?;
+    let sharding = sharding_by(s, found.d)?;
+    Ok(Card { sharding, volume })
 }

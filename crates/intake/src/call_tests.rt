@@ -14,12 +14,14 @@ use sharding::placement::inner::shard_of;
 
 // ---- after the opening
 
+#[tactic(auto, using(crate::proofs::call_tests::Tested::asking))]
 pub fn is_other(state: Intake, output: usize, waiting: usize) -> bool
     ensures { result ≡ other_lengths state output waiting }
 {
     (state.output != output) | (state.waiting != waiting)
 }
 
+#[tactic(auto, using(crate::proofs::call_tests::Tested::asking))]
 pub fn is_unusable(state: Intake, waiting: &[u8]) -> bool
     requires { state.waiting ≡ length waiting.now }
     ensures { result ≡ unusable state waiting.now }
@@ -29,6 +31,7 @@ pub fn is_unusable(state: Intake, waiting: &[u8]) -> bool
 
 // ---- a call that ends the open minishard
 
+#[tactic(auto, using(crate::proofs::call_tests::Tested::asking))]
 pub fn is_forged(state: Intake, waiting: &[u8]) -> bool
     requires { (sane state waiting.now ≡ true) × (state.waiting ≡ length waiting.now) }
     ensures { result ≡ forged state waiting.now }
@@ -38,6 +41,7 @@ pub fn is_forged(state: Intake, waiting: &[u8]) -> bool
 
 // ---- an announcement
 
+#[tactic(auto, using(crate::proofs::call_tests::Tested::asking))]
 pub fn is_foreign(state: Intake, id: u64) -> bool
     ensures { result ≡ foreign state id }
 {
@@ -48,6 +52,7 @@ pub fn is_foreign(state: Intake, id: u64) -> bool
 }
 
 // Of an id of minishard m.
+#[tactic(auto, using(crate::proofs::call_tests::Tested::asking))]
 pub fn is_out_of_order(state: Intake, m: u64, id: u64) -> bool
     requires { m ≡ minishard_of state.spec id }
     ensures { result ≡ out_of_order state id }
@@ -56,6 +61,7 @@ pub fn is_out_of_order(state: Intake, m: u64, id: u64) -> bool
 }
 
 // Of an id of minishard m, which ends the open one where it is another.
+#[tactic(auto, using(crate::proofs::call_tests::Tested::asking))]
 pub fn is_forged_turn(state: Intake, m: u64, id: u64, waiting: &[u8]) -> bool
     requires m_value { m ≡ minishard_of state.spec id }
     requires waiting_value { (sane state waiting.now ≡ true) × (state.waiting ≡ length waiting.now) }
@@ -67,6 +73,7 @@ pub fn is_forged_turn(state: Intake, m: u64, id: u64, waiting: &[u8]) -> bool
     is_forged(state, waiting)
 }
 
+#[tactic(auto, using(crate::proofs::call_tests::Tested::asking))]
 fn count_in(state: Intake, m: u64) -> usize
     ensures { (result ≡ count_in state m) × (result ≤ state.count) }
 {
@@ -83,6 +90,7 @@ pub fn announced_length(state: Intake) -> usize
     index_length(state.spec) + (state.next + (state.owed + 24 * state.count))
 }
 
+#[tactic(auto, using(crate::proofs::call_tests::Tested::asking))]
 pub fn is_full(state: Intake, m: u64, id: u64, size: usize) -> bool
     requires m_value { m ≡ minishard_of state.spec id }
     requires spec_value { allowed state.spec ≡ true }

@@ -10,12 +10,10 @@ use sharding::Sharding;
 pub fn capped(n: u64) -> u8
     ensures { (result ≡ narrow n) × (result < 256) }
 {
-    if 255 < n {
-        return 255;
-    }
-    n as u8
+    n.min(255) as u8
 }
 
+#[tactic(auto, using(crate::proofs::numbers::Numbered::stating))]
 fn spec_of(numbers: &[u64; 15]) -> Sharding
     ensures { result ≡ spec_of numbers.now }
 {
@@ -29,6 +27,7 @@ fn spec_of(numbers: &[u64; 15]) -> Sharding
 }
 
 // The state that any 15 numbers are.
+#[tactic(auto, using(crate::proofs::numbers::Numbered::stating))]
 pub fn state_of(numbers: &[u64; 15]) -> Intake
     ensures { result ≡ state_of numbers.now }
 {

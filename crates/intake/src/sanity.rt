@@ -14,12 +14,10 @@ use sharding::placement::inner::place;
 pub fn most_bytes(output: usize) -> usize
     ensures { result ≡ most output }
 {
-    if output < MOST_SHARD_BYTES {
-        return output;
-    }
-    MOST_SHARD_BYTES
+    output.min(MOST_SHARD_BYTES)
 }
 
+#[tactic(auto, using(crate::proofs::sanity::States::testing))]
 pub fn is_not_volume(spec: Sharding) -> bool
     ensures { result ≡ not_volume spec }
 {
@@ -56,6 +54,7 @@ fn is_within(state: Intake) -> bool
     adds_up(limit, base, state.next, state.owed, state.count)
 }
 
+#[tactic(auto, using(crate::proofs::sanity::States::testing))]
 fn is_fresh(state: Intake) -> bool
     ensures { result ≡ fresh state }
 {
@@ -63,6 +62,7 @@ fn is_fresh(state: Intake) -> bool
         & ((state.last == 0) & ((state.begin == 0) & ((state.next == 0) & (state.owed == 0))))
 }
 
+#[tactic(auto, using(crate::proofs::sanity::States::testing))]
 fn does_belong(state: Intake, id: u64) -> bool
     requires { allowed state.spec ≡ true }
     ensures { result ≡ belongs state id }
@@ -71,6 +71,7 @@ fn does_belong(state: Intake, id: u64) -> bool
     (at.shard == state.shard) & (at.minishard == state.minishard)
 }
 
+#[tactic(auto, using(crate::proofs::sanity::States::testing))]
 fn is_placed(state: Intake) -> bool
     requires { (allowed state.spec ≡ true) × (0 < state.count) }
     ensures { result ≡ placed state }
@@ -78,6 +79,7 @@ fn is_placed(state: Intake) -> bool
     does_belong(state, state.last) & ((state.count - 1) as u64 <= state.last)
 }
 
+#[tactic(auto, using(crate::proofs::sanity::States::testing))]
 fn has_begun(state: Intake) -> bool
     ensures { result ≡ begun state }
 {
@@ -85,6 +87,7 @@ fn has_begun(state: Intake) -> bool
         & ((state.begin == 0) | ((0 < state.minishard) & (24 <= state.begin)))
 }
 
+#[tactic(auto, using(crate::proofs::sanity::States::testing))]
 fn is_going(state: Intake, waiting: &[u8]) -> bool
     requires spec_value { (allowed state.spec ≡ true) × ((0 < state.count) × (16 * state.count ≤ length waiting.now)) }
     requires owed_bound { state.next + state.owed < 18446744073709551616 }
@@ -100,6 +103,7 @@ fn is_going(state: Intake, waiting: &[u8]) -> bool
 }
 
 // Of a second buffer that has the state's length.
+#[tactic(auto, using(crate::proofs::sanity::States::testing))]
 pub fn is_sane(state: Intake, waiting: &[u8]) -> bool
     requires { state.waiting ≡ length waiting.now }
     ensures { result ≡ sane state waiting.now }
@@ -125,6 +129,7 @@ pub fn is_sane(state: Intake, waiting: &[u8]) -> bool
 // ---- all pairs that wait
 
 // Whether pair i could have been announced behind those before it.
+#[tactic(auto, using(crate::proofs::sanity::Sharing::sharing))]
 fn can_follow(state: Intake, waiting: &[u8], i: usize) -> bool
     requires { (allowed state.spec ≡ true) × (16 * i + 16 ≤ length waiting.now) }
     ensures { result ≡ follows state waiting.now i }
@@ -144,8 +149,7 @@ pub fn pairs_could_be(state: Intake, waiting: &[u8]) -> bool
     ensures { result ≡ announceable state waiting.now }
 {
     let mut left = state.next + state.owed - state.begin;
-    let mut i = 0;
-    while i < state.count {
+    for i in 0..state.count {
         if !can_follow(state, waiting, i) {
             return false;
         }
@@ -154,7 +158,6 @@ pub fn pairs_could_be(state: Intake, waiting: &[u8]) -> bool
             return false;
         }
         left -= size;
-        i += 1;
     }
     left == 0
 }

@@ -29,6 +29,7 @@ pub struct Intake {
 }
 
 // What came of the open minishard or is owed holds a last chunk of this size, and no more than an only one.
+#[tactic(auto, using(crate::proofs::state::Spanning::spanning))]
 fn holds_size(state: Intake, size: usize) -> bool
     requires { (state.begin ≤ state.next) × (state.next + state.owed < 18446744073709551616) }
     ensures { result ≡ spans state size }
@@ -38,6 +39,7 @@ fn holds_size(state: Intake, size: usize) -> bool
 }
 
 // The last pair is the last chunk's.
+#[tactic(auto, using(crate::proofs::state::Spanning::spanning))]
 pub fn holds_last(state: Intake, waiting: &[u8]) -> bool
     requires count_nonzero { (0 < state.count) × (16 * state.count ≤ length waiting.now) }
     requires begin_le_next { (state.begin ≤ state.next) × (state.next + state.owed < 18446744073709551616) }

@@ -46,6 +46,7 @@ pub fn last(state: Intake) -> Intake
 }
 
 // Ends the open minishard: its minishard index, and its entry in the shard index.
+#[tactic(auto, using(crate::proofs::steps::Stepped::ending))]
 pub fn end_minishard(state: Intake, out: &mut [u8], waiting: &[u8])
     requires { Usable state (length out.old) (length waiting.now) }
     ensures { out.new ≡ ended_left state out.old waiting.now }
@@ -65,6 +66,7 @@ pub fn end_minishard(state: Intake, out: &mut [u8], waiting: &[u8])
 }
 
 // The state for chunks of minishard m.
+#[tactic(auto, using(crate::proofs::steps::Stepped::ending))]
 fn turn(state: Intake, m: u64, out: &mut [u8], waiting: &[u8]) -> Intake
     requires { Usable state (length out.old) (length waiting.now) }
     ensures value { result ≡ turned state m }

@@ -11,8 +11,7 @@ use Rattle.refusal.proofs.Tests.{both}
 use Rattle.json_text.specs.tokens.Bytes.{same, inside, byte_at, is_ws, is_digit}
 use Rattle.json_text.specs.tokens.Parts.{ws, mark_at, close_at, word_at}
 use Rattle.json_text.specs.tokens.Numbers.{some_digits, int_at, unsigned_at, number_at}
-use Rattle.json_text.specs.declared.tokens.Found.{Found}
-use Rattle.json_text.specs.declared.tokens.Found.TheVariants.{At, Nothing}
+use Rattle.std.specs.Prelude.{Option, Some, None}
 use Rattle.json_text.proofs.tokens.Laws.{if_no, if-eq, if_ne, if-case, then_at, then-case, follow-case, nowhere, is_same, to_same, to-not-same, span-on, span_stop, in_text, ws-zero}
 use Rattle.json_text.proofs.tokens.Numerals.{numeral_sound, numeral_complete}
 use Rattle.json_text.proofs.strings.Characters.{string-sound, string_complete, string-first}
@@ -21,7 +20,7 @@ use Rattle.json_text.specs.Rfc.{Ws, Items, Listed, Member, ValueOf, Value, JsonT
 use Rattle.json_text.proofs.Ahead.{Ahead, value_ahead, member_ahead, mark_ahead}
 use Rattle.json_text.proofs.Turns.{items_last, items_on}
 
-at_same : (P : ℕ → Type 0) (a b : ℕ) → At a ≡ At b → P a → P b
+at_same : (P : ℕ → Type 0) (a b : ℕ) → Some a ≡ Some b → P a → P b
 at_same P a b q p = let z : a ≡ b = cc in rw z at p
 
 -- ---- white space
@@ -47,13 +46,13 @@ ws-max s i k e (Ws.one t r) = span-on is_ws s i ws-zero t ∙ ws-max s (i + 1) k
 
 -- ---- sound
 
-mark_sound : (C : Type 0) (mark : ℕ) (s : List ℕ) (i e : ℕ) → mark_at mark s i ≡ At e → (byte_at s (ws s i) ≡ mark → Ws s (ws s i + 1) e → C) → C
+mark_sound : (C : Type 0) (mark : ℕ) (s : List ℕ) (i e : ℕ) → mark_at mark s i ≡ Some e → (byte_at s (ws s i) ≡ mark → Ws s (ws s i + 1) e → C) → C
 unfolding mark_at
 mark_sound C mark s i e q f =
     if-case _ _ _ _ _ q (λ t p. f (is_same _ _ t) (at_same (Ws s (ws s i + 1)) (ws s (ws s i + 1)) e p (ws-all s (ws s i + 1)))) (λ t p. nowhere C e p)
 
-module _ (s : List ℕ) (item : ℕ → Found) (Item : ℕ → ℕ → Type 0) (sound : (i e : ℕ) → item i ≡ At e → Item i e) where
-  items_sound : (close n i e : ℕ) → items_at item close s n i ≡ At e → Items s Item close i e
+module _ (s : List ℕ) (item : ℕ → Option ℕ) (Item : ℕ → ℕ → Type 0) (sound : (i e : ℕ) → item i ≡ Some e → Item i e) where
+  items_sound : (close n i e : ℕ) → items_at item close s n i ≡ Some e → Items s Item close i e
   unfolding items_at close_at
   items_sound close zero i e q = nowhere _ e q
   items_sound close (suc n) i e q =
@@ -63,24 +62,24 @@ module _ (s : List ℕ) (item : ℕ → Found) (Item : ℕ → ℕ → Type 0) (
       (λ b x. at_same (Items s Item close i) (ws s j + 1) e x (Items.last (sound i j p) (ws-all s j) (is_same _ _ b)))
       (λ b x. nowhere _ e x)))
 
-  list-sound : (close i e : ℕ) → list_at item close s i ≡ At e → Listed s Item close i e
+  list-sound : (close i e : ℕ) → list_at item close s i ≡ Some e → Listed s Item close i e
   unfolding list_at
   list-sound close i e q =
       if-case _ _ _ _ _ q
       (λ t u. at_same (Listed s Item close i) (ws s i + 1) e u (Listed.empty (ws-all s i) (is_same _ _ t)))
       (λ t u. Listed.some (ws-all s i) (items_sound close (length s) (ws s i) e u))
 
-  member-sound : (i e : ℕ) → member_at item s i ≡ At e → Member s Item i e
+  member-sound : (i e : ℕ) → member_at item s i ≡ Some e → Member s Item i e
   unfolding member_at
   member-sound i e q =
       then-case _ _ _ e q (λ j p w. then-case _ _ _ e w
       (λ m t u. mark_sound _ 0x3A s j m t (λ b x. Member.member (string-sound s i j p) (ws-all s j) b x (sound m e u))))
 
-pub value-sound : (d : ℕ) (s : List ℕ) (i e : ℕ) → value_at d s i ≡ At e → Value s d i e
+pub value-sound : (d : ℕ) (s : List ℕ) (i e : ℕ) → value_at d s i ≡ Some e → Value s d i e
 unfolding value_at scalar_at
 value-sound zero s i e q = nowhere _ e q
 value-sound (suc d) s i e q =
-    let inner : (j k : ℕ) → value_at d s j ≡ At k → Value s d j k = value-sound d s in
+    let inner : (j k : ℕ) → value_at d s j ≡ Some k → Value s d j k = value-sound d s in
     if-case _ _ _ _ _ q
     (λ t p. ValueOf.object (is_same _ _ t) (list-sound s (member_at (value_at d s) s) (Member s (Value s d)) (member-sound s (value_at d s) (Value s d) inner) 0x7D (i + 1) e p))
     (λ t p. if-case _ _ _ _ _ p
@@ -93,11 +92,11 @@ value-sound (suc d) s i e q =
 
 -- ---- the first byte of a value: no white space, and it closes nothing
 
-pub word_first : (s : List ℕ) (i a b c d e : ℕ) → word_at s i a b c d ≡ At e → byte_at s i ≡ a
+pub word_first : (s : List ℕ) (i a b c d e : ℕ) → word_at s i a b c d ≡ Some e → byte_at s i ≡ a
 unfolding word_at
 word_first s i a b c d e q = if-case _ _ _ _ _ q (λ t p. is_same _ _ (both (same (byte_at s i) a) _ t).0) (λ t p. nowhere _ e p)
 
-pub number-first : (s : List ℕ) (i e : ℕ) → number_at s i ≡ At e → (0x2C < byte_at s i) × (byte_at s i < 0x3A)
+pub number-first : (s : List ℕ) (i e : ℕ) → number_at s i ≡ Some e → (0x2C < byte_at s i) × (byte_at s i < 0x3A)
 unfolding number_at unsigned_at int_at some_digits is_digit inside
 number-first s i e q =
     if-case _ _ _ _ _ q (λ t p. omega (arith, is_same _ _ t))
@@ -148,19 +147,19 @@ member-opens s B i e (Member.member {j = j} t w b x v) = opens_at _ 0x22 (string
 -- ---- complete
 
 -- a mark that is no white space, up to what opens something
-pub mark_complete : (mark : ℕ) (s : List ℕ) (i k m : ℕ) → is_ws mark ≡ false → Ws s i k → byte_at s k ≡ mark → Ws s (k + 1) m → opens (byte_at s m) ≡ true → mark_at mark s i ≡ At m
+pub mark_complete : (mark : ℕ) (s : List ℕ) (i k m : ℕ) → is_ws mark ≡ false → Ws s i k → byte_at s k ≡ mark → Ws s (k + 1) m → opens (byte_at s m) ≡ true → mark_at mark s i ≡ Some m
 unfolding mark_at
 mark_complete mark s i k m z w b x o =
     let p : ws s i ≡ k = ws-max s i k (no-ws _ _ b z) w in
-    rw p (if-eq _ _ _ _ b ∙ ap At (ws-max s (k + 1) m (opens-ws _ o) x))
+    rw p (if-eq _ _ _ _ b ∙ ap Some (ws-max s (k + 1) m (opens-ws _ o) x))
 
-pub mark_other : (mark : ℕ) (s : List ℕ) (i k close : ℕ) → is_ws close ≡ false → (close ≡ mark → ⊥) → Ws s i k → byte_at s k ≡ close → mark_at mark s i ≡ Nothing
+pub mark_other : (mark : ℕ) (s : List ℕ) (i k close : ℕ) → is_ws close ≡ false → (close ≡ mark → ⊥) → Ws s i k → byte_at s k ≡ close → mark_at mark s i ≡ None
 unfolding mark_at
 mark_other mark s i k close z n w b =
     let p : ws s i ≡ k = ws-max s i k (no-ws _ _ b z) w in
     rw p (if_ne _ _ _ _ (λ q. n (sym b ∙ q)))
 
-close_complete : (close : ℕ) (s : List ℕ) (i k : ℕ) → is_ws close ≡ false → Ws s i k → byte_at s k ≡ close → close_at close s i ≡ At (k + 1)
+close_complete : (close : ℕ) (s : List ℕ) (i k : ℕ) → is_ws close ≡ false → Ws s i k → byte_at s k ≡ close → close_at close s i ≡ Some (k + 1)
 unfolding close_at
 close_complete close s i k z w b =
     let p : ws s i ≡ k = ws-max s i k (no-ws _ _ b z) w in
@@ -189,14 +188,14 @@ pub colon_solid : is_ws 0x3A ≡ false
 unfolding is_ws same
 colon_solid = refl
 
-module _ (s : List ℕ) (item : ℕ → Found) (Item : ℕ → ℕ → Type 0)
-    (complete : (i e : ℕ) → Item i e → item i ≡ At e) (first : (i e : ℕ) → Item i e → opens (byte_at s i) ≡ true)
+module _ (s : List ℕ) (item : ℕ → Option ℕ) (Item : ℕ → ℕ → Type 0)
+    (complete : (i e : ℕ) → Item i e → item i ≡ Some e) (first : (i e : ℕ) → Item i e → opens (byte_at s i) ≡ true)
     (ahead : (i : ℕ) → Ahead (i + 1) (item i)) (close : ℕ) (cl : Closes close) where
   pub items_first : (i e : ℕ) → Items s Item close i e → opens (byte_at s i) ≡ true
   items_first i e (Items.last {j = j} v w b) = first i j v
   items_first i e (Items.next {j = j} v w b x r) = first i j v
 
-  items_complete : (n i e : ℕ) → length s ≤ n + i → Items s Item close i e → items_at item close s n i ≡ At e
+  items_complete : (n i e : ℕ) → length s ≤ n + i → Items s Item close i e → items_at item close s n i ≡ Some e
   items_complete n i e h (Items.last {j = j} {k = k} v w b) =
       items_last item close s ahead n i j h cl.there (complete i j v) (mark_other 0x2C s j k close cl.solid cl.apart w b) ∙ close_complete close s j k cl.solid w b
   items_complete n i e h (Items.next {j = j} {k = k} {m = m} v w b x r) =
@@ -205,7 +204,7 @@ module _ (s : List ℕ) (item : ℕ → Found) (Item : ℕ → ℕ → Type 0)
       let y = items_on item close s ahead n i j m (items_at item close s n i) h refl a t (omega (arith, ahead i j a, mark_ahead 0x2C s j m t)) in
       y.2 ∙ items_complete y.0 m e y.1 r
 
-  list_complete : (i e : ℕ) → Listed s Item close i e → list_at item close s i ≡ At e
+  list_complete : (i e : ℕ) → Listed s Item close i e → list_at item close s i ≡ Some e
   unfolding list_at
   list_complete i e (Listed.empty {k = k} w b) =
       let p : ws s i ≡ k = ws-max s i k (no-ws _ _ b cl.solid) w in
@@ -215,8 +214,8 @@ module _ (s : List ℕ) (item : ℕ → Found) (Item : ℕ → ℕ → Type 0)
       let p : ws s i ≡ k = ws-max s i k (opens-ws _ o) w in
       rw p (if_ne _ _ _ _ (opens_not (byte_at s k) close cl.shut o) ∙ items_complete (length s) k e (omega arith) r)
 
-member_complete : (s : List ℕ) (item : ℕ → Found) (Item : ℕ → ℕ → Type 0) (complete : (i e : ℕ) → Item i e → item i ≡ At e)
-    (first : (i e : ℕ) → Item i e → opens (byte_at s i) ≡ true) → (i e : ℕ) → Member s Item i e → member_at item s i ≡ At e
+member_complete : (s : List ℕ) (item : ℕ → Option ℕ) (Item : ℕ → ℕ → Type 0) (complete : (i e : ℕ) → Item i e → item i ≡ Some e)
+    (first : (i e : ℕ) → Item i e → opens (byte_at s i) ≡ true) → (i e : ℕ) → Member s Item i e → member_at item s i ≡ Some e
 unfolding member_at
 member_complete s item Item complete first i e (Member.member {j = j} {k = k} {m = m} t w b x v) =
     then_at _ _ j (string_complete s i j t) ∙ then_at _ _ m (mark_complete 0x3A s j k m colon_solid w b x (first m e v)) ∙ complete m e v
@@ -227,7 +226,7 @@ other b c x q t = to-not-same b x (λ r. T_not (eqb c x) t (eq_T (sym q ∙ r)))
     eq_T : c ≡ x → T (eqb c x)
     eq_T p = rw (← p) (eqb_refl c)
 
-pub value_complete : (d : ℕ) (s : List ℕ) (i e : ℕ) → Value s d i e → value_at d s i ≡ At e
+pub value_complete : (d : ℕ) (s : List ℕ) (i e : ℕ) → Value s d i e → value_at d s i ≡ Some e
 unfolding value_at scalar_at
 value_complete zero s i e v = absurd v
 value_complete (suc d) s i e (ValueOf.object b r) =
@@ -252,15 +251,15 @@ value_complete (suc d) s i e (ValueOf.is_number t) =
     let b = number-first s i e n in
     if_ne (byte_at s i) 0x7B _ _ (omega arith) ∙ if_ne (byte_at s i) 0x5B _ _ (omega arith) ∙ if_ne (byte_at s i) 0x22 _ _ (omega arith) ∙ if_ne (byte_at s i) 0x74 _ _ (omega arith) ∙ if_ne (byte_at s i) 0x6E _ _ (omega arith) ∙ if_ne (byte_at s i) 0x66 _ _ (omega arith) ∙ n
 
-pub member-found : (d : ℕ) (s : List ℕ) (i e : ℕ) → Member s (Value s d) i e → member_at (value_at d s) s i ≡ At e
+pub member-found : (d : ℕ) (s : List ℕ) (i e : ℕ) → Member s (Value s d) i e → member_at (value_at d s) s i ≡ Some e
 member-found d s = member_complete s (value_at d s) (Value s d) (value_complete d s) (value-opens d s)
 
 -- ---- a whole text: `is_json` is true just where the rules derive a JSON text
 
-ends-case : (C : Type 0) (s : List ℕ) (r : Found) → ends_at s r ≡ true → ((e : ℕ) → r ≡ At e → ws s e ≡ length s → C) → C
+ends-case : (C : Type 0) (s : List ℕ) (r : Option ℕ) → ends_at s r ≡ true → ((e : ℕ) → r ≡ Some e → ws s e ≡ length s → C) → C
 unfolding ends_at
-ends-case C s (At e) q f = f e refl (is_same _ _ q)
-ends-case C s Nothing q f = absurd (true≢false (sym q))
+ends-case C s (Some e) q f = f e refl (is_same _ _ q)
+ends-case C s None q f = absurd (true≢false (sym q))
 
 pub json_sound : (d : ℕ) (s : List ℕ) → is_json d s ≡ true → JsonText d s
 unfolding is_json

@@ -8,40 +8,39 @@ use lib.ListN.{length, get_or}
 use Rattle.json_text.specs.tokens.Bytes.{choose, is_digit, is_ws}
 use Rattle.json_text.specs.tokens.Parts.{and_then, follow, ws, digits, mark_at, close_at, word_at}
 use Rattle.json_text.specs.tokens.Numbers.{is_sign, some_digits, int_at, frac_at, sign_at, exp_at, unsigned_at, number_at}
-use Rattle.json_text.specs.declared.tokens.Found.{Found}
-use Rattle.json_text.specs.declared.tokens.Found.TheVariants.{At, Nothing}
+use Rattle.std.specs.Prelude.{Option, Some, None}
 use Rattle.json_text.proofs.tokens.Laws.{le-span, span-on, digit_zero}
 use Rattle.json_text.specs.characters.Chars.{char_len}
 use Rattle.json_text.specs.strings.Chars.{chars_at, string_at}
 use Rattle.json_text.specs.Grammar.{scalar_at, items_at, list_at, member_at, value_at}
 
--- if r is `At e`, e is at least k
-abbrev pub Ahead : ℕ → Found → Type 0
-Ahead k r = (e : ℕ) → r ≡ At e → k ≤ e
+-- if r is `Some e`, e is at least k
+abbrev pub Ahead : ℕ → Option ℕ → Type 0
+Ahead k r = (e : ℕ) → r ≡ Some e → k ≤ e
 
-bad : (k : ℕ) → Ahead k Nothing
+bad : (k : ℕ) → Ahead k None
 bad k e p = let z : ◌≡◌ {A = ℕ} 0 1 = cc in omega arith
 
-after : (k n : ℕ) → k ≤ n → Ahead k (At n)
+after : (k n : ℕ) → k ≤ n → Ahead k (Some n)
 after k n h e p = let q : n ≡ e = cc in omega arith
 
-if_ahead : (k : ℕ) (t : Bool) (a b : Found) → (t ≡ true → Ahead k a) → (t ≡ false → Ahead k b) → Ahead k (choose t a b)
+if_ahead : (k : ℕ) (t : Bool) (a b : Option ℕ) → (t ≡ true → Ahead k a) → (t ≡ false → Ahead k b) → Ahead k (choose t a b)
 unfolding choose
 if_ahead k true a b p q = p refl
 if_ahead k false a b p q = q refl
 
 -- a first part that ends at m or later, and a second part that ends at k or later wherever the first ends
-then_ahead : (k m : ℕ) (r : Found) (f : ℕ → Found) → Ahead m r → ((n : ℕ) → m ≤ n → Ahead k (f n)) → Ahead k (and_then r f)
+then_ahead : (k m : ℕ) (r : Option ℕ) (f : ℕ → Option ℕ) → Ahead m r → ((n : ℕ) → m ≤ n → Ahead k (f n)) → Ahead k (and_then r f)
 unfolding and_then
-then_ahead k m (At n) f p q = q n (p n refl)
-then_ahead k m Nothing f p q = bad k
+then_ahead k m (Some n) f p q = q n (p n refl)
+then_ahead k m None f p q = bad k
 
-follow_ahead : (k m : ℕ) (r : Found) (f : ℕ → Found) (o : Found) → Ahead m r → ((n : ℕ) → m ≤ n → Ahead k (f n)) → Ahead k o → Ahead k (follow r f o)
+follow_ahead : (k m : ℕ) (r : Option ℕ) (f : ℕ → Option ℕ) (o : Option ℕ) → Ahead m r → ((n : ℕ) → m ≤ n → Ahead k (f n)) → Ahead k o → Ahead k (follow r f o)
 unfolding follow
-follow_ahead k m (At n) f o p q h = q n (p n refl)
-follow_ahead k m Nothing f o p q h = h
+follow_ahead k m (Some n) f o p q h = q n (p n refl)
+follow_ahead k m None f o p q h = h
 
-less : (k m : ℕ) (r : Found) → k ≤ m → Ahead m r → Ahead k r
+less : (k m : ℕ) (r : Option ℕ) → k ≤ m → Ahead m r → Ahead k r
 less k m r h p e q = let z : m ≤ e = p e q in omega arith
 
 some_ahead : (s : List ℕ) (i : ℕ) → Ahead (i + 1) (some_digits s i)
@@ -105,20 +104,20 @@ close_ahead : (mark : ℕ) (s : List ℕ) (i : ℕ) → Ahead (i + 1) (close_at 
 unfolding close_at
 close_ahead mark s i = if_ahead (i + 1) _ _ _ (λ t. after (i + 1) (ws s i + 1) (omega (arith, le-span is_ws s i))) (λ t. bad (i + 1))
 
-items_ahead : (item : ℕ → Found) (close : ℕ) (s : List ℕ) → ((i : ℕ) → Ahead (i + 1) (item i)) → (n i : ℕ) → Ahead i (items_at item close s n i)
+items_ahead : (item : ℕ → Option ℕ) (close : ℕ) (s : List ℕ) → ((i : ℕ) → Ahead (i + 1) (item i)) → (n i : ℕ) → Ahead i (items_at item close s n i)
 unfolding items_at
 items_ahead item close s h zero i = bad i
 items_ahead item close s h (suc n) i =
     then_ahead i (i + 1) _ _ (h i) (λ e p.
     follow_ahead i (e + 1) _ _ _ (mark_ahead 0x2C s e) (λ j q. less i j _ (omega arith) (items_ahead item close s h n j)) (less i (e + 1) _ (omega arith) (close_ahead close s e)))
 
-list_ahead : (item : ℕ → Found) (close : ℕ) (s : List ℕ) → ((i : ℕ) → Ahead (i + 1) (item i)) → (i : ℕ) → Ahead i (list_at item close s i)
+list_ahead : (item : ℕ → Option ℕ) (close : ℕ) (s : List ℕ) → ((i : ℕ) → Ahead (i + 1) (item i)) → (i : ℕ) → Ahead i (list_at item close s i)
 unfolding list_at
 list_ahead item close s h i =
     if_ahead i _ _ _ (λ t. after i (ws s i + 1) (omega (arith, le-span is_ws s i)))
     (λ t. less i (ws s i) _ (le-span is_ws s i) (items_ahead item close s h (length s) (ws s i)))
 
-pub member_ahead : (value : ℕ → Found) (s : List ℕ) → ((i : ℕ) → Ahead (i + 1) (value i)) → (i : ℕ) → Ahead (i + 1) (member_at value s i)
+pub member_ahead : (value : ℕ → Option ℕ) (s : List ℕ) → ((i : ℕ) → Ahead (i + 1) (value i)) → (i : ℕ) → Ahead (i + 1) (member_at value s i)
 unfolding member_at
 member_ahead value s h i =
     then_ahead (i + 1) (i + 1) _ _ (string_ahead s i) (λ e p.

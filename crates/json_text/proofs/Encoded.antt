@@ -9,14 +9,14 @@ use Rattle.refusal.proofs.Tests.{both}
 use Rattle.json_text.specs.tokens.Bytes.{choose, same, is_ws, is_digit, byte_at}
 use Rattle.json_text.specs.tokens.Parts.{digits, word_at}
 use Rattle.json_text.specs.tokens.Numbers.{is_sign, is_e, some_digits, int_at, frac_at, sign_at, exp_at, unsigned_at, number_at}
-use Rattle.json_text.specs.declared.tokens.Found.TheVariants.{At}
+use Rattle.std.specs.Prelude.{Some}
 use Rattle.json_text.proofs.tokens.Laws.{if-case, then-case, nowhere, in_text, span-on, span_stop, digit_zero}
 use Rattle.json_text.proofs.tokens.Numerals.{numeral_complete}
 use Rattle.json_text.specs.characters.Chars.{Utf8}
 use Rattle.json_text.proofs.strings.Encoded.{encoded_both, encoded_low, encoded_step, or_case, same_low, inside-low, string_encoded}
 use Rattle.json_text.specs.Rfc.{Ws, Items, Listed, Member, ValueOf, Value, JsonText}
 
-at_encoded : (s : List ℕ) (i a e : ℕ) → At a ≡ At e → Utf8 s i a → Utf8 s i e
+at_encoded : (s : List ℕ) (i a e : ℕ) → Some a ≡ Some e → Utf8 s i a → Utf8 s i e
 at_encoded s i a e q r = let z : a ≡ e = cc in rw z at r
 
 ws-low : (b : ℕ) → is_ws b ≡ true → b < 128
@@ -48,16 +48,16 @@ digits_from s zero i h = digits-turn s i (λ t. absurd (omega (arith, in_text is
 digits_from s (suc n) i h = digits-turn s i (λ t. digits_from s n (i + 1) (omega arith))
 
 module _ (s : List ℕ) where
-  some_encoded : (i e : ℕ) → some_digits s i ≡ At e → Utf8 s i e
+  some_encoded : (i e : ℕ) → some_digits s i ≡ Some e → Utf8 s i e
   unfolding some_digits
   some_encoded i e q = if-case _ _ _ _ _ q (λ t p. at_encoded s i (digits s i) e p (digits_from s (length s) i (omega arith))) (λ t p. nowhere _ e p)
 
-  int_encoded : (i e : ℕ) → int_at s i ≡ At e → Utf8 s i e
+  int_encoded : (i e : ℕ) → int_at s i ≡ Some e → Utf8 s i e
   unfolding int_at
   int_encoded i e q =
       if-case _ _ _ _ _ q (λ t p. at_encoded s i (i + 1) e p (encoded_low s i (i + 1) (same_low _ _ t (omega arith)) Utf8.done)) (λ t p. some_encoded i e p)
 
-  frac_encoded : (i e : ℕ) → frac_at s i ≡ At e → Utf8 s i e
+  frac_encoded : (i e : ℕ) → frac_at s i ≡ Some e → Utf8 s i e
   unfolding frac_at
   frac_encoded i e q =
       if-case _ _ _ _ _ q (λ t p. encoded_low s i e (same_low _ _ t (omega arith)) (some_encoded (i + 1) e p)) (λ t p. at_encoded s i i e p Utf8.done)
@@ -70,24 +70,24 @@ module _ (s : List ℕ) where
       go true t r = encoded_low s i e (or_case _ _ _ t (λ u. same_low (byte_at s i) 0x2D u (omega arith)) (λ u. same_low (byte_at s i) 0x2B u (omega arith))) r
       go false t r = r
 
-  exp_encoded : (i e : ℕ) → exp_at s i ≡ At e → Utf8 s i e
+  exp_encoded : (i e : ℕ) → exp_at s i ≡ Some e → Utf8 s i e
   unfolding exp_at is_e
   exp_encoded i e q =
       if-case _ _ _ _ _ q
       (λ t p. encoded_low s i e (or_case _ _ _ t (λ u. same_low (byte_at s i) 0x65 u (omega arith)) (λ u. same_low (byte_at s i) 0x45 u (omega arith))) (sign_encoded (i + 1) e (some_encoded (sign_at s (i + 1)) e p)))
       (λ t p. at_encoded s i i e p Utf8.done)
 
-  unsigned_encoded : (i e : ℕ) → unsigned_at s i ≡ At e → Utf8 s i e
+  unsigned_encoded : (i e : ℕ) → unsigned_at s i ≡ Some e → Utf8 s i e
   unfolding unsigned_at
   unsigned_encoded i e q =
       then-case _ _ _ e q (λ j p w. then-case _ _ _ e w (λ k u x. encoded_both s i j e (int_encoded i j p) (encoded_both s j k e (frac_encoded j k u) (exp_encoded k e x))))
 
-  number_encoded : (i e : ℕ) → number_at s i ≡ At e → Utf8 s i e
+  number_encoded : (i e : ℕ) → number_at s i ≡ Some e → Utf8 s i e
   unfolding number_at
   number_encoded i e q =
       if-case _ _ _ _ _ q (λ t p. encoded_low s i e (same_low _ _ t (omega arith)) (unsigned_encoded (i + 1) e p)) (λ t p. unsigned_encoded i e p)
 
-  word_encoded : (i a b c d e : ℕ) → a < 128 → b < 128 → c < 128 → d < 128 → word_at s i a b c d ≡ At e → Utf8 s i e
+  word_encoded : (i a b c d e : ℕ) → a < 128 → b < 128 → c < 128 → d < 128 → word_at s i a b c d ≡ Some e → Utf8 s i e
   unfolding word_at
   word_encoded i a b c d e ha hb hc hd q =
       if-case _ _ _ _ _ q

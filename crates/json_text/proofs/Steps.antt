@@ -6,13 +6,11 @@ use native.Mathlib.Omega.{arith}
 use native.Mathlib.Numerals.{sub-one}
 use lib.ListN.{length, get_or}
 use Rattle.json_text.specs.tokens.Bytes.{choose, same}
-use Rattle.json_text.specs.tokens.Parts.{follow, ws, mark_at, close_at, word_at}
-use Rattle.json_text.specs.tokens.Numbers.{number_at}
-use Rattle.json_text.specs.declared.tokens.Found.{Found}
-use Rattle.json_text.specs.declared.tokens.Found.TheVariants.{At, Nothing}
-use Rattle.json_text.proofs.tokens.Laws.{if-eq, if_ne, then_at, then_nothing, follow-at, follow_nothing, at_byte}
-use Rattle.json_text.specs.declared.Next.{Next}
-use Rattle.json_text.specs.declared.Next.TheVariants.{Item, End}
+use Rattle.json_text.specs.tokens.Parts.{follow, ws, mark_at, close_at}
+use Rattle.std.specs.Prelude.{Option, Some, None, unwrap_or}
+use Rattle.json_text.proofs.tokens.Laws.{if-eq, if_ne, then_at, then_nothing, at_byte}
+use Rattle.std.specs.declared.ops.ControlFlow.{ControlFlow}
+use Rattle.std.specs.declared.ops.ControlFlow.TheVariants.{Continue, Break}
 use Rattle.json_text.specs.strings.Chars.{string_at}
 use Rattle.json_text.specs.Grammar.{end_of, scalar_at, next_at, items_at, list_at, member_at, value_at}
 use Rattle.json_text.proofs.Ahead.{Ahead, value_ahead, member_ahead, mark_ahead}
@@ -20,74 +18,35 @@ use Rattle.json_text.proofs.Turns.{items_none, items_last, items_on, mark_most}
 
 -- ---- a position as one number
 
-pub end-at : (f : Found) {e : ℕ} → f ≡ At e → e ≡ end_of f
+or_zero : (f : Option ℕ) {e : ℕ} → e ≡ unwrap_or f 0 → e ≡ end_of f
+unfolding end_of
+or_zero (Some n) h = h
+or_zero None h = h
+
+pub end-at : (f : Option ℕ) {e : ℕ} → f ≡ Some e → e ≡ end_of f
 unfolding end_of
 end-at f h = rw h
 
-pub end_none : (f : Found) → f ≡ Nothing → 0 ≡ end_of f
+pub end_none : (f : Option ℕ) → f ≡ None → 0 ≡ end_of f
 unfolding end_of
 end_none f h = rw h
 
 -- what ends behind k is there just if the number is not 0
-pub no_end : (k : ℕ) (f : Found) {e : ℕ} → Ahead (k + 1) f → e ≡ end_of f → e ≡ 0 → f ≡ Nothing
+pub no_end : (k : ℕ) (f : Option ℕ) {e : ℕ} → Ahead (k + 1) f → e ≡ end_of f → e ≡ 0 → f ≡ None
 unfolding end_of
-no_end k (At n) a h z = absurd (omega (arith, a n refl))
-no_end k Nothing a h z = refl
+no_end k (Some n) a h z = absurd (omega (arith, a n refl))
+no_end k None a h z = refl
 
-pub some_end : (f : Found) {e : ℕ} → e ≡ end_of f → (e ≡ 0 → ⊥) → f ≡ At e
+pub some_end : (f : Option ℕ) {e : ℕ} → e ≡ end_of f → (e ≡ 0 → ⊥) → f ≡ Some e
 unfolding end_of
-some_end (At n) h z = ap At (sym h)
-some_end Nothing h z = absurd (z h)
-
--- ---- one step along a list
-
-module _ (close : ℕ) (s : List ℕ) (e : ℕ) where
-  pub next-none : e ≡ 0 → End 0 ≡ next_at close s e
-  unfolding next_at
-  next-none z = sym (if-eq _ _ _ _ z)
-
-  module _ (z : e ≡ 0 → ⊥) {q : Found} (eq : q ≡ mark_at 44 s e) where
-    pub next-on : {j : ℕ} → q ≡ At j → Item j ≡ next_at close s e
-    unfolding next_at
-    next-on t = sym (if_ne _ _ _ _ z ∙ follow-at _ _ _ _ (sym eq ∙ t))
-
-    pub next-end : {x : Found} {r : ℕ} → q ≡ Nothing → x ≡ close_at close s e → r ≡ end_of x → End r ≡ next_at close s e
-    unfolding next_at
-    next-end t ex er = ap End (er ∙ ap end_of ex) ∙ sym (if_ne _ _ _ _ z ∙ follow_nothing _ _ _ (sym eq ∙ t))
+some_end (Some n) h z = ap Some (sym h)
+some_end None h z = absurd (z h)
 
 -- ---- a scalar
 
 module _ (s : List ℕ) (i : ℕ) {b : ℕ} (eb : b ≡ get_or s i 0) where
   pub byte_most : {m : ℕ} → b ≡ m → 0 < m → i ≤ length s
   byte_most t h = omega (arith, at_byte s i _ h (sym eb ∙ t))
-
-  pub byte_next : {m : ℕ} → b ≡ m → 0 < m → i + 1 ≤ length s
-  byte_next t h = omega (arith, at_byte s i _ h (sym eb ∙ t))
-
-module _ (s : List ℕ) (i : ℕ) {b : ℕ} (eb : b ≡ get_or s i 0) {r : Found} where
-  pub scalar_string : b ≡ 34 → r ≡ string_at s i → r ≡ scalar_at s i
-  unfolding scalar_at
-  scalar_string t er = er ∙ sym (if-eq _ _ _ _ (sym eb ∙ t))
-
-  module _ (n : b ≡ 34 → ⊥) where
-    pub scalar_true : b ≡ 116 → r ≡ word_at s i 116 114 117 101 → r ≡ scalar_at s i
-    unfolding scalar_at
-    scalar_true t er = er ∙ sym (if_ne _ _ _ _ (λ q. n (eb ∙ q)) ∙ if-eq _ _ _ _ (sym eb ∙ t))
-
-    module _ (m : b ≡ 116 → ⊥) where
-      pub scalar_null : b ≡ 110 → r ≡ word_at s i 110 117 108 108 → r ≡ scalar_at s i
-      unfolding scalar_at
-      scalar_null t er = er ∙ sym (if_ne _ _ _ _ (λ q. n (eb ∙ q)) ∙ if_ne _ _ _ _ (λ q. m (eb ∙ q)) ∙ if-eq _ _ _ _ (sym eb ∙ t))
-
-      module _ (l : b ≡ 110 → ⊥) where
-        pub scalar_false : b ≡ 102 → r ≡ word_at s (i + 1) 97 108 115 101 → r ≡ scalar_at s i
-        unfolding scalar_at
-        scalar_false t er = er ∙ sym (if_ne _ _ _ _ (λ q. n (eb ∙ q)) ∙ if_ne _ _ _ _ (λ q. m (eb ∙ q)) ∙ if_ne _ _ _ _ (λ q. l (eb ∙ q)) ∙ if-eq _ _ _ _ (sym eb ∙ t))
-
-        pub scalar_number : (b ≡ 102 → ⊥) → r ≡ number_at s i → r ≡ scalar_at s i
-        unfolding scalar_at
-        scalar_number k er =
-            er ∙ sym (if_ne _ _ _ _ (λ q. n (eb ∙ q)) ∙ if_ne _ _ _ _ (λ q. m (eb ∙ q)) ∙ if_ne _ _ _ _ (λ q. l (eb ∙ q)) ∙ if_ne _ _ _ _ (λ q. k (eb ∙ q)))
 
 -- ---- a value
 
@@ -111,40 +70,40 @@ module _ (d : ℕ) (s : List ℕ) (i : ℕ) where
       pub value-array : b ≡ 91 → r ≡ end_of (list_at (value_at (d - 1) s) 93 s (i + 1)) → r ≡ end_of (value_at d s i)
       value-array t er = er ∙ ap end_of (sym (value-some d s i h ∙ if_ne _ _ _ _ (λ q. n (eb ∙ q)) ∙ if-eq _ _ _ _ (sym eb ∙ t)))
 
-      pub value_scalar : {x : Found} → (b ≡ 91 → ⊥) → x ≡ scalar_at s i → r ≡ end_of x → r ≡ end_of (value_at d s i)
-      value_scalar m ex er = er ∙ ap end_of (ex ∙ sym (value-some d s i h ∙ if_ne _ _ _ _ (λ q. n (eb ∙ q)) ∙ if_ne _ _ _ _ (λ q. m (eb ∙ q))))
+      pub value_scalar : {x : Option ℕ} → (b ≡ 91 → ⊥) → x ≡ scalar_at s i → r ≡ unwrap_or x 0 → r ≡ end_of (value_at d s i)
+      value_scalar {x} m ex er = or_zero x er ∙ ap end_of (ex ∙ sym (value-some d s i h ∙ if_ne _ _ _ _ (λ q. n (eb ∙ q)) ∙ if_ne _ _ _ _ (λ q. m (eb ∙ q))))
 
 -- ---- a member
 
-module _ (value : ℕ → Found) (s : List ℕ) (i : ℕ) {p : Found} (ep : p ≡ string_at s i) where
-  pub member_unnamed : p ≡ Nothing → 0 ≡ end_of (member_at value s i)
+module _ (value : ℕ → Option ℕ) (s : List ℕ) (i : ℕ) {p : Option ℕ} (ep : p ≡ string_at s i) where
+  pub member_unnamed : p ≡ None → 0 ≡ end_of (member_at value s i)
   unfolding member_at
   member_unnamed e = end_none _ (then_nothing _ _ (sym ep ∙ e))
 
-  module _ {e : ℕ} (ee : p ≡ At e) {q : Found} (eq : q ≡ mark_at 58 s e) where
-    pub member_unmarked : q ≡ Nothing → 0 ≡ end_of (member_at value s i)
+  module _ {e : ℕ} (ee : p ≡ Some e) {q : Option ℕ} (eq : q ≡ mark_at 58 s e) where
+    pub member_unmarked : q ≡ None → 0 ≡ end_of (member_at value s i)
     unfolding member_at
     member_unmarked n = end_none _ (then_at _ _ e (sym ep ∙ ee) ∙ then_nothing _ _ (sym eq ∙ n))
 
-    pub member_valued : {j r : ℕ} → q ≡ At j → r ≡ end_of (value j) → r ≡ end_of (member_at value s i)
+    pub member_valued : {j r : ℕ} → q ≡ Some j → r ≡ end_of (value j) → r ≡ end_of (member_at value s i)
     unfolding member_at
     member_valued {j} t er = er ∙ ap end_of (sym (then_at _ _ e (sym ep ∙ ee) ∙ then_at _ _ j (sym eq ∙ t)))
 
 -- ---- the list that begins at `at` is passed up to i
 
-pub record Listing (item : ℕ → Found) (close : ℕ) (s : List ℕ) (at i : ℕ) : Type 0 where
+pub record Listing (item : ℕ → Option ℕ) (close : ℕ) (s : List ℕ) (at i : ℕ) : Type 0 where
   pub ahead : (k : ℕ) → Ahead (k + 1) (item k)
   pub fuel : ℕ
   pub enough : length s ≤ fuel + i
   pub left : list_at item close s at ≡ items_at item close s fuel i
 
-module _ (item : ℕ → Found) (close : ℕ) (s : List ℕ) (at : ℕ) {i b : ℕ} (ei : i ≡ ws s at) (eb : b ≡ get_or s i 0) where
+module _ (item : ℕ → Option ℕ) (close : ℕ) (s : List ℕ) (at : ℕ) {i b : ℕ} (ei : i ≡ ws s at) (eb : b ≡ get_or s i 0) where
   there : get_or s (ws s at) 0 ≡ b
   there = ap (λ (j : ℕ). get_or s j 0) (sym ei) ∙ sym eb
 
   pub list-empty : b ≡ close → i + 1 ≡ end_of (list_at item close s at)
   unfolding list_at
-  list-empty t = end-at _ (if-eq _ _ _ _ (there ∙ t) ∙ ap (λ (j : ℕ). At (j + 1)) (sym ei))
+  list-empty t = end-at _ (if-eq _ _ _ _ (there ∙ t) ∙ ap (λ (j : ℕ). Some (j + 1)) (sym ei))
 
   list-start : ((k : ℕ) → Ahead (k + 1) (item k)) → (b ≡ close → ⊥) → Listing item close s at i
   unfolding list_at
@@ -163,34 +122,34 @@ module _ (d : ℕ) (close : ℕ) (s : List ℕ) (at : ℕ) {i b : ℕ} (ei : i �
   object-start = list-start (member_at (value_at d s) s) close s at ei eb (member_ahead (value_at d s) s (value_ahead d s)) n
 
 -- what a step from i comes to: a later item, from where the same is left, or the end of the list
-abbrev pub Stepped : (ℕ → Found) → ℕ → List ℕ → ℕ → ℕ → Next → Type 0
-Stepped item close s at i (Item j) = Listing item close s at j × (length s - j < length s - i)
-Stepped item close s at i (End r) = r ≡ end_of (list_at item close s at)
+abbrev pub Stepped : (ℕ → Option ℕ) → ℕ → List ℕ → ℕ → ℕ → ControlFlow ℕ ℕ → Type 0
+Stepped item close s at i (Continue j) = Listing item close s at j × (length s - j < length s - i)
+Stepped item close s at i (Break r) = r ≡ end_of (list_at item close s at)
 
-module _ {item : ℕ → Found} {close : ℕ} {s : List ℕ} {at i : ℕ} (k : Listing item close s at i) (h : 0 < close) where
-  by_mark : (e : ℕ) (m : Found) → item i ≡ At e → mark_at 0x2C s e ≡ m → Stepped item close s at i (follow m Item (End (end_of (close_at close s e))))
+module _ {item : ℕ → Option ℕ} {close : ℕ} {s : List ℕ} {at i : ℕ} (k : Listing item close s at i) (h : 0 < close) where
+  by_mark : (e : ℕ) (m : Option ℕ) → item i ≡ Some e → mark_at 0x2C s e ≡ m → Stepped item close s at i (follow m Continue (Break (end_of (close_at close s e))))
   unfolding follow
-  by_mark e (At j) p q =
+  by_mark e (Some j) p q =
       let onward : i < j = omega (arith, k.ahead i e p, mark_ahead 0x2C s e j q) in
       let x = items_on item close s k.ahead k.fuel i e j (list_at item close s at) k.enough k.left p q onward in
       (record { ahead = k.ahead; fuel = x.0; enough = x.1; left = x.2 }, omega (arith, onward, mark_most 0x2C s e j (omega arith) q))
-  by_mark e Nothing p q = ap end_of (sym (k.left ∙ items_last item close s k.ahead k.fuel i e k.enough h p q))
+  by_mark e None p q = ap end_of (sym (k.left ∙ items_last item close s k.ahead k.fuel i e k.enough h p q))
 
-  by_item : (f : Found) → item i ≡ f → Stepped item close s at i (next_at close s (end_of f))
+  by_item : (f : Option ℕ) → item i ≡ f → Stepped item close s at i (next_at close s (end_of f))
   unfolding next_at end_of
-  by_item (At e) p = rw (if_ne e 0 (End 0) (follow (mark_at 0x2C s e) Item (End (end_of (close_at close s e)))) (λ z. omega (arith, k.ahead i e p))) (by_mark e (mark_at 0x2C s e) p refl)
-  by_item Nothing p = rw (if-eq 0 0 (End 0) (follow (mark_at 0x2C s 0) Item (End (end_of (close_at close s 0)))) refl) (end_none _ (k.left ∙ items_none item close s k.fuel i p))
+  by_item (Some e) p = rw (if_ne e 0 (Break 0) (follow (mark_at 0x2C s e) Continue (Break (end_of (close_at close s e)))) (λ z. omega (arith, k.ahead i e p))) (by_mark e (mark_at 0x2C s e) p refl)
+  by_item None p = rw (if-eq 0 0 (Break 0) (follow (mark_at 0x2C s 0) Continue (Break (end_of (close_at close s 0)))) refl) (end_none _ (k.left ∙ items_none item close s k.fuel i p))
 
   -- the law of the two loops, over the item and the closing bracket
-  module _ {e : ℕ} (ee : e ≡ end_of (item i)) {q : Next} (eq : q ≡ next_at close s e) where
-    pub list-step : {n : Next} → q ≡ n → Stepped item close s at i n
+  module _ {e : ℕ} (ee : e ≡ end_of (item i)) {q : ControlFlow ℕ ℕ} (eq : q ≡ next_at close s e) where
+    pub list-step : {n : ControlFlow ℕ ℕ} → q ≡ n → Stepped item close s at i n
     list-step t = subst (Stepped item close s at i) (ap (next_at close s) (sym ee) ∙ sym eq ∙ t) (by_item (item i) refl)
 
-    pub list-end : {r : ℕ} → q ≡ End r → r ≡ end_of (list_at item close s at)
+    pub list-end : {r : ℕ} → q ≡ Break r → r ≡ end_of (list_at item close s at)
     list-end t = list-step t
 
-    pub list_on : {j : ℕ} → q ≡ Item j → Listing item close s at j
+    pub list_on : {j : ℕ} → q ≡ Continue j → Listing item close s at j
     list_on t = (list-step t).0
 
-    pub list_less : {j : ℕ} → q ≡ Item j → length s - j < length s - i
+    pub list_less : {j : ℕ} → q ≡ Continue j → length s - j < length s - i
     list_less t = (list-step t).1

@@ -1,10 +1,9 @@
 -- The grammar of RFC 8259 by its rules: `Value s d i e` derives that the bytes of s from i up to e are a JSON value, nested at most d deep.
 -- There is no order of tests and no bound on steps here, and white space is any run of it. A number is read as far as it goes.
-use Rattle.std.specs.Prelude.{ℕ, zero, suc, ◌+◌, ◌≡◌, true, List, length}
+use Rattle.std.specs.Prelude.{ℕ, zero, suc, ◌+◌, ◌≡◌, true, List, length, Some}
 use Rattle.json_text.specs.tokens.Bytes.{byte_at, is_ws}
 use Rattle.json_text.specs.tokens.Parts.{word_at}
 use Rattle.json_text.specs.tokens.Numbers.{Numeral}
-use Rattle.json_text.specs.declared.tokens.Found.TheVariants.{At}
 use Rattle.json_text.specs.strings.Chars.{String}
 
 -- ws = *( space / tab / line feed / carriage return )
@@ -28,9 +27,9 @@ pub data Member (s : List ℕ) (Inner : ℕ → ℕ → Type 0) : ℕ → ℕ �
 
 -- value = false / null / true / object / array / number / string, where Inner says what a value inside is
 pub data ValueOf (s : List ℕ) (Inner : ℕ → ℕ → Type 0) : ℕ → ℕ → Type 0 where
-  is_true : {i e : ℕ} → word_at s i 0x74 0x72 0x75 0x65 ≡ At e → ValueOf s Inner i e
-  is_null : {i e : ℕ} → word_at s i 0x6E 0x75 0x6C 0x6C ≡ At e → ValueOf s Inner i e
-  is_false : {i e : ℕ} → byte_at s i ≡ 0x66 → word_at s (i + 1) 0x61 0x6C 0x73 0x65 ≡ At e → ValueOf s Inner i e
+  is_true : {i e : ℕ} → word_at s i 0x74 0x72 0x75 0x65 ≡ Some e → ValueOf s Inner i e
+  is_null : {i e : ℕ} → word_at s i 0x6E 0x75 0x6C 0x6C ≡ Some e → ValueOf s Inner i e
+  is_false : {i e : ℕ} → byte_at s i ≡ 0x66 → word_at s (i + 1) 0x61 0x6C 0x73 0x65 ≡ Some e → ValueOf s Inner i e
   is_number : {i e : ℕ} → Numeral s i e → ValueOf s Inner i e
   is-string : {i e : ℕ} → String s i e → ValueOf s Inner i e
   array : {i e : ℕ} → byte_at s i ≡ 0x5B → Listed s Inner 0x5D (i + 1) e → ValueOf s Inner i e

@@ -4,12 +4,14 @@ ghost use Rattle.std.specs.Prelude.{◌≡◌, ◌+◌, ◌<◌, get_or, length}
 ghost use Rattle.json_text.specs.tokens.Bytes.{span};
 ghost use Rattle.json_text.specs.characters.Chars.{is_hex, is_short, is_plain, is_tail, is_second, utf8_len, escape_len, char_len};
 
+#[tactic(auto, unfolding(crate::specs::characters::Chars::is_hex, crate::specs::tokens::Bytes::inside))]
 fn is_hex(b: u8) -> bool
     ensures { result ≡ is_hex b }
 {
-    ((48 <= b) & (b <= 57)) | (((65 <= b) & (b <= 70)) | ((97 <= b) & (b <= 102)))
+    b.is_ascii_hexdigit()
 }
 
+#[tactic(auto, unfolding(crate::specs::characters::Chars::is_short, crate::specs::tokens::Bytes::same))]
 fn is_short(b: u8) -> bool
     ensures { result ≡ is_short b }
 {
@@ -18,6 +20,7 @@ fn is_short(b: u8) -> bool
             | ((b == 47) | ((b == 98) | ((b == 102) | ((b == 110) | ((b == 114) | (b == 116)))))))
 }
 
+#[tactic(auto, unfolding(crate::specs::characters::Chars::is_plain, crate::specs::tokens::Bytes::same, crate::specs::tokens::Bytes::inside))]
 pub fn is_plain(b: u8) -> bool
     ensures { result ≡ is_plain b }
 {
@@ -28,13 +31,10 @@ pub fn is_plain(b: u8) -> bool
 pub fn skip_plain(s: &[u8], at: usize) -> usize
     ensures { result ≡ span is_plain s.now at }
 {
-    let mut i = at;
-    while is_plain(crate::tokens::byte(s, i)) {
-        i += 1;
-    }
-    i
+    crate::tokens::skip_class(s, at, |b| is_plain(b))
 }
 
+#[tactic(auto, unfolding(crate::specs::characters::Chars::is_tail, crate::specs::tokens::Bytes::inside))]
 fn is_tail(c: u8) -> bool
     ensures { result ≡ is_tail c }
 {
@@ -42,6 +42,7 @@ fn is_tail(c: u8) -> bool
 }
 
 // No overlong form, no surrogate, nothing above U+10FFFF.
+#[tactic(auto, unfolding(crate::specs::characters::Chars::is_second, crate::specs::tokens::Bytes::same, crate::specs::tokens::Bytes::inside))]
 fn is_second(b: u8, c: u8) -> bool
     ensures { result ≡ is_second b c }
 {
@@ -51,6 +52,7 @@ fn is_second(b: u8, c: u8) -> bool
                 & ((!(b == 240) | (144 <= c)) & (!(b == 244) | (c <= 143)))))
 }
 
+#[tactic(auto, unfolding(crate::specs::characters::Chars::utf8_len, crate::specs::tokens::Bytes::choose, crate::specs::tokens::Bytes::under, crate::specs::tokens::Bytes::inside))]
 fn utf8_len(b: u8, c: u8, d: u8, e: u8) -> usize
     ensures { result ≡ utf8_len b c d e }
 {
@@ -72,6 +74,7 @@ fn utf8_len(b: u8, c: u8, d: u8, e: u8) -> usize
     0
 }
 
+#[tactic(auto, unfolding(crate::specs::characters::Chars::escape_len, crate::specs::tokens::Bytes::choose, crate::specs::tokens::Bytes::same))]
 fn escape_len(b: u8, c: u8, d: u8, e: u8, f: u8) -> usize
     ensures { result ≡ escape_len b c d e f }
 {
@@ -112,6 +115,7 @@ fn utf8_at(s: &[u8], i: usize, b: u8) -> usize
     utf8_len(b, c, d, e)
 }
 
+#[tactic(auto, unfolding(crate::specs::characters::Chars::char_len, crate::specs::tokens::Bytes::under, crate::specs::tokens::Bytes::choose, crate::specs::tokens::Bytes::same))]
 pub fn char_len(s: &[u8], i: usize) -> usize
     ensures { result ≡ char_len s.now i }
 {

@@ -10,17 +10,11 @@ pub mod tokens;
 ghost use Rattle.std.specs.Prelude.{◌≡◌, ◌<◌};
 ghost use Rattle.json_text.specs.Grammar.{end_of, scalar_at, next_at, list_at, member_at, value_at};
 
-use crate::tokens::Found;
+use std::ops::ControlFlow;
 pub use text::is_json;
 
-// Where a walk along the items of an array or object goes on: at the next item, or at the end of the whole. End(0): it has no end.
-#[derive(Clone, Copy)]
-enum Next {
-    Item(usize),
-    End(usize),
-}
-
-fn skip_scalar(s: &[u8], at: usize) -> Found
+#[tactic(auto, unfolding(crate::specs::Grammar::scalar_at, crate::specs::tokens::Bytes::choose, crate::specs::tokens::Bytes::same))]
+fn skip_scalar(s: &[u8], at: usize) -> Option<usize>
     ensures { result ≡ scalar_at s.now at }
 {
     let b = crate::tokens::byte(s, at);
@@ -39,31 +33,24 @@ fn skip_scalar(s: &[u8], at: usize) -> Found
     crate::tokens::skip_number(s, at)
 }
 
-// A position as one number, which calls hand back in a register.
-fn end_of(f: Found) -> usize
-    ensures { result ≡ end_of f }
-{
-    match f {
-        Found::At(e) => e,
-        Found::Nothing => 0,
-    }
-}
-
-// One step of the walk, from where an item ends (0: there is none): to the item behind the comma, or behind the closing bracket.
-fn next_item(s: &[u8], e: usize, close: u8) -> Next
+// One step along the items of an array or object, from where an item ends (0: there is none): on to the item behind the comma, or
+// to the end of the whole behind the closing bracket, 0 where it has none.
+#[tactic(auto, unfolding(crate::specs::Grammar::next_at, crate::specs::tokens::Parts::follow, crate::specs::Grammar::end_of, crate::specs::tokens::Bytes::choose, crate::specs::tokens::Bytes::same))]
+fn next_item(s: &[u8], e: usize, close: u8) -> ControlFlow<usize, usize>
     requires { 0 < close }
     ensures { result ≡ next_at close s.now e }
 {
     if e == 0 {
-        return Next::End(0);
+        return ControlFlow::Break(0);
     }
-    let Found::At(j) = crate::tokens::skip_mark(s, e, b',') else {
-        return Next::End(end_of(crate::tokens::skip_close(s, e, close)));
+    let Some(j) = crate::tokens::skip_mark(s, e, b',') else {
+        return ControlFlow::Break(crate::tokens::skip_close(s, e, close).unwrap_or(0));
     };
-    Next::Item(j)
+    ControlFlow::Continue(j)
 }
 
-// The cycle: a value, what stands in an array and in an object, and one member of an object. 0: there is none.
+// The cycle: a value, what stands in an array and in an object, and one member of an object, each by where it ends as one number, which
+// calls hand back in a register. 0: there is none.
 #[cycle(skippers)]
 pub fn skip_value(s: &[u8], at: usize, depth: usize) -> usize
     ensures { result ≡ end_of (value_at depth s.now at) }
@@ -78,7 +65,7 @@ pub fn skip_value(s: &[u8], at: usize, depth: usize) -> usize
     if b == b'[' {
         return skip_array(s, at + 1, depth - 1);
     }
-    end_of(skip_scalar(s, at))
+    skip_scalar(s, at).unwrap_or(0)
 }
 
 #[cycle(skippers)]
@@ -89,14 +76,17 @@ fn skip_array(s: &[u8], at: usize, depth: usize) -> usize
     if crate::tokens::byte(s, i) == b']' {
         return i + 1;
     }
+    // Not a `for` over positions: where the next item begins is known only once this one has been passed.
     loop {
         match next_item(s, skip_value(s, i, depth), b']') {
-            Next::Item(j) => i = j,
-            Next::End(e) => return e,
+            ControlFlow::Continue(j) => i = j,
+            ControlFlow::Break(e) => return e,
         }
     }
 }
 
+// What this and `skip_array` share is `next_item`. One function for both would take the item's skipper and the bracket from its caller,
+// in the midst of the cycle that the skippers are, and be no plainer.
 #[cycle(skippers)]
 fn skip_object(s: &[u8], at: usize, depth: usize) -> usize
     ensures { result ≡ end_of (list_at (member_at (value_at depth s.now) s.now) 125 s.now at) }
@@ -105,10 +95,11 @@ fn skip_object(s: &[u8], at: usize, depth: usize) -> usize
     if crate::tokens::byte(s, i) == b'}' {
         return i + 1;
     }
+    // Not a `for` over positions: where the next item begins is known only once this one has been passed.
     loop {
         match next_item(s, skip_member(s, i, depth), b'}') {
-            Next::Item(j) => i = j,
-            Next::End(e) => return e,
+            ControlFlow::Continue(j) => i = j,
+            ControlFlow::Break(e) => return e,
         }
     }
 }
@@ -117,10 +108,10 @@ fn skip_object(s: &[u8], at: usize, depth: usize) -> usize
 fn skip_member(s: &[u8], at: usize, depth: usize) -> usize
     ensures { result ≡ end_of (member_at (value_at depth s.now) s.now at) }
 {
-    let Found::At(e) = crate::strings::skip_string(s, at) else {
+    let Some(e) = crate::strings::skip_string(s, at) else {
         return 0;
     };
-    let Found::At(j) = crate::tokens::skip_mark(s, e, b':') else {
+    let Some(j) = crate::tokens::skip_mark(s, e, b':') else {
         return 0;
     };
     skip_value(s, j, depth)

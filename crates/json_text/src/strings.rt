@@ -6,23 +6,23 @@ ghost use Rattle.json_text.specs.strings.Chars.{string_at};
 ghost use Rattle.json_text.specs.strings.Names.{unescaped, eq_list, ascii};
 
 use crate::characters;
-use crate::tokens::Found;
 
-pub fn skip_string(s: &[u8], at: usize) -> Found
+pub fn skip_string(s: &[u8], at: usize) -> Option<usize>
     ensures { result ≡ string_at s.now at }
 {
     if crate::tokens::byte(s, at) != b'"' {
-        return Found::Nothing;
+        return None;
     }
     let mut i = at + 1;
+    // Not a `for` over positions: a step is as long as the run and the character that it passes.
     loop {
         let e = characters::skip_plain(s, i);
         if crate::tokens::byte(s, e) == b'"' {
-            return Found::At(e + 1);
+            return Some(e + 1);
         }
         let n = characters::char_len(s, e);
         if n == 0 {
-            return Found::Nothing;
+            return None;
         }
         i = e + n;
     }
@@ -46,16 +46,15 @@ pub fn says(s: &[u8], at: usize, name: &[u8]) -> bool
     ensures { result ≡ eq_list (unescaped s.now (length s.now + 1) at) name.now }
 {
     let mut i = at;
-    let mut k = 0;
-    loop {
+    for b in name {
         let n = characters::char_len(s, i);
         if n == 0 {
-            return k == name.len();
+            return false;
         }
-        if !names::agrees(s, i, name, k) {
+        if names::ascii_at(s, i) != *b {
             return false;
         }
         i += n;
-        k += 1;
     }
+    characters::char_len(s, i) == 0
 }

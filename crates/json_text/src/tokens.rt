@@ -1,17 +1,10 @@
-// Bytes of a text, and where its white space, marks and numbers end (RFC 8259).
+// Bytes of a text, and where its white space, marks and numbers end (RFC 8259): a position, if there is one.
 mod numbers;
 
-ghost use Rattle.std.specs.Prelude.{◌≡◌, ◌≤◌, ◌<◌, get_or, length};
+ghost use Rattle.std.specs.Prelude.{◌≡◌, ℕ, ◌≤◌, ◌<◌, max, true, false, get_or, length};
 ghost use Rattle.json_text.specs.tokens.Bytes.{is_ws, is_digit};
 ghost use Rattle.json_text.specs.tokens.Parts.{ws, mark_at, close_at, word_at};
 ghost use Rattle.json_text.specs.tokens.Numbers.{number_at};
-
-// A position in the text, if there is one: where a part ends, or where one begins.
-#[derive(Clone, Copy)]
-pub enum Found {
-    At(usize),
-    Nothing,
-}
 
 // The byte at i, and 0 past the end.
 pub fn byte(s: &[u8], i: usize) -> u8
@@ -20,54 +13,70 @@ pub fn byte(s: &[u8], i: usize) -> u8
     if i < s.len() { s[i] } else { 0 }
 }
 
+// The first position from `at` on whose byte is not in the class; past the end, where there is no byte, it is `at`.
+pub(crate) fn skip_class<F: Fn(u8) -> bool>(s: &[u8], at: usize, class: F) -> usize
+    requires { F.IsAlwaysCallable class }
+    ensures range { (at ≤ result) × (result ≤ max at (length s.now)) }
+    ensures passed { (k : ℕ) → at ≤ k → k < result → F.post class (get_or s.now k 0) true }
+    ensures stopped { result < length s.now → F.post class (get_or s.now result 0) false }
+{
+    for i in at..s.len() {
+        if !class(s[i]) {
+            return i;
+        }
+    }
+    at.max(s.len())
+}
+
+#[tactic(auto, unfolding(crate::specs::tokens::Bytes::is_ws, crate::specs::tokens::Bytes::same))]
 fn is_ws(b: u8) -> bool
     ensures { result ≡ is_ws b }
 {
     (b == 32) | ((b == 9) | ((b == 10) | (b == 13)))
 }
 
+#[tactic(auto, unfolding(crate::specs::tokens::Bytes::is_digit, crate::specs::tokens::Bytes::inside))]
 pub fn is_digit(b: u8) -> bool
     ensures { result ≡ is_digit b }
 {
-    (48 <= b) & (b <= 57)
+    b.is_ascii_digit()
 }
 
 pub fn skip_ws(s: &[u8], at: usize) -> usize
     ensures { result ≡ ws s.now at }
 {
-    let mut i = at;
-    while is_ws(byte(s, i)) {
-        i += 1;
-    }
-    i
+    skip_class(s, at, |b| is_ws(b))
 }
 
 // White space, the mark, white space.
-pub fn skip_mark(s: &[u8], at: usize, mark: u8) -> Found
+#[tactic(auto, unfolding(crate::specs::tokens::Parts::mark_at, crate::specs::tokens::Bytes::choose, crate::specs::tokens::Bytes::same))]
+pub fn skip_mark(s: &[u8], at: usize, mark: u8) -> Option<usize>
     requires { 0 < mark }
     ensures { result ≡ mark_at mark s.now at }
 {
     let i = skip_ws(s, at);
     if byte(s, i) != mark {
-        return Found::Nothing;
+        return None;
     }
-    Found::At(skip_ws(s, i + 1))
+    Some(skip_ws(s, i + 1))
 }
 
 // White space, the mark.
-pub fn skip_close(s: &[u8], at: usize, mark: u8) -> Found
+#[tactic(auto, unfolding(crate::specs::tokens::Parts::close_at, crate::specs::tokens::Bytes::choose, crate::specs::tokens::Bytes::same))]
+pub fn skip_close(s: &[u8], at: usize, mark: u8) -> Option<usize>
     requires { 0 < mark }
     ensures { result ≡ close_at mark s.now at }
 {
     let i = skip_ws(s, at);
     if byte(s, i) != mark {
-        return Found::Nothing;
+        return None;
     }
-    Found::At(i + 1)
+    Some(i + 1)
 }
 
 // The four bytes.
-pub fn skip_word(s: &[u8], at: usize, a: u8, b: u8, c: u8, d: u8) -> Found
+#[tactic(auto, unfolding(crate::specs::tokens::Parts::word_at, crate::specs::tokens::Bytes::choose, crate::specs::tokens::Bytes::same))]
+pub fn skip_word(s: &[u8], at: usize, a: u8, b: u8, c: u8, d: u8) -> Option<usize>
     requires { at ≤ length s.now }
     ensures { result ≡ word_at s.now at a b c d }
 {
@@ -76,12 +85,13 @@ pub fn skip_word(s: &[u8], at: usize, a: u8, b: u8, c: u8, d: u8) -> Found
     let u = byte(s, at + 2);
     let v = byte(s, at + 3);
     if (p == a) & ((q == b) & ((u == c) & (v == d))) {
-        return Found::At(at + 4);
+        return Some(at + 4);
     }
-    Found::Nothing
+    None
 }
 
-pub fn skip_number(s: &[u8], at: usize) -> Found
+#[tactic(auto, unfolding(crate::specs::tokens::Numbers::number_at, crate::specs::tokens::Bytes::choose, crate::specs::tokens::Bytes::same))]
+pub fn skip_number(s: &[u8], at: usize) -> Option<usize>
     ensures { result ≡ number_at s.now at }
 {
     if byte(s, at) == 45 {

@@ -7,26 +7,24 @@ use native.Mathlib.Omega.{arith}
 use borrow.Author.Rules.{rules}
 use borrow.Author.Tests.{eqb-true, eq-eqb, ne_eqb}
 use lib.Dec.{eqb}
-use lib.IntN.{ℤ, pos}
 use lib.ListN.{length, take, drop, length-append}
 use lib.Seq.{length-take-le, take-append-le}
-use mir.Syntax.{w64}
-use mir.Val.{SFits, to_z, of_z}
-use mir.Facts.{to_z-of_z}
 use Rattle.refusal.specs.Choice.{pick}
 use Rattle.refusal.specs.Buffer.{over}
 use Rattle.refusal.proofs.Tests.{both}
 use Rattle.endian.specs.Place.{paste}
 use Rattle.endian.proofs.Paste.{paste-front}
 use Rattle.card.specs.declared.Card.{Card}
-use Rattle.card.specs.declared.CardAnswer.TheVariants.{Says, Refused}
+use Rattle.std.specs.Prelude.{Ok, Option, Some}
+use Rattle.refusal.specs.Answers.{refuse}
 use Rattle.card.specs.Answers.{fault, read_answer}
 use Rattle.card.proofs.Meaning.{read_faultless}
 use Rattle.locate.specs.declared.Came.{Came}
 use Rattle.locate.specs.declared.Block.{Block}
 use Rattle.locate.specs.text.Output.{cells_text, framed}
 use Rattle.locate.specs.text.Blocks.{card_length, block_bytes}
-use Rattle.locate.specs.text.Ends.{is_none, told_bytes}
+use Rattle.reading.specs.End.{is_end}
+use Rattle.locate.specs.text.Ends.{told_bytes}
 use Rattle.locate.specs.declared.Start.{Start}
 use Rattle.locate.specs.Reading.{Readable, CameInto, Located, Printed, Said, Started}
 
@@ -62,11 +60,11 @@ module _ (c : Card) (cells before : List ℕ) where
         }
 
 -- ---- the card
-framed_says : (b : Bool) (s : List ℕ) (c : Card) → pick b (read_answer s) (Refused 14) ≡ Says c → read_answer s ≡ Says c
+framed_says : (b : Bool) (s : List ℕ) (c : Card) → pick b (read_answer s) (refuse 14) ≡ Ok c → read_answer s ≡ Ok c
 framed_says true s c e = e
 framed_says false s c e = let z : ◌≡◌ {A = ℕ} 0 1 = cc in absurd (omega arith)
 
-pub started_judged : (head body : List ℕ) {r : Start} {c : Card} → Started head body r → r.card ≡ Says c → fault c ≡ 0
+pub started_judged : (head body : List ℕ) {r : Start} {c : Card} → Started head body r → r.card ≡ Ok c → fault c ≡ 0
 unfolding framed
 started_judged head body {c = c} s e =
     let t = take s.got body in
@@ -91,10 +89,9 @@ started_by head part rest {r} {b = b} asked f p q s =
 -- ---- whether the input could be read
 
 pub came-whole : {got asked : ℕ} → got ≡ asked → Readable got asked true
-came-whole {got} {asked} e = record { answer = pos 0; made = rw (eq-eqb got asked e) }
+came-whole {got} {asked} e = record { answer = Some 0; made = rw (eq-eqb got asked e) }
 
--- the answer as a local holds it
-pub came-short : {got asked : ℕ} {b : Bool} (z : ℤ) → (got ≡ asked → ⊥) → SFits w64 z → b ≡ is_none (to_z w64 (of_z w64 z)) → Readable got asked b
-came-short {got} {asked} z n f p = record { answer = z; made = rw (ne_eqb got asked n) (p ∙ ap is_none (to_z-of_z f)) }
+pub came-short : {got asked : ℕ} {b : Bool} (answer : Option ℕ) → (got ≡ asked → ⊥) → b ≡ is_end answer → Readable got asked b
+came-short {got} {asked} answer n p = record { answer = answer; made = rw (ne_eqb got asked n) p }
 
 pub ruleset handed = (front-over, part-long, cells-came, block-located, text-room, block-printed, started_judged, started_by, came-whole, came-short, rules)

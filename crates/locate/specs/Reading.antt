@@ -1,19 +1,20 @@
 -- What the functions that read promise.
-use Rattle.std.specs.Prelude.{ℕ, ◌≤◌, ◌≡◌, Bool, true, ◌&&◌, List, eqb, ℤ, length, take}
+use Rattle.std.specs.Prelude.{ℕ, ◌≤◌, ◌≡◌, Bool, true, ◌&&◌, List, eqb, length, take, Option}
 use Rattle.refusal.specs.Choice.{pick}
 use Rattle.refusal.specs.Buffer.{over}
 use Rattle.card.specs.declared.Card.{Card}
 use Rattle.locate.specs.text.Output.{cells_text, framed}
 use Rattle.locate.specs.text.Blocks.{card_length, block_bytes}
-use Rattle.locate.specs.text.Ends.{is_none, told_bytes}
+use Rattle.reading.specs.End.{is_end}
+use Rattle.locate.specs.text.Ends.{told_bytes}
 use Rattle.locate.specs.declared.Came.{Came}
 use Rattle.locate.specs.declared.Block.{Block}
 use Rattle.locate.specs.declared.Start.{Start}
 
 -- the input could be read: all bytes came that were asked for, or one read more answered that there is none (RULES C7)
 pub record Readable (got asked : ℕ) (r : Bool) : Type 0 where
-  pub answer : ℤ
-  pub made : r ≡ pick (eqb got asked) true (is_none answer)
+  pub answer : Option ℕ
+  pub made : r ≡ pick (eqb got asked) true (is_end answer)
 
 -- of the bytes of a block: how many came, and how many of them are told
 pub record CameInto (cells : List ℕ) (r : Came) : Type 0 where

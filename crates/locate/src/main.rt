@@ -15,9 +15,11 @@ ghost use Rattle.locate.specs.Reading.{Readable, CameInto, Located, Printed, Sai
 
 use crate::lines::line;
 use crate::text::{blocks, frame};
-use card::{Card, CardAnswer};
+use card::Card;
 use morton::grid::Extents;
-use std::io::{Read, Stdin, Stdout};
+use reading::{is_end, read_full, read_one};
+use refusal::Refusal;
+use std::io::{Stdin, Stdout};
 
 // How many bytes of cells are told, and whether the input could be read on.
 #[derive(Clone, Copy)]
@@ -37,36 +39,11 @@ struct Block {
 // What the card says, and whether it could be read.
 #[derive(Clone, Copy)]
 struct Start {
-    card: CardAnswer,
+    card: Result<Card, Refusal>,
     readable: bool,
 }
 
 // ---- reading
-
-// Reads until the buffer is full, the input ends or a read fails, and answers how many bytes came.
-fn read_full(mut input: Stdin, buf: &mut [u8]) -> usize
-    ensures within { result ≤ length buf.new }
-    ensures part { result ≡ length (take result buf.new) }
-{
-    let mut done = 0;
-    while done < buf.len() {
-        match input.read(&mut buf[done..]) {
-            Ok(0) => break,
-            Ok(n) => done += n,
-            Err(_) => break,
-        }
-    }
-    done
-}
-
-// What a read of one byte more answers: how many came, or -1 where it failed.
-fn read_one(mut input: Stdin) -> isize {
-    let mut one = [0u8; 1];
-    match input.read(&mut one) {
-        Ok(n) => n as isize,
-        Err(_) => -1,
-    }
-}
 
 // Whether all bytes came that were asked for, or the input ended. Where fewer came, one byte more is asked for: the count
 // alone does not tell the input's end from a read that failed.
@@ -76,7 +53,7 @@ fn is_readable(input: Stdin, got: usize, asked: usize) -> bool
     if got == asked {
         return true;
     }
-    frame::is_none(read_one(input))
+    is_end(read_one(input))
 }
 
 // The bytes of a block. Where a read failed, whole cells alone are told, so that no `cut` is.
@@ -162,16 +139,18 @@ fn locate_some(
 }
 
 // Block by block, as `blocks_of` cuts what follows the card, up to the first that is short. A proved loop has to end, and
-// nothing says that the input does: the turns are counted down from a number that no run uses up.
+// nothing says that the input does: there are as many turns as no run uses up.
 fn locate_all(input: Stdin, out: Stdout, card: Card)
     requires { fault card ≡ 0 }
 {
     let grid = blocks::grid_of(card);
+    // fixed buffers: `Printed` says the very bytes that stand in them, and no block takes new memory
     let mut cells = [0u8; 12000];
     let mut text = [0u8; 65536];
-    let mut turns = u64::MAX;
-    while turns > 0 && locate_some(input, out, card, grid, &mut cells, &mut text) {
-        turns -= 1;
+    for _ in 0..u64::MAX {
+        if !locate_some(input, out, card, grid, &mut cells, &mut text) {
+            return;
+        }
     }
 }
 
@@ -214,7 +193,7 @@ fn main(rt: HostRuntime) {
     }
     let card = start.card;
     match card {
-        CardAnswer::Says(card) => locate_all(input, out, card),
-        CardAnswer::Refused(number) => print_refused(out, number),
+        Ok(card) => locate_all(input, out, card),
+        Err(refusal) => print_refused(out, refusal.number()),
     }
 }

@@ -33,4 +33,4 @@ module _ (spec : Sharding) (shard : ℕ) (file : List ℕ) (id : ℕ) where
 
   pub lookup_decided : DecidedBy (lookup_checks spec shard file id) (lookup_result (lookup_answer spec shard file id))
   unfolding lookup_answer chosen_chunk chunk_of
-  lookup_decided = decided_at lookup_result Refused (λ k. refl) Faulty (λ k p. (refl, refl, refl)) (lookup_checks spec shard file id) _ refl all_in_lookup
+  lookup_decided = decided_at lookup_result Refused (λ k t. refl) Faulty (λ k p. (refl, refl, refl)) (lookup_checks spec shard file id) _ refl all_in_lookup

@@ -28,14 +28,12 @@ fn put_entries(base: usize, data: &[u8], p: usize, n: usize, out: &mut [u64])
     let t = p + 16 * n;
     let mut end: u64 = 0;
     let mut id: u64 = 0;
-    let mut i: usize = 0;
-    while i < n {
-        id = std::num::wrapping_add_u64(id, read_u64(data, p + 8 * i));
-        let start = std::num::wrapping_add_u64(end, read_u64(data, q + 8 * i));
+    for i in 0..n {
+        id = id.wrapping_add(read_u64(data, p + 8 * i));
+        let start = end.wrapping_add(read_u64(data, q + 8 * i));
         let size = read_u64(data, t + 8 * i);
         put_entry(out, i, id, base as u64 + start, size);
-        end = std::num::wrapping_add_u64(start, size);
-        i += 1;
+        end = start.wrapping_add(size);
     }
 }
 

@@ -24,10 +24,9 @@ pub fn find(base: usize, data: &[u8], p: usize, n: usize, id: u64) -> LookupAnsw
     let t = p + 16 * n;
     let mut at: u64 = 0;
     let mut cur: u64 = 0;
-    let mut i: usize = 0;
-    while i < n {
-        cur = std::num::wrapping_add_u64(cur, read_u64(data, p + 8 * i));
-        let start = std::num::wrapping_add_u64(at, read_u64(data, q + 8 * i));
+    for i in 0..n {
+        cur = cur.wrapping_add(read_u64(data, p + 8 * i));
+        let start = at.wrapping_add(read_u64(data, q + 8 * i));
         let size = read_u64(data, t + 8 * i);
         if cur == id {
             return LookupAnswer::Found {
@@ -35,8 +34,7 @@ pub fn find(base: usize, data: &[u8], p: usize, n: usize, id: u64) -> LookupAnsw
                 length: size as usize,
             };
         }
-        at = std::num::wrapping_add_u64(start, size);
-        i += 1;
+        at = start.wrapping_add(size);
     }
     LookupAnswer::Refused(12)
 }

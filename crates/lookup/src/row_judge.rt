@@ -45,13 +45,11 @@ pub fn first_foreign(spec: Sharding, shard: u64, m: u64, rows: &[u8], n: usize) 
     ensures { result ≡ first (foreign_at spec shard m (id_steps rows.now 0)) n }
 {
     let mut own: u64 = 0;
-    let mut j: usize = 0;
-    while j < n {
-        own = std::num::wrapping_add_u64(own, id_step(rows, n, j));
+    for j in 0..n {
+        own = own.wrapping_add(id_step(rows, n, j));
         if is_foreign(spec, shard, m, own) {
             return j;
         }
-        j += 1;
     }
     n
 }
@@ -62,9 +60,8 @@ pub fn first_outside(room: u64, rows: &[u8], n: usize) -> usize
     ensures { result ≡ first (ends_past room (start_steps rows.now 0 n) (sizes rows.now 0 n)) n }
 {
     let mut end: u64 = 0;
-    let mut k: usize = 0;
-    while k < n {
-        let start = std::num::wrapping_add_u64(end, start_step(rows, n, k));
+    for k in 0..n {
+        let start = end.wrapping_add(start_step(rows, n, k));
         let size = size_of(rows, n, k);
         if room < start {
             return k;
@@ -73,7 +70,6 @@ pub fn first_outside(room: u64, rows: &[u8], n: usize) -> usize
             return k;
         }
         end = start + size;
-        k += 1;
     }
     n
 }
@@ -127,10 +123,9 @@ pub fn find_row(base: usize, rows: &[u8], n: usize, id: u64) -> LookupAnswer
 {
     let mut at: u64 = 0;
     let mut cur: u64 = 0;
-    let mut i: usize = 0;
-    while i < n {
-        cur = std::num::wrapping_add_u64(cur, id_step(rows, n, i));
-        let start = std::num::wrapping_add_u64(at, start_step(rows, n, i));
+    for i in 0..n {
+        cur = cur.wrapping_add(id_step(rows, n, i));
+        let start = at.wrapping_add(start_step(rows, n, i));
         let size = size_of(rows, n, i);
         if cur == id {
             return LookupAnswer::Found {
@@ -138,8 +133,7 @@ pub fn find_row(base: usize, rows: &[u8], n: usize, id: u64) -> LookupAnswer
                 length: size as usize,
             };
         }
-        at = std::num::wrapping_add_u64(start, size);
-        i += 1;
+        at = start.wrapping_add(size);
     }
     LookupAnswer::Refused(12)
 }

@@ -1,3 +1,3 @@
 -- A table of entries, and what the parts of its sort make.
 pub mod Table
-pub mod Heap
+pub mod Layout

@@ -11,7 +11,8 @@ ghost use Rattle.lookup_table.specs.sorting.Table.{each, entries_in, Front};
 ghost use Rattle.lookup_table.specs.Fill.{listed, table_of};
 ghost use Rattle.lookup_table.specs.Says.{rows_judged, fill_says, fill_holds, empty_or};
 
-use crate::sorting::{put, sort_table};
+use crate::sorting::{Table, sort_table};
+use index_sort::layout::Layout;
 use index_sort::three_rows::Entry;
 use lookup::ranges::inner::other_length;
 use lookup::row_judge::{id_step, rows_fault, size_of, start_step};
@@ -29,19 +30,17 @@ fn write_listed(base: usize, rows: &[u8], n: usize, out: &mut [u64])
 {
     let mut at: u64 = 0;
     let mut cur: u64 = 0;
-    let mut i: usize = 0;
-    while i < n {
-        cur = std::num::wrapping_add_u64(cur, id_step(rows, n, i));
-        let start = std::num::wrapping_add_u64(at, start_step(rows, n, i));
+    for i in 0..n {
+        cur = cur.wrapping_add(id_step(rows, n, i));
+        let start = at.wrapping_add(start_step(rows, n, i));
         let size = size_of(rows, n, i);
         let e = Entry {
             id: cur,
             start: (base as u64) + start,
-            size: size,
+            size,
         };
-        put(out, n, i, e);
-        at = std::num::wrapping_add_u64(start, size);
-        i += 1;
+        Table { n }.put(out, i, e);
+        at = start.wrapping_add(size);
     }
 }
 

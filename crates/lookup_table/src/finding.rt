@@ -12,10 +12,7 @@ fn entries_of(table: &[u64], n: u64) -> usize
     ensures { (result ≡ searched table.now n) × (3 * result ≤ length table.now) }
 {
     let room = table.len() / 3;
-    if (room as u64) < n {
-        return room;
-    }
-    n as usize
+    n.min(room as u64) as usize
 }
 
 // How far to go: over `half` entries, the last of which is i, where its id is below the one sought.
@@ -26,7 +23,8 @@ fn step(table: &[u64], i: usize, half: usize, id: u64) -> usize
     if table[3 * i] < id { half } else { 0 }
 }
 
-// The first of n entries whose id is not below the one sought, where the ids rise.
+// The first of n entries whose id is not below the one sought, where the ids rise. `partition_point` needs a slice with an entry
+// in each element, and takes a branch on each id.
 fn first_from(table: &[u64], n: usize, id: u64) -> usize
     requires { 3 * n ≤ length table.now }
     ensures { Between table.now n id result 0 }

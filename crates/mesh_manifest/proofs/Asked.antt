@@ -1,6 +1,6 @@
--- The answers to the questions, each by the tests that lead to it; v is what the judge gave.
+-- The answers to the questions, each by the tests that lead to it; e is what the judge answered.
 use Prim.Native.Nat.{ℕ, ◌+◌, ◌*◌, ◌/◌, ◌≤◌, ◌<◌}
-use mathlib.Core.Path.{◌≡◌, sym, ap, ◌∙◌}
+use mathlib.Core.Path.{◌≡◌, ap, ◌∙◌}
 use mathlib.Core.Bool.{Bool, true, false, not}
 use mathlib.Core.List.{List, [], ◌∷◌}
 use native.Mathlib.Omega.{arith}
@@ -15,9 +15,11 @@ use Rattle.mesh_manifest.specs.layout.Bits.{real_at}
 use Rattle.mesh_manifest.specs.zorder.Order.{z_before}
 use Rattle.mesh_manifest.specs.sound.Verdict.{in_order_of, manifest_verdict, manifest_answer}
 use Rattle.mesh_manifest.specs.Fields.{header_at, header_answer, field_at, field_checks, field_answer}
-use Rattle.mesh_manifest.specs.declared.sound.ManifestAnswer.TheVariants as M
 use Rattle.mesh_manifest.specs.declared.Header.{Header}
-use Rattle.mesh_manifest.specs.declared.HeaderAnswer.TheVariants as H
+use Rattle.std.specs.Prelude.{Ok, Err}
+use Rattle.refusal.specs.Answers.{Answer, refuse}
+use Rattle.refusal.specs.declared.Refusal.{Refusal}
+use Rattle.refusal.specs.Answers.{judged}
 use Rattle.mesh_manifest.specs.declared.Field.TheVariants as F
 use Rattle.mesh_manifest.specs.declared.Field.{Field}
 use Rattle.mesh_manifest.proofs.sound.Judged.{fails, passes, passed, refused, given, refused-first, given-first, told-sound}
@@ -38,46 +40,43 @@ header_read s p q r t u v = rw (p, q, r, t, u, v)
 
 -- ---- answers
 
-module _ (s : List ℕ) {v : ℕ} (e : v ≡ manifest_verdict s) where
-  pub check-refused : (v ≡ 0 → ⊥) → M.Refused v ≡ manifest_answer s
-  unfolding manifest_answer
-  check-refused n = refused M.Refused s e M.Sound n
+-- the check is the judge's answer
+pub checked : (s : List ℕ) {a : Answer (Unit {0})} → a ≡ judged (manifest_verdict s) → a ≡ manifest_answer s
+unfolding manifest_answer manifest_verdict
+checked s e = e
 
-  pub check_sound : v ≡ 0 → M.Sound ≡ manifest_answer s
-  unfolding manifest_answer
-  check_sound z = given M.Refused s e M.Sound z
-
-  pub header_refused : (v ≡ 0 → ⊥) → H.Refused v ≡ header_answer s
+module _ (s : List ℕ) {k : Refusal} (e : Err k ≡ judged (manifest_verdict s)) where
+  pub header_refused : Err k ≡ header_answer s
   unfolding header_answer
-  header_refused n = refused H.Refused s e (H.Header (header_at s)) n
+  header_refused = refused s e Err (Ok (header_at s))
 
-  pub header-given : v ≡ 0 → {h : Header} → h ≡ header_at s → H.Header h ≡ header_answer s
+  pub field-refused : (i : ℕ) → Err k ≡ field_answer s i
+  unfolding field_answer field_checks
+  field-refused i = refused-first s e Err _ (Ok (field_at s i))
+
+module _ (s : List ℕ) (z : manifest_verdict s ≡ 0) where
+  pub header-given : {h : Header} → h ≡ header_at s → Ok h ≡ header_answer s
   unfolding header_answer
-  header-given z g = ap H.Header g ∙ given H.Refused s e (H.Header (header_at s)) z
+  header-given g = ap Ok g ∙ given s z refuse (Ok (header_at s))
 
   module _ (i : ℕ) where
-    pub field-refused : (v ≡ 0 → ⊥) → F.Refused v ≡ field_answer s i
+    own : answered refuse (check 18 (not (ltb i (field_count s))) ∷ []) (Ok (field_at s i)) ≡ field_answer s i
     unfolding field_answer field_checks
-    field-refused n = refused-first F.Refused s e _ (field_at s i) n
+    own = given-first s z refuse _ (Ok (field_at s i))
 
-    module _ (z : v ≡ 0) where
-      own : answered F.Refused (check 18 (not (ltb i (field_count s))) ∷ []) (field_at s i) ≡ field_answer s i
-      unfolding field_answer field_checks
-      own = given-first F.Refused s e _ (field_at s i) z
+    pub field-none : length s / 4 ≤ i → refuse 18 ≡ field_answer s i
+    field-none h =
+        let g : field_count s ≤ i = omega (arith, sound-ends s z) in
+        fails refuse (Ok (field_at s i)) 17 (not (ltb i (field_count s))) [] (ap not (le-ltb i (field_count s) g)) ∙ own
 
-      pub field-none : length s / 4 ≤ i → F.Refused 18 ≡ field_answer s i
-      field-none h =
-          let g : field_count s ≤ i = omega (arith, sound-ends s (sym e ∙ z)) in
-          fails F.Refused (field_at s i) 17 (not (ltb i (field_count s))) [] (ap not (le-ltb i (field_count s) g)) ∙ own
+    pub field-within : i < length s / 4 → i < field_count s
+    field-within h = omega (arith, sound-ends s z)
 
-      pub field-within : i < length s / 4 → i < field_count s
-      field-within h = omega (arith, sound-ends s (sym e ∙ z))
-
-      pub field-given : {x : Field} → x ≡ field_at s i → i < length s / 4 → x ≡ field_answer s i
-      field-given g h =
-          g ∙ passed F.Refused (field_at s i)
-          ∙ passes F.Refused (field_at s i) 18 (not (ltb i (field_count s))) [] (ap not (lt-ltb i (field_count s) (field-within h)))
-          ∙ own
+    pub field-given : {x : Field} → x ≡ field_at s i → i < length s / 4 → Ok x ≡ field_answer s i
+    field-given g h =
+        ap Ok g ∙ passed refuse (Ok (field_at s i))
+        ∙ passes refuse (Ok (field_at s i)) 18 (not (ltb i (field_count s))) [] (ap not (lt-ltb i (field_count s) (field-within h)))
+        ∙ own
 
 module _ (s : List ℕ) (i : ℕ) {v : ℕ} {p : Bool} (e : v ≡ levels_of s) (f : p ≡ is_real_of v i) where
   pub field-real : p ≡ true → {x : Float} → x ≡ real_at s i → F.Real x ≡ field_at s i
@@ -89,11 +88,8 @@ module _ (s : List ℕ) (i : ℕ) {v : ℕ} {p : Bool} (e : v ≡ levels_of s) (
   field-whole t g = let q : is_real_of (levels_of s) i ≡ false = cc in rw q (ap F.Whole g)
 
 pub ruleset asked = (
-  check-refused,
-  check_sound,
-  header_refused,
+  checked,
   header-given,
-  field-refused,
   field-none,
   field-given,
   field-within,

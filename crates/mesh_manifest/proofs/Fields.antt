@@ -16,8 +16,8 @@ use Rattle.mesh_manifest.specs.layout.Bits.{real_at}
 use Rattle.mesh_manifest.specs.sound.Verdict.{manifest_checks, manifest_verdict}
 use Rattle.mesh_manifest.specs.Fields.{header_at, header_answer, field_at, field_checks, field_answer}
 use Rattle.mesh_manifest.specs.declared.Header.{Header}
-use Rattle.mesh_manifest.specs.declared.HeaderAnswer.{HeaderAnswer}
-use Rattle.mesh_manifest.specs.declared.HeaderAnswer.TheVariants as H
+use Rattle.std.specs.Prelude.{Ok, Err}
+use Rattle.refusal.specs.Answers.{Answer, refuse}
 use Rattle.mesh_manifest.specs.declared.Field.{Field}
 use Rattle.mesh_manifest.specs.declared.Field.TheVariants as F
 use Rattle.mesh_manifest.proofs.layout.Patterns.{bits_back, real-number}
@@ -26,10 +26,10 @@ use Rattle.mesh_manifest.proofs.sound.Sounds.{sound-if, sound-ends}
 use Rattle.mesh_manifest.proofs.Asked.{field-given}
 
 -- the 32 bits of a field: a real's pattern, or the number itself
-unfoldable pub bits_of : Field → ℕ
-bits_of (F.Real x) = to_bits binary32 x
-bits_of (F.Whole n) = n
-bits_of (F.Refused r) = 0
+unfoldable pub bits_of : Answer Field → ℕ
+bits_of (Ok (F.Real x)) = to_bits binary32 x
+bits_of (Ok (F.Whole n)) = n
+bits_of (Err r) = 0
 
 module _ (s : List ℕ) (sound : manifest_verdict s ≡ 0) where
   pub field-count : 4 * field_count s ≡ length s
@@ -40,14 +40,14 @@ module _ (s : List ℕ) (sound : manifest_verdict s ≡ 0) where
     unfolding real_at manifest_item
     real-bits e = bits_back (manifest_item s i) (le_at-bound 4 s (4 * i) bytes) (subst T (sym ((sound-if s sound).reals i e)) tt)
 
-    given : (b : Bool) → is_real_of (levels_of s) i ≡ b → bits_of (pick b (F.Real (real_at s i)) (F.Whole (manifest_item s i))) ≡ manifest_item s i
+    given : (b : Bool) → is_real_of (levels_of s) i ≡ b → bits_of (Ok (pick b (F.Real (real_at s i)) (F.Whole (manifest_item s i)))) ≡ manifest_item s i
     unfolding bits_of
     given true e = real-bits e
     given false e = refl
 
     pub field-bits : bits_of (field_answer s i) ≡ manifest_item s i
     unfolding field_at
-    field-bits = ap bits_of (sym (field-given s (sym sound) i refl refl (omega (arith, sound-ends s sound)))) ∙ given (is_real_of (levels_of s) i) refl
+    field-bits = ap bits_of (sym (field-given s sound i refl (omega (arith, sound-ends s sound)))) ∙ given (is_real_of (levels_of s) i) refl
 
     -- these bits, lowest byte first, are the file's 4 bytes at that field's place
     pub field-bytes : le 4 (bits_of (field_answer s i)) ≡ take 4 (drop (4 * i) s)
@@ -61,11 +61,11 @@ unfolding real_at
 number s sound i e = real-number (manifest_item s i) (subst T (sym ((sound-if s sound).reals i e)) tt)
 
 -- one of the header's: f takes it, and it stands in item i
-pub header-number : (s : List ℕ) {a : HeaderAnswer} {h : Header} → a ≡ header_answer s → a ≡ H.Header h
+pub header-number : (s : List ℕ) {a : Answer Header} {h : Header} → a ≡ header_answer s → a ≡ Ok h
     → (f : Header → Float) (i : ℕ) → f (header_at s) ≡ real_at s i → i < 6 → T (not (is_nan (f h)))
 unfolding header_answer manifest_verdict is_real_of
 header-number s {a} {h} e g f i q l =
-    let z = unrefused H.Refused (manifest_checks s) (H.Header (header_at s)) (λ k p. cc) (sym e ∙ g) in
+    let z = unrefused refuse (manifest_checks s) (Ok (header_at s)) (λ k p. cc) (sym e ∙ g) in
     let w : h ≡ header_at s = cc z.1 in
     subst (λ (x : Float). T (not (is_nan x))) (sym (ap f w ∙ q)) (number s z.0 i (rw (lt-ltb i 6 l)))
 
@@ -73,9 +73,9 @@ is_real : (b : Bool) (x y : Float) (n : ℕ) → F.Real x ≡ pick b (F.Real y) 
 is_real true x y n e = (refl, cc)
 is_real false x y n e = let z : ◌≡◌ {A = ℕ} 0 1 = cc in absurd (omega arith)
 
-pub field-number : (s : List ℕ) (i : ℕ) {a : Field} {x : Float} → a ≡ field_answer s i → a ≡ F.Real x → T (not (is_nan x))
+pub field-number : (s : List ℕ) (i : ℕ) {a : Answer Field} {x : Float} → a ≡ field_answer s i → a ≡ Ok (F.Real x) → T (not (is_nan x))
 unfolding field_answer field_checks field_at
 field-number s i {a} {x} e g =
-    let z = unrefused F.Refused (field_checks s i) (field_at s i) (λ k p. cc) (sym e ∙ g) in
-    let r = is_real (is_real_of (levels_of s) i) x (real_at s i) (manifest_item s i) z.1 in
+    let z = unrefused refuse (field_checks s i) (Ok (field_at s i)) (λ k p. cc) (sym e ∙ g) in
+    let r = is_real (is_real_of (levels_of s) i) x (real_at s i) (manifest_item s i) (cc z.1) in
     subst (λ (x : Float). T (not (is_nan x))) (sym r.1) (number s (none-sound s _ z.0).0 i r.0)

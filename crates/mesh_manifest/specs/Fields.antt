@@ -1,5 +1,5 @@
 -- The header and the fields of a manifest. Each call judges 15, 16 and 17 first; 18 is the field's own.
-use Rattle.std.specs.Prelude.{ℕ, not, List, [], ◌∷◌, ◌++◌, ltb}
+use Rattle.std.specs.Prelude.{ℕ, not, List, [], ◌∷◌, ◌++◌, ltb, Ok, Err}
 use Rattle.std.specs.Float.{binary32}
 use Rattle.std.specs.Float.Ieee.{to_bits}
 use Rattle.refusal.specs.Choice.{pick}
@@ -9,8 +9,8 @@ use Rattle.mesh_manifest.specs.layout.Layout.{manifest_item, levels_of, is_real_
 use Rattle.mesh_manifest.specs.layout.Bits.{real_at}
 use Rattle.mesh_manifest.specs.sound.Verdict.{manifest_checks}
 use Rattle.mesh_manifest.specs.declared.Header.{Header}
-use Rattle.mesh_manifest.specs.declared.HeaderAnswer.{HeaderAnswer}
-use Rattle.mesh_manifest.specs.declared.HeaderAnswer.TheVariants as H
+use Rattle.refusal.specs.Answers.{Answer, refuse}
+use Rattle.refusal.specs.Table.{number_of}
 use Rattle.mesh_manifest.specs.declared.Field.{Field}
 use Rattle.mesh_manifest.specs.declared.Field.TheVariants as F
 
@@ -26,12 +26,12 @@ header_at s =
       origin_z = real_at s 5;
     }
 
-unfoldable pub header_answer : List ℕ → HeaderAnswer
-header_answer s = answered H.Refused (manifest_checks s) (H.Header (header_at s))
+unfoldable pub header_answer : List ℕ → Answer Header
+header_answer s = answered refuse (manifest_checks s) (Ok (header_at s))
 
-abbrev pub header_result : HeaderAnswer → Result Header
-header_result (H.Header header) = success header
-header_result (H.Refused k) = refused k
+abbrev pub header_result : Answer Header → Result Header
+header_result (Ok header) = success header
+header_result (Err k) = refused (number_of k)
 
 -- "A field asked for by number is answered as a real or as a whole number, by its kind." (RULES M6)
 unfoldable pub field_at : List ℕ → ℕ → Field
@@ -41,11 +41,11 @@ field_at s i = pick (is_real_of (levels_of s) i) (F.Real (real_at s i)) (F.Whole
 unfoldable pub field_checks : List ℕ → ℕ → List Check
 field_checks s i = manifest_checks s ++ (check 18 (not (ltb i (field_count s))) ∷ [])
 
-unfoldable pub field_answer : List ℕ → ℕ → Field
-field_answer s i = answered F.Refused (field_checks s i) (field_at s i)
+unfoldable pub field_answer : List ℕ → ℕ → Answer Field
+field_answer s i = answered refuse (field_checks s i) (Ok (field_at s i))
 
 -- its kind, 1 for a real and 0 for a whole number; and the number, of a real that of its pattern
-abbrev pub field_result : Field → Result (ℕ × ℕ)
-field_result (F.Real x) = success (1, to_bits binary32 x)
-field_result (F.Whole n) = success (0, n)
-field_result (F.Refused k) = refused k
+abbrev pub field_result : Answer Field → Result (ℕ × ℕ)
+field_result (Ok (F.Real x)) = success (1, to_bits binary32 x)
+field_result (Ok (F.Whole n)) = success (0, n)
+field_result (Err k) = refused (number_of k)

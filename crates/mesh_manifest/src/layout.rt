@@ -23,15 +23,14 @@ pub fn count(s: &[u8], levels: usize, level: usize) -> usize
 }
 
 // How many nodes the levels before `level` have together.
+#[tactic(auto, using(crate::proofs::layout::Loops::loops))]
 pub fn nodes_before(s: &[u8], levels: usize, level: usize) -> usize
     requires { (levels ≡ levels_of s.now) × (levels ≤ 32) × (level ≤ levels) × (28 + 20 * levels ≤ length s.now) }
     ensures { (result ≡ nodes_before s.now level) × (result ≤ 137438953472) }
 {
     let mut total: usize = 0;
-    let mut l = 0;
-    while l < level {
+    for l in 0..level {
         total += count(s, levels, l);
-        l += 1;
     }
     total
 }

@@ -3,26 +3,23 @@
 ghost use Rattle.std.specs.Prelude.{◌≡◌};
 ghost use Rattle.mesh_manifest.specs.level.Level.{nodes_answer, nodes_left};
 
-use refusal::Written;
+use refusal::Refusal;
 
 // All nodes of a level, in node order: x, y, z, start and size of its fragment for each. The answer is how many numbers were written.
-pub fn nodes_of(bytes: &[u8], level: u32, out: &mut [u64]) -> Written
+pub fn nodes_of(bytes: &[u8], level: u32, out: &mut [u64]) -> Result<usize, Refusal>
     ensures answer { result ≡ nodes_answer bytes.now level out.old }
     ensures out { out.new ≡ nodes_left bytes.now level out.old }
 {
-    let verdict = crate::judge::judge(bytes);
-    if verdict != 0 {
-        return Written::Refused(verdict);
-    }
+    crate::judge::judge(bytes)?;
     let l = level as usize;
     let levels = crate::layout::item(bytes, 6) as usize;
     if l >= levels {
-        return Written::Refused(18);
+        return Err(Refusal::NoSuchNode);
     }
     let n = crate::layout::count(bytes, levels, l);
     if out.len() < 5 * n {
-        return Written::Refused(13);
+        return Err(Refusal::NoRoom);
     }
     crate::node_numbers::put_level(bytes, levels, l, n, out);
-    Written::Length(5 * n)
+    Ok(5 * n)
 }

@@ -18,10 +18,10 @@ ghost use Rattle.std.specs.Prelude.{◌≡◌};
 ghost use Rattle.mesh_manifest.specs.sound.Verdict.{manifest_answer};
 ghost use Rattle.mesh_manifest.specs.Fields.{header_answer, field_answer};
 
-use crate::sound::ManifestAnswer;
 pub use corners::corners_of;
 pub use level::nodes_of;
 pub use nodes::node_of;
+use refusal::Refusal;
 
 // Chunk shape and grid origin.
 #[derive(Clone, Copy)]
@@ -34,53 +34,36 @@ pub struct Header {
     pub origin_z: f32,
 }
 
-#[derive(Clone, Copy)]
-pub enum HeaderAnswer {
-    Header(Header),
-    Refused(u8),
-}
-
 // One 4-byte item, by its kind.
 #[derive(Clone, Copy)]
 pub enum Field {
     Real(f32),
     Whole(u32),
-    Refused(u8),
 }
 
 // Whether the bytes are a manifest: sound, or the first of the refusals 15, 16, 17.
-pub fn check_manifest(bytes: &[u8]) -> ManifestAnswer
+pub fn check_manifest(bytes: &[u8]) -> Result<(), Refusal>
     ensures answer { result ≡ manifest_answer bytes.now }
 {
-    let verdict = judge::judge(bytes);
-    if verdict != 0 {
-        return ManifestAnswer::Refused(verdict);
-    }
-    ManifestAnswer::Sound
+    judge::judge(bytes)
 }
 
 // Chunk shape and grid origin.
-pub fn header_of(bytes: &[u8]) -> HeaderAnswer
+pub fn header_of(bytes: &[u8]) -> Result<Header, Refusal>
     ensures answer { result ≡ header_answer bytes.now }
 {
-    let verdict = judge::judge(bytes);
-    if verdict != 0 {
-        return HeaderAnswer::Refused(verdict);
-    }
-    HeaderAnswer::Header(judge::header(bytes))
+    judge::judge(bytes)?;
+    Ok(judge::header(bytes))
 }
 
 // The field of that number, counted from 0 in file order; 18 where there is none.
-pub fn field_of(bytes: &[u8], number: u32) -> Field
+pub fn field_of(bytes: &[u8], number: u32) -> Result<Field, Refusal>
     ensures answer { result ≡ field_answer bytes.now number }
 {
-    let verdict = judge::judge(bytes);
-    if verdict != 0 {
-        return Field::Refused(verdict);
-    }
+    judge::judge(bytes)?;
     let i = number as usize;
     if i >= bytes.len() / 4 {
-        return Field::Refused(18);
+        return Err(Refusal::NoSuchNode);
     }
-    field_kinds::field(bytes, i)
+    Ok(field_kinds::field(bytes, i))
 }

@@ -28,12 +28,10 @@ fn put_nodes(s: &[u8], first: usize, n: usize, start: u64, out: &mut [u64])
     ensures { out.new ≡ paste 0 (numbers_from (node_from s.now first n start) 0 n) out.old }
 {
     let mut at = start;
-    let mut i = 0;
-    while i < n {
+    for i in 0..n {
         let node = node_in(s, first, n, i, at);
         put_node(out, 5 * i, node);
         at += node.size as u64;
-        i += 1;
     }
 }
 

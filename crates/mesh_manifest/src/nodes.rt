@@ -4,6 +4,8 @@ pub mod inner;
 ghost use Rattle.std.specs.Prelude.{◌≡◌};
 ghost use Rattle.mesh_manifest.specs.nodes.Nodes.{node_answer};
 
+use refusal::Refusal;
+
 // A node's position, and its fragment: the bytes from start up to start + size of the fragment data.
 #[derive(Clone, Copy)]
 pub struct Node {
@@ -14,22 +16,13 @@ pub struct Node {
     pub size: u32,
 }
 
-#[derive(Clone, Copy)]
-pub enum NodeAnswer {
-    Node(Node),
-    Refused(u8),
-}
-
 // A node of a level, both counted from 0; 18 where there is none.
-pub fn node_of(bytes: &[u8], level: u32, node: u32) -> NodeAnswer
+pub fn node_of(bytes: &[u8], level: u32, node: u32) -> Result<Node, Refusal>
     ensures answer { result ≡ node_answer bytes.now level node }
 {
-    let verdict = crate::judge::judge(bytes);
-    if verdict != 0 {
-        return NodeAnswer::Refused(verdict);
-    }
+    crate::judge::judge(bytes)?;
     if !inner::has_node(bytes, level as usize, node as usize) {
-        return NodeAnswer::Refused(18);
+        return Err(Refusal::NoSuchNode);
     }
-    NodeAnswer::Node(inner::node(bytes, level as usize, node as usize))
+    Ok(inner::node(bytes, level as usize, node as usize))
 }

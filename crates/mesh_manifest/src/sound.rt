@@ -6,13 +6,8 @@ ghost use Rattle.mesh_manifest.specs.sound.Verdict.{right_length};
 
 use crate::layout::{item, nodes_before};
 
-#[derive(Clone, Copy)]
-pub enum ManifestAnswer {
-    Sound,
-    Refused(u8),
-}
-
 // Refusal 15 does not hold.
+#[tactic(auto, using(crate::proofs::sound::Ways::ways))]
 pub fn right_length(s: &[u8]) -> bool
     ensures { result ≡ right_length s.now }
 {
@@ -33,6 +28,7 @@ pub fn right_length(s: &[u8]) -> bool
 }
 
 // Whether item i holds a real.
+#[tactic(auto, using(crate::proofs::sound::Ways::ways))]
 pub fn is_real(levels: usize, i: usize) -> bool
     requires { levels ≤ 32 }
     ensures { result ≡ is_real_of levels i }

@@ -8,6 +8,7 @@ ghost use Rattle.mesh_manifest.specs.sound.Verdict.{real_fits, reals_fit, in_ord
 use crate::layout::{above_zero, count, finite_bits, item};
 use crate::sound::is_real;
 
+#[tactic(auto, using(crate::proofs::sound::Ways::ways))]
 fn real_fits(s: &[u8], levels: usize, i: usize) -> bool
     requires { (levels ≡ levels_of s.now) × (levels ≤ 32) × (4 * i + 4 ≤ length s.now) }
     ensures { result ≡ real_fits s.now i }
@@ -18,21 +19,21 @@ fn real_fits(s: &[u8], levels: usize, i: usize) -> bool
     true
 }
 
+#[tactic(auto, using(crate::proofs::layout::Loops::loops))]
 fn each_real_fits(s: &[u8], levels: usize) -> bool
     requires { (levels ≡ levels_of s.now) × (levels ≤ 32) × (28 + 20 * levels ≤ length s.now) }
     ensures { result ≡ every (real_fits s.now) (7 + 4 * levels) }
 {
-    let mut i = 0;
-    while i < 7 + 4 * levels {
+    for i in 0..7 + 4 * levels {
         if !real_fits(s, levels, i) {
             return false;
         }
-        i += 1;
     }
     true
 }
 
 // Refusal 16 does not hold.
+#[tactic(auto, using(crate::proofs::sound::Ways::ways))]
 pub fn reals_fit(s: &[u8], levels: usize) -> bool
     requires { (levels ≡ levels_of s.now) × (levels ≤ 32) × (28 + 20 * levels ≤ length s.now) }
     ensures { result ≡ reals_fit s.now }
@@ -63,34 +64,34 @@ fn in_order(s: &[u8], first: usize, n: usize, i: usize) -> bool
     crate::zorder::before(ax, ay, az, bx, by, bz)
 }
 
+// Not inlined: within the judge of a shard this loop, the longest over a manifest, would lack registers.
+#[inline(never)]
+#[tactic(auto, using(crate::proofs::layout::Loops::loops), unfolding(crate::specs::sound::Verdict::level_rises))]
 fn level_rises(s: &[u8], first: usize, n: usize) -> bool
     requires { 4 * (first + 4 * n) ≤ length s.now }
     ensures { result ≡ level_rises s.now first n }
 {
-    let mut i = 0;
-    while i + 1 < n {
+    for i in 0..n.saturating_sub(1) {
         if !in_order(s, first, n, i) {
             return false;
         }
-        i += 1;
     }
     true
 }
 
 // Refusal 17 does not hold.
+#[tactic(auto, using(crate::proofs::layout::Loops::loops))]
 pub fn nodes_rise(s: &[u8], levels: usize) -> bool
     requires { (levels ≡ levels_of s.now) × (levels ≤ 32) × (length s.now ≡ 4 * field_count s.now) }
     ensures { result ≡ nodes_rise s.now }
 {
     let mut first = 7 + 5 * levels;
-    let mut l = 0;
-    while l < levels {
+    for l in 0..levels {
         let n = count(s, levels, l);
         if !level_rises(s, first, n) {
             return false;
         }
         first += 4 * n;
-        l += 1;
     }
     true
 }

@@ -7,12 +7,8 @@ use Rattle.refusal.specs.Checks.{first_number, unless}
 use Rattle.morton.specs.declared.grid.Extents.{Extents}
 use Rattle.morton.specs.declared.grid.Cell.{Cell}
 use Rattle.morton.specs.declared.grid.Volume.{Volume}
-use Rattle.morton.specs.declared.grid.GridAnswer.{GridAnswer}
-use Rattle.morton.specs.declared.grid.GridAnswer.TheVariants.{Grid, Refused as GridRefused}
-use Rattle.morton.specs.declared.KeyAnswer.{KeyAnswer}
-use Rattle.morton.specs.declared.KeyAnswer.TheVariants.{Refused as KeyRefused}
-use Rattle.morton.specs.declared.CellAnswer.{CellAnswer}
-use Rattle.morton.specs.declared.CellAnswer.TheVariants.{Refused as CellRefused}
+use Rattle.std.specs.Prelude.{Ok}
+use Rattle.refusal.specs.Answers.{Answer, refuse}
 use Rattle.morton.specs.grid.Grid.{grid_size, grid_of, has_zero, zero_extent, in_grid}
 use Rattle.morton.specs.axis.Axis.{used}
 use Rattle.morton.specs.Key.{step, steps, key_bits_of, too_many_bits}
@@ -39,10 +35,10 @@ example = record { size = extents 6446 6643 8090; chunk = extents 64 64 64; offs
 
 -- what is asked of a volume, and the answer
 pub data Case : Type 0 where
-  grid : Volume → GridAnswer → Case
+  grid : Volume → Answer Extents → Case
   bits : Volume → ℕ → Case
-  key : Volume → Cell → KeyAnswer → Case
-  at : Volume → ℕ → CellAnswer → Case
+  key : Volume → Cell → Answer ℕ → Case
+  at : Volume → ℕ → Answer Cell → Case
 
 -- the case with the answer that the definitions give
 abbrev pub defined : Case → Case
@@ -53,16 +49,16 @@ defined (at v k a) = at v k (cell_answer v k)
 
 abbrev pub table : List Case
 table =
-    grid example (Grid (extents 101 104 127))
+    grid example (Ok (extents 101 104 127))
     ∷ bits example 21
     ∷ bits (plain 5 3 1) 5
-    ∷ key (plain 5 3 1) (cell 5 2 0) (KeyRefused 2)
+    ∷ key (plain 5 3 1) (cell 5 2 0) (refuse 2)
     ∷ bits (plain 1 1 1) 0
-    ∷ grid (plain 0 3 1) (GridRefused 2)
-    ∷ key (plain 0 3 1) (cell 0 0 0) (KeyRefused 2)
-    ∷ at (plain 0 3 1) 0 (CellRefused 2)
-    ∷ key (plain (2 ^ 22) (2 ^ 22) (2 ^ 21)) (cell (2 ^ 22) 0 0) (KeyRefused 2)
-    ∷ grid shifted (Grid (extents 2 1 1))
+    ∷ grid (plain 0 3 1) (refuse 2)
+    ∷ key (plain 0 3 1) (cell 0 0 0) (refuse 2)
+    ∷ at (plain 0 3 1) 0 (refuse 2)
+    ∷ key (plain (2 ^ 22) (2 ^ 22) (2 ^ 21)) (cell (2 ^ 22) 0 0) (refuse 2)
+    ∷ grid shifted (Ok (extents 2 1 1))
     ∷ []
 
 pub cases_hold : map defined table ≡ table

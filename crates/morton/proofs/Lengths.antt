@@ -1,5 +1,5 @@
 -- The bits of a key are those of its axes.
-use Prim.Native.Nat.{ℕ, zero, suc, ◌+◌, ◌≤◌}
+use Prim.Native.Nat.{ℕ, zero, suc, ◌+◌, max}
 use mathlib.Core.Path.{◌≡◌, refl, ◌∙◌}
 use native.Mathlib.Omega.{arith}
 use native.Mathlib.Nat.{le_trans}
@@ -23,10 +23,10 @@ module _ (g : Extents) {a b d : ℕ} (x : AxisBits g.x a) (y : AxisBits g.y b) (
   key-bits-sum = omega (arith, key-bits_by_axis g)
 
   -- as many turns as the longest axis has bits
-  pub top_of : {m r : ℕ} → a ≤ m → b ≤ m → m ≤ r → d ≤ r → r ≤ 32 → Top g r
-  top_of p q s t h =
+  pub top_of : Top g (max (max a b) d)
+  top_of =
       record {
-        most = h;
+        most = omega (arith, x.most, y.most, z.most);
         x = le_trans x.holds (pow_mono (omega arith));
         y = le_trans y.holds (pow_mono (omega arith));
         z = le_trans z.holds (pow_mono (omega arith));

@@ -13,8 +13,8 @@ use Rattle.morton.specs.declared.grid.Volume.{Volume}
 use Rattle.morton.specs.grid.Grid.{grid_of, zero_extent, in_grid}
 use Rattle.morton.proofs.grid.Ways.{tested, none_2, outside_2, a_cell}
 use Rattle.morton.proofs.axis.Used.{one_shl}
-use Rattle.morton.specs.declared.KeyAnswer.TheVariants.{Key, Refused as KeyRefused}
-use Rattle.morton.specs.declared.CellAnswer.TheVariants.{At, Refused as CellRefused}
+use Rattle.std.specs.Prelude.{Ok}
+use Rattle.refusal.specs.Answers.{refuse}
 use Rattle.morton.specs.Key.{key_bits_of, too_many_bits, key_of, cell_of, is_key}
 use Rattle.morton.specs.Answers.{key_answer, cell_answer}
 use Rattle.morton.proofs.Answered.{key_by_picks, cell_by_picks}
@@ -22,40 +22,40 @@ use Rattle.morton.proofs.Answered.{key_by_picks, cell_by_picks}
 -- ---- the entry points: z is whether an extent is 0, g the grid, o whether the cell is inside, t whether there are too many key bits
 module _ (v : Volume) {z : Bool} (ez : z ≡ zero_extent v) where
   module _ (c : Cell) where
-    pub key_2 : z ≡ true → KeyRefused 2 ≡ key_answer v c
+    pub key_2 : z ≡ true → refuse 2 ≡ key_answer v c
     key_2 h = rw (key_by_picks v c, none_2 v ez c h)
 
     module _ (nz : z ≡ false) {g : Extents} (eg : g ≡ grid_of v) {o : Bool} (eo : o ≡ in_grid g c) where
-      pub key_2_cell : not o ≡ true → KeyRefused 2 ≡ key_answer v c
+      pub key_2_cell : not o ≡ true → refuse 2 ≡ key_answer v c
       key_2_cell h = rw (key_by_picks v c, outside_2 v ez c nz eg eo h)
 
       module _ (no : not o ≡ false) where
-        pub key_3 : {t : Bool} → t ≡ too_many_bits g → t ≡ true → KeyRefused 3 ≡ key_answer v c
+        pub key_3 : {t : Bool} → t ≡ too_many_bits g → t ≡ true → refuse 3 ≡ key_answer v c
         key_3 et h = rw (key_by_picks v c, a_cell v ez c nz eg eo no, ← eg, ← et, h)
 
-        pub key-yes : {t : Bool} {k : ℕ} → t ≡ too_many_bits g → t ≡ false → k ≡ key_of g c → Key k ≡ key_answer v c
+        pub key-yes : {t : Bool} {k : ℕ} → t ≡ too_many_bits g → t ≡ false → k ≡ key_of g c → Ok k ≡ key_answer v c
         key-yes et h ek = rw (key_by_picks v c, a_cell v ez c nz eg eo no, ← eg, ← et, h, ek)
 
   module _ (key : ℕ) where
-    pub cell_2 : z ≡ true → CellRefused 2 ≡ cell_answer v key
+    pub cell_2 : z ≡ true → refuse 2 ≡ cell_answer v key
     cell_2 h = rw (cell_by_picks v key, sym ez ∙ h)
 
     module _ (nz : z ≡ false) {g : Extents} (eg : g ≡ grid_of v) {t : Bool} (et : t ≡ too_many_bits g) where
-      pub cell_3 : t ≡ true → CellRefused 3 ≡ cell_answer v key
+      pub cell_3 : t ≡ true → refuse 3 ≡ cell_answer v key
       cell_3 h = rw (cell_by_picks v key, tested v ez nz, ← eg, ← et, h)
 
       module _ (nt : t ≡ false) {b : ℕ} (eb : b ≡ key_bits_of g) {p : Bool} (ep : p ≡ leb (2 ^ b) key) where
-        pub cell_4_key : p ≡ true → CellRefused 4 ≡ cell_answer v key
+        pub cell_4_key : p ≡ true → refuse 4 ≡ cell_answer v key
         unfolding is_key
         cell_4_key h = rw (cell_by_picks v key, tested v ez nz, ← eg, ← et, nt, ← eb, le-ltb _ _ (leb-true _ _ (sym ep ∙ h)))
 
         module _ (np : p ≡ false) {c : Cell} (ec : c ≡ cell_of g key) {o : Bool} (eo : o ≡ in_grid g c) where
-          pub cell_4_cell : not o ≡ true → CellRefused 4 ≡ cell_answer v key
+          pub cell_4_cell : not o ≡ true → refuse 4 ≡ cell_answer v key
           unfolding is_key
           cell_4_cell h =
               rw (cell_by_picks v key, tested v ez nz, ← eg, ← et, nt, ← eb, lt-ltb _ _ (leb-false _ _ (sym ep ∙ np)), ← ec, sym eo ∙ not-true o h)
 
-          pub cell-yes : not o ≡ false → At c ≡ cell_answer v key
+          pub cell-yes : not o ≡ false → Ok c ≡ cell_answer v key
           unfolding is_key
           cell-yes h =
               rw (cell_by_picks v key, tested v ez nz, ← eg, ← et, nt, ← eb, lt-ltb _ _ (leb-false _ _ (sym ep ∙ np)), ← ec, sym eo ∙ not-false o h)

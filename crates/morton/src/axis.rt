@@ -18,7 +18,7 @@ pub fn put_bit(g: u32, v: u32, i: u32, k: u64) -> u64
     ensures { result ≡ put (used g i) (bit_of v i) k % 2 ^ 64 }
 {
     if uses(g, i) {
-        (k << 1) + ((v >> i) % 2) as u64
+        (k << 1) + u64::from((v >> i) % 2)
     } else {
         k
     }
@@ -47,5 +47,5 @@ pub fn axis_bits(g: u32) -> u32
     if g == 0 {
         return 0;
     }
-    32 - u32::leading_zeros(g - 1)
+    32 - (g - 1).leading_zeros()
 }

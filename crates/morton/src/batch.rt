@@ -6,10 +6,10 @@ ghost use Rattle.morton.specs.Key.{key_bits_of, key_of};
 ghost use Rattle.morton.specs.batch.Batch.{cell_at, cells_of, each_in_grid, keys_answer, keys_left};
 
 use crate::grid::{Cell, Extents, Volume, inner};
-use refusal::Written;
+use refusal::Refusal;
 
 // The cell whose three numbers begin at `at`.
-fn cell_at(cells: &[u32], at: usize) -> Cell
+pub(crate) fn cell_at(cells: &[u32], at: usize) -> Cell
     requires { at + 3 ≤ length cells.now }
     ensures { result ≡ cell_at cells.now at }
 {
@@ -24,48 +24,45 @@ fn cell_at(cells: &[u32], at: usize) -> Cell
 pub fn all_inside(grid: Extents, cells: &[u32]) -> bool
     ensures { result ≡ each_in_grid grid (cells_of cells.now) }
 {
-    let mut i = 0;
-    while i < cells.len() / 3 {
+    let n = cells.len() / 3;
+    for i in 0..n {
         if !inner::inside(grid, cell_at(cells, 3 * i)) {
             return false;
         }
-        i += 1;
     }
     true
 }
 
+#[tactic(auto, using(crate::proofs::batch::Threes::key_next, crate::proofs::batch::Threes::key_past))]
 fn fill_keys(grid: Extents, cells: &[u32], keys: &mut [u64])
-    requires grid_bound { key_bits_of grid ≤ 64 }
+    requires key_fits { key_bits_of grid ≤ 64 }
     requires cells_in_bounds { length cells.now / 3 ≤ length keys.old }
     ensures { keys.new ≡ paste 0 (map (key_of grid) (cells_of cells.now)) keys.old }
 {
-    let n = cells.len() / 3;
-    let mut i = 0;
-    while i < n {
+    for i in 0..cells.len() / 3 {
         keys[i] = crate::steps::key(grid, cell_at(cells, 3 * i));
-        i += 1;
     }
 }
 
 // The keys of cells, three numbers for each, and how many: 2 where an extent is 0 or any cell is
 // outside, 3 where the grid needs more than 64 key bits, 13 where the keys do not fit.
-pub fn keys_of(volume: Volume, cells: &[u32], keys: &mut [u64]) -> Written
+pub fn keys_of(volume: Volume, cells: &[u32], keys: &mut [u64]) -> Result<usize, Refusal>
     ensures answer { result ≡ keys_answer volume (cells_of cells.now) keys.old }
     ensures keys { keys.new ≡ keys_left volume (cells_of cells.now) keys.old }
 {
     if inner::zero_extent(volume) {
-        return Written::Refused(2);
+        return Err(Refusal::NoSuchCell);
     }
     let grid = inner::grid(volume);
     if !all_inside(grid, cells) {
-        return Written::Refused(2);
+        return Err(Refusal::NoSuchCell);
     }
     if crate::steps::too_many_bits(grid) {
-        return Written::Refused(3);
+        return Err(Refusal::TooManyKeyBits);
     }
     if keys.len() < cells.len() / 3 {
-        return Written::Refused(13);
+        return Err(Refusal::NoRoom);
     }
     fill_keys(grid, cells, keys);
-    Written::Length(cells.len() / 3)
+    Ok(cells.len() / 3)
 }

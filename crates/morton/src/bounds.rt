@@ -5,6 +5,7 @@ ghost use Rattle.morton.specs.bounds.Bounds.{cell_begin, cell_end, begin_point, 
 ghost use Rattle.morton.specs.bounds.Answers.{bounds_answer};
 
 use crate::grid::{Cell, Volume, inner};
+use refusal::Refusal;
 
 // A place in voxels.
 #[repr(C)]
@@ -20,12 +21,6 @@ pub struct Point {
 pub struct Bounds {
     pub begin: Point,
     pub end: Point,
-}
-
-#[derive(Clone, Copy)]
-pub enum BoundsAnswer {
-    Within(Bounds),
-    Refused(u8),
 }
 
 // `by` past the offset.
@@ -50,11 +45,7 @@ fn reach(size: u32, chunk: u32, g: u32) -> u64
     ensures { result ≡ min ((g + 1) * chunk) size }
 {
     let full = g as u64 * chunk as u64 + chunk as u64;
-    if full < size as u64 {
-        full
-    } else {
-        size as u64
-    }
+    full.min(size as u64)
 }
 
 // Where it ends.
@@ -94,16 +85,16 @@ fn end_point(volume: Volume, cell: Cell) -> Point
 }
 
 // Where a cell begins and ends, or 2 where there is no such cell.
-pub fn bounds_of(volume: Volume, cell: Cell) -> BoundsAnswer
+pub fn bounds_of(volume: Volume, cell: Cell) -> Result<Bounds, Refusal>
     ensures answer { result ≡ bounds_answer volume cell }
 {
     if inner::zero_extent(volume) {
-        return BoundsAnswer::Refused(2);
+        return Err(Refusal::NoSuchCell);
     }
     if !inner::inside(inner::grid(volume), cell) {
-        return BoundsAnswer::Refused(2);
+        return Err(Refusal::NoSuchCell);
     }
     let begin = begin_point(volume, cell);
     let end = end_point(volume, cell);
-    BoundsAnswer::Within(Bounds { begin, end })
+    Ok(Bounds { begin, end })
 }

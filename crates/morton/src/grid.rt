@@ -6,7 +6,7 @@ pub use sizes::grid_of;
 
 // How far something reaches along each axis, in voxels or in cells.
 #[repr(C)]
-#[derive(Clone, Copy)]
+#[derive(Clone, Copy, PartialEq, Eq)]
 pub struct Extents {
     pub x: u32,
     pub y: u32,
@@ -38,10 +38,4 @@ pub struct Volume {
     pub size: Extents,
     pub chunk: Extents,
     pub offset: Offset,
-}
-
-#[derive(Clone, Copy)]
-pub enum GridAnswer {
-    Grid(Extents),
-    Refused(u8),
 }

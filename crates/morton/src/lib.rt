@@ -19,15 +19,3 @@ pub use grid::grid_of;
 pub use keys::{cell_of, key_of};
 pub use scan::keys_of;
 pub use scan::row::row_keys;
-
-#[derive(Clone, Copy)]
-pub enum KeyAnswer {
-    Key(u64),
-    Refused(u8),
-}
-
-#[derive(Clone, Copy)]
-pub enum CellAnswer {
-    At(Cell),
-    Refused(u8),
-}

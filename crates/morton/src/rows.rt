@@ -27,10 +27,7 @@ pub fn row_inside(grid: Extents, from: u32, to: u32, y: u32, z: u32) -> bool
 pub fn row_length(from: u32, to: u32) -> usize
     ensures { result ≡ to - from }
 {
-    if to <= from {
-        return 0;
-    }
-    (to - from) as usize
+    to.saturating_sub(from) as usize
 }
 
 // What y and z give to the turns below n.

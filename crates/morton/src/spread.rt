@@ -12,19 +12,13 @@ pub fn low_bits(v: u64, n: u32) -> u64
     v & ((1u64 << n) - 1)
 }
 
-fn wide(x: u32) -> u64
-    ensures { result ≡ x }
-{
-    x as u64
-}
-
 // A byte's bits, each three places after the last.
 fn spread_byte(table: &[u32], b: u64) -> u64
     requires { Spreads table.now × (b < 256) }
     ensures { (result ≡ spread 8 b) × (result < 16777216) }
 {
     let i = b as usize;
-    wide(table[i])
+    u64::from(table[i])
 }
 
 // The same of the lowest n bits of v, a byte at a time.

@@ -31,33 +31,24 @@ pub fn volume_key_bits(volume: Volume) -> u32
     key_bits(grid(volume))
 }
 
-// Enough turns for both of two axes.
-fn most(a: u32, b: u32) -> u32
-    requires { (a ≤ 32) × (b ≤ 32) }
-    ensures { (a ≤ result) × (b ≤ result) × (result ≤ 32) }
-{
-    if a < b { b } else { a }
-}
-
 // As many turns as some axis uses: no later turn uses any.
+#[tactic(auto, using(crate::proofs::Lengths::top_of))]
 fn turns(grid: Extents) -> u32
     ensures { Top grid result }
 {
-    most(
-        most(axis::axis_bits(grid.x), axis::axis_bits(grid.y)),
-        axis::axis_bits(grid.z),
-    )
+    axis::axis_bits(grid.x)
+        .max(axis::axis_bits(grid.y))
+        .max(axis::axis_bits(grid.z))
 }
 
 // The key of a cell, from its highest bit down.
+#[tactic(auto, using(crate::proofs::Turns::packed_none, crate::proofs::Turns::packed_more, crate::proofs::Turns::packed_all))]
 pub fn key(grid: Extents, cell: Cell) -> u64
     requires { key_bits_of grid ≤ 64 }
     ensures { result ≡ key_of grid cell }
 {
-    let mut i = turns(grid);
     let mut k = 0u64;
-    while 0 < i {
-        i -= 1;
+    for i in (0..turns(grid)).rev() {
         k = axis::put_bit(grid.z, cell.z, i, k);
         k = axis::put_bit(grid.y, cell.y, i, k);
         k = axis::put_bit(grid.x, cell.x, i, k);
@@ -66,23 +57,21 @@ pub fn key(grid: Extents, cell: Cell) -> u64
 }
 
 // The cell that the key's used bits make, inside the grid or not.
+#[tactic(auto, using(crate::proofs::Turns::read_none))]
 pub fn cell(grid: Extents, key: u64) -> Cell
     ensures { result ≡ cell_of grid key }
 {
-    let n = turns(grid);
-    let mut i = 0u32;
     let mut k = key;
     let mut x = 0u32;
     let mut y = 0u32;
     let mut z = 0u32;
-    while i < n {
+    for i in 0..turns(grid) {
         x += axis::low_bit(grid.x, i, k);
         k = axis::rest_key(grid.x, i, k);
         y += axis::low_bit(grid.y, i, k);
         k = axis::rest_key(grid.y, i, k);
         z += axis::low_bit(grid.z, i, k);
         k = axis::rest_key(grid.z, i, k);
-        i += 1;
     }
     Cell { x, y, z }
 }

@@ -33,33 +33,30 @@ unfolding finished
 finished-words s = first-words (summed (mixed (summed s))).h1 (summed (mixed (summed s))).h2 _ (h1-below (mixed (summed s))) (h2-below (mixed (summed s)))
 
 -- the hash, from the two words of the number
-pub murmur-words : {n a b r : ℕ} → Fits w64 n → a ≡ tail1 (n % 2 ^ 32) → b ≡ tail2 (n / 2 ^ 32) →
+pub murmur_words : {n a b r : ℕ} → Fits w64 n → a ≡ tail1 (n % 2 ^ 32) → b ≡ tail2 (n / 2 ^ 32) →
     r ≡ le_at 8 (finished (lengthened (record { h1 = bit_xor seed a; h2 = bit_xor seed b; h3 = seed; h4 = seed }))) 0 → r ≡ murmur_hash n
 unfolding murmur_hash murmur3
-murmur-words {n} f p q e = rw (k1_low n, k2_high n f.fits, ← p, ← q) e
+murmur_words {n} f p q e = rw (k1_low n, k2_high n f.fits, ← p, ← q) e
 
 -- ---- the steps, each from the results of its calls
 
-pub total_made : (a b c d : ℕ) {x y r : ℕ} → r ≡ add32 y d → y ≡ add32 x c → x ≡ add32 a b → r ≡ add32 (add32 (add32 a b) c) d
-total_made a b c d p q s = rw (p, q, s)
-
-pub mixed-word : (h : ℕ) {a b : ℕ} → b ≡ mul32 (shift_xor a 13) 0xc2b2ae35 → a ≡ mul32 (shift_xor h 16) 0x85ebca6b → shift_xor b 16 ≡ fmix32 h
+pub mixed_word : (h : ℕ) {a b : ℕ} → b ≡ mul32 (shift_xor a 13) 0xc2b2ae35 → a ≡ mul32 (shift_xor h 16) 0x85ebca6b → shift_xor b 16 ≡ fmix32 h
 unfolding fmix32
-mixed-word h p q = rw (p, q)
+mixed_word h p q = rw (p, q)
 
-pub tail1-made : (k : ℕ) {a b r : ℕ} → r ≡ mul32 b c2 → b ≡ rotl32 a 15 → a ≡ mul32 k c1 → r ≡ tail1 k
-tail1-made k p q s = rw (p, q, s)
+pub tail1_made : (k : ℕ) {a b r : ℕ} → r ≡ mul32 b c2 → b ≡ rotl32 a 15 → a ≡ mul32 k c1 → r ≡ tail1 k
+tail1_made k p q s = rw (p, q, s)
 
-pub tail2-made : (k : ℕ) {a b r : ℕ} → r ≡ mul32 b c3 → b ≡ rotl32 a 16 → a ≡ mul32 k c2 → r ≡ tail2 k
-tail2-made k p q s = rw (p, q, s)
+pub tail2_made : (k : ℕ) {a b r : ℕ} → r ≡ mul32 b c3 → b ≡ rotl32 a 16 → a ≡ mul32 k c2 → r ≡ tail2 k
+tail2_made k p q s = rw (p, q, s)
 
-pub finish-made : (h1 h2 h3 h4 : ℕ) {all s2 s3 s4 m1 m2 m3 m4 first second r : ℕ} → r ≡ first + 2 ^ 32 * second → second ≡ add32 m2 first
-    → first ≡ add32 (add32 (add32 m1 m2) m3) m4 → m1 ≡ fmix32 all → m2 ≡ fmix32 s2 → m3 ≡ fmix32 s3 → m4 ≡ fmix32 s4
-    → s2 ≡ add32 h2 all → s3 ≡ add32 h3 all → s4 ≡ add32 h4 all → all ≡ add32 (add32 (add32 h1 h2) h3) h4
+pub finish_made : (h1 h2 h3 h4 : ℕ) {all m1 m2 m3 m4 first r : ℕ} → r ≡ first + 2 ^ 32 * add32 m2 first
+    → first ≡ add32 (add32 (add32 m1 m2) m3) m4 → m1 ≡ fmix32 all → m2 ≡ fmix32 (add32 h2 all) → m3 ≡ fmix32 (add32 h3 all) → m4 ≡ fmix32 (add32 h4 all)
+    → all ≡ add32 (add32 (add32 h1 h2) h3) h4
     → r ≡ le_at 8 (finished (record { h1 = h1; h2 = h2; h3 = h3; h4 = h4 })) 0
 unfolding summed
-finish-made h1 h2 h3 h4 e f g p1 p2 p3 p4 q2 q3 q4 a =
-    rw (finished-words (record { h1 = h1; h2 = h2; h3 = h3; h4 = h4 }), e, f, g, p1, p2, p3, p4, q2, q3, q4, a)
+finish_made h1 h2 h3 h4 e g p1 p2 p3 p4 a =
+    rw (finished-words (record { h1 = h1; h2 = h2; h3 = h3; h4 = h4 }), e, g, p1, p2, p3, p4, a)
 
 -- ---- products
 
@@ -69,8 +66,8 @@ product-below k {a} {b} ha hb =
     (lt_of_le_of_lt (mul-le-mul_left a (le_of_lt hb)) (mul-lt-mul_of_pos_right ha (pow_pos k)))
 
 -- the product of two halves is a word
-pub product-fits : {a b : ℕ} → a < 65536 → b < 65536 → Fits w32 (a * b)
-product-fits p q = record { fits = product-below 16 p q }
+pub product_fits : {a b : ℕ} → a < 65536 → b < 65536 → Fits w32 (a * b)
+product_fits p q = record { fits = product-below 16 p q }
 
 -- the product of two words, by their halves
 by-halves : (p q r s : ℕ) → (p + 65536 * q) * (r + 65536 * s) ≡ p * r + 65536 * (q * r + p * s) + 2 ^ 32 * (q * s)
@@ -87,9 +84,9 @@ by-halves p q r s =
     )
 
 -- the low product and the two middle ones are what is left of it in a word
-pub product_halves : {a b x y z m r : ℕ} → Fits w32 a → Fits w32 b → x ≡ (a % 65536) * (b % 65536) → y ≡ (a / 2 ^ 16) * (b % 65536) → z ≡ (a % 65536) * (b / 2 ^ 16) →
-    m ≡ add32 y z → r ≡ add32 x ((m * 2 ^ 16) % 2 ^ 32) → r ≡ mul32 a b
-product_halves {a} {b} {x} {y} {z} f g p q s t e =
+pub product_halves : {a b x y z : ℕ} → Fits w32 a → Fits w32 b → x ≡ (a % 65536) * (b % 65536) → y ≡ (a / 2 ^ 16) * (b % 65536) → z ≡ (a % 65536) * (b / 2 ^ 16) →
+    add32 x ((add32 y z * 2 ^ 16) % 2 ^ 32) ≡ mul32 a b
+product_halves {a} {b} {x} {y} {z} f g p q s =
     let h : a * b ≡ x + 65536 * (y + z) + 2 ^ 32 * ((a / 2 ^ 16) * (b / 2 ^ 16)) =
     rw (p, q, s) (ap₂ ◌*◌ (omega arith) (omega arith) ∙ by-halves (a % 65536) (a / 2 ^ 16) (b % 65536) (b / 2 ^ 16)) in
     omega arith

@@ -16,13 +16,8 @@ const C2: u32 = 0xab0e_9789;
 
 const C3: u32 = 0x38b3_4ae5;
 
-fn sum(a: u32, b: u32) -> u32
-    ensures { result ≡ add32 a b }
-{
-    std::num::wrapping_add_u32(a, b)
-}
-
 // The one place that multiplies. A product of two factors below 65,536 is a number of 32 bits.
+#[tactic(auto, using(crate::proofs::Words::product_fits))]
 fn times(a: u32, b: u32) -> u32
     requires a_bound { a < 65536 }
     requires b_bound { b < 65536 }
@@ -31,43 +26,35 @@ fn times(a: u32, b: u32) -> u32
     a * b
 }
 
-// By 16-bit halves. The product of the two upper ones lies above the 32 bits that are kept.
+// By 16-bit halves and no wrapping_mul, as docs/RULES.md S4 asks. The product of the two upper ones lies above the 32 bits that are kept.
+#[tactic(auto, using(crate::proofs::Words::product_halves))]
 fn product(a: u32, b: u32) -> u32
     ensures { result ≡ mul32 a b }
 {
     let low = times(a % 65536, b % 65536);
     let upper_lower = times(a >> 16, b % 65536);
     let lower_upper = times(a % 65536, b >> 16);
-    let middle = sum(upper_lower, lower_upper);
-    sum(low, middle << 16)
-}
-
-fn rotate_15(x: u32) -> u32
-    ensures { result ≡ rotl32 x 15 }
-{
-    x << 15 | x >> 17
-}
-
-fn rotate_16(x: u32) -> u32
-    ensures { result ≡ rotl32 x 16 }
-{
-    x << 16 | x >> 16
+    let middle = upper_lower.wrapping_add(lower_upper);
+    low.wrapping_add(middle << 16)
 }
 
 // The tail's k1, from bytes 0 to 3.
+#[tactic(auto, using(crate::proofs::Words::tail1_made))]
 fn mix_k1(k: u32) -> u32
     ensures { result ≡ tail1 k }
 {
-    product(rotate_15(product(k, C1)), C2)
+    product(product(k, C1).rotate_left(15), C2)
 }
 
 // The tail's k2, from bytes 4 to 7.
+#[tactic(auto, using(crate::proofs::Words::tail2_made))]
 fn mix_k2(k: u32) -> u32
     ensures { result ≡ tail2 k }
 {
-    product(rotate_16(product(k, C2)), C3)
+    product(product(k, C2).rotate_left(16), C3)
 }
 
+#[tactic(auto, using(crate::proofs::Words::mixed_word))]
 fn mix(h: u32) -> u32
     ensures { result ≡ fmix32 h }
 {
@@ -79,7 +66,7 @@ fn mix(h: u32) -> u32
 fn total(a: u32, b: u32, c: u32, d: u32) -> u32
     ensures { result ≡ add32 (add32 (add32 a b) c) d }
 {
-    sum(sum(sum(a, b), c), d)
+    a.wrapping_add(b).wrapping_add(c).wrapping_add(d)
 }
 
 fn join(low: u32, high: u32) -> u64
@@ -89,18 +76,20 @@ fn join(low: u32, high: u32) -> u64
 }
 
 // The finalisation. Only the first two words of the result are joined.
+#[tactic(auto, using(crate::proofs::Words::finish_made))]
 fn finish(h1: u32, h2: u32, h3: u32, h4: u32) -> u64
     ensures { result ≡ le_at 8 (finished (record { h1 = h1; h2 = h2; h3 = h3; h4 = h4 })) 0 }
 {
     let all = total(h1, h2, h3, h4);
     let m1 = mix(all);
-    let m2 = mix(sum(h2, all));
-    let m3 = mix(sum(h3, all));
-    let m4 = mix(sum(h4, all));
+    let m2 = mix(h2.wrapping_add(all));
+    let m3 = mix(h3.wrapping_add(all));
+    let m4 = mix(h4.wrapping_add(all));
     let first = total(m1, m2, m3, m4);
-    join(first, sum(m2, first))
+    join(first, m2.wrapping_add(first))
 }
 
+#[tactic(auto, using(crate::proofs::Words::murmur_words))]
 pub fn hash(n: u64) -> u64
     ensures { result ≡ murmur_hash n }
 {

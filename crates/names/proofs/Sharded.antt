@@ -1,5 +1,6 @@
 -- Laws of shard names: their length, and that two numbers of one specification never share one.
-use Prim.Native.Nat.{ℕ, zero, suc, ◌+◌, ◌-◌, ◌*◌, ◌/◌, ◌^◌, ◌≤◌, ◌<◌}
+use Prim.Native.Nat.{ℕ, zero, suc, ◌+◌, ◌-◌, ◌*◌, ◌^◌, ◌≤◌, ◌<◌, max}
+use Rattle.std.specs.Int.{div_ceil}
 use mathlib.Core.Path.{◌≡◌, refl, sym, ap, ◌∙◌}
 use mathlib.Core.Bool.{true}
 use mathlib.Core.List.{List, ◌++◌}
@@ -24,13 +25,13 @@ pub length-file-name : (kind : FileKind) (spec : Sharding) (n : ℕ) → length 
 unfolding file_name
 length-file-name kind spec n = rw (length-append, length_digits 16 (shard_digits spec) n)
 
-pub digits-none : (spec : Sharding) → shard_bits_of spec ≡ 0 → 1 ≡ shard_digits spec
+pub digits_made : (spec : Sharding) → max (div_ceil (shard_bits_of spec) 4) 1 ≡ shard_digits spec
 unfolding shard_digits
-digits-none spec e = rw e
+digits_made spec = omega arith
 
-pub digits-some : (spec : Sharding) → (shard_bits_of spec ≡ 0 → ⊥) → (shard_bits_of spec + 3) / 4 ≡ shard_digits spec
+pub digits_most : (spec : Sharding) → shard_bits_of spec < 256 → shard_digits spec ≤ 64
 unfolding shard_digits
-digits-some spec f = let p : 0 < shard_bits_of spec = omega (arith, f) in omega arith
+digits_most spec h = omega arith
 
 digits-one : (spec : Sharding) → 0 < shard_digits spec
 unfolding shard_digits
@@ -78,8 +79,6 @@ plain_in_name spec n h =
     (ap (λ (k : ℕ). digits 16 k n) e ∙ padded 16 (shard_digits spec - digit_count 16 n) (digit_count 16 n) n (lit< tt) (count-holds 16 (lit< tt) n))
 
 -- ---- what the functions need
-
-pub ruleset counting = (digits-none, digits-some, rules)
 
 pub past_all : (spec : Sharding) (n : ℕ) {k : ℕ} → k ≡ shard_count_of spec → leb k n ≡ no_such_shard spec n
 past_all spec n e = ap (λ (k : ℕ). leb k n) e

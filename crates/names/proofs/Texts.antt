@@ -9,7 +9,7 @@ use mir.Syntax.{w64}
 use mir.Val.{Fits}
 use Rattle.endian.specs.Place.{paste}
 use Rattle.refusal.specs.Buffer.{written}
-use Rattle.refusal.specs.declared.Written.TheVariants.{Length}
+use Rattle.std.specs.Prelude.{Ok}
 use Rattle.endian.proofs.Buffer.{too_long_lem, kept_whole, how_long, at_front}
 use Rattle.endian.proofs.Paste.{paste-then, length-paste}
 
@@ -60,7 +60,7 @@ module _ (s d : List ℕ) (n : ℕ) (e : n ≡ length s) (h : n ≤ length d) wh
   pub front-room : 0 + length s ≤ length d
   front-room = omega arith
 
-  pub front-end : (k : ℕ) → k ≡ 0 + length s → Length k ≡ written s d
+  pub front-end : (k : ℕ) → k ≡ 0 + length s → Ok k ≡ written s d
   front-end k q = how_long s d k (omega arith) (omega arith)
 
 pub ruleset fronting = (too_long_lem, kept_whole, front-room, front-end, at_front, rules)

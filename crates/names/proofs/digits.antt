@@ -1,3 +1,2 @@
 pub mod Numerals
-pub mod Absolute
 pub mod Signing

@@ -1,9 +1,8 @@
 -- The names of a shard's files (RULES S6).
-use Rattle.std.specs.Prelude.{ℕ, ◌+◌, ◌/◌, max, not, List, [], ◌∷◌, ◌++◌, length}
+use Rattle.std.specs.Prelude.{ℕ, ◌+◌, ◌/◌, max, not, List, [], ◌∷◌, ◌++◌, length, Ok}
 use Rattle.refusal.specs.Checks.{Check, check, answered, left}
 use Rattle.refusal.specs.Buffer.{room, over}
-use Rattle.refusal.specs.declared.Written.{Written}
-use Rattle.refusal.specs.declared.Written.TheVariants.{Length, Refused}
+use Rattle.refusal.specs.Answers.{Answer, refuse}
 use Rattle.sharding.specs.Specification.{shard_bits_of, allowed, no_such_shard}
 use Rattle.sharding.specs.declared.Sharding.{Sharding}
 use Rattle.names.specs.digits.Digits.{digits}
@@ -33,8 +32,8 @@ file_name_checks kind spec shard out =
     ∷ []
 
 -- it answers the name's length
-unfoldable pub file_name_answer : FileKind → Sharding → ℕ → List ℕ → Written
-file_name_answer kind spec shard out = answered Refused (file_name_checks kind spec shard out) (Length (length (file_name kind spec shard)))
+unfoldable pub file_name_answer : FileKind → Sharding → ℕ → List ℕ → Answer ℕ
+file_name_answer kind spec shard out = answered refuse (file_name_checks kind spec shard out) (Ok (length (file_name kind spec shard)))
 
 -- and leaves the name at the front of the buffer
 unfoldable pub file_name_left : FileKind → Sharding → ℕ → List ℕ → List ℕ
@@ -48,7 +47,7 @@ shard_name spec shard = file_name Shard spec shard
 abbrev pub shard_name_checks : Sharding → ℕ → List ℕ → List Check
 shard_name_checks spec shard out = file_name_checks Shard spec shard out
 
-abbrev pub shard_name_answer : Sharding → ℕ → List ℕ → Written
+abbrev pub shard_name_answer : Sharding → ℕ → List ℕ → Answer ℕ
 shard_name_answer spec shard out = file_name_answer Shard spec shard out
 
 abbrev pub shard_name_left : Sharding → ℕ → List ℕ → List ℕ

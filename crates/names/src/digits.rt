@@ -1,9 +1,9 @@
 // Numbers as text: digits in a base of at most 16, decimal numbers with their sign.
 
-ghost use Rattle.std.specs.Prelude.{◌≡◌, ◌+◌, ◌<◌, ◌≤◌, nat_abs, length};
+ghost use Rattle.std.specs.Prelude.{◌≡◌, ◌+◌, ◌<◌, ◌≤◌, length};
 ghost use Rattle.endian.specs.Place.{paste};
-ghost use Rattle.names.specs.digits.Digits.{digit_byte, digits, digit_count, decimal};
-ghost use Rattle.names.specs.digits.Signs.{negative, sign_parts, signed_text};
+ghost use Rattle.names.specs.digits.Digits.{digit_byte, digits, decimal};
+ghost use Rattle.names.specs.digits.Signs.{sign_parts, signed_text};
 
 use endian;
 
@@ -14,6 +14,7 @@ pub struct Signed {
     pub magnitude: u64,
 }
 
+#[tactic(auto, using(crate::proofs::digits::Numerals::digit_low, crate::proofs::digits::Numerals::digit_high))]
 fn digit(d: u64) -> u8
     requires { d < 16 }
     ensures { result ≡ digit_byte d }
@@ -26,37 +27,23 @@ fn digit(d: u64) -> u8
 }
 
 // The count lowest digits of v, from the last one forward.
+#[tactic(auto, using(crate::proofs::digits::Numerals::rem_small, crate::proofs::digits::Numerals::digits_next, crate::proofs::digits::Numerals::digits_done))]
 pub fn put_digits(out: &mut [u8], at: usize, base: u64, count: usize, v: u64)
     requires { (0 < base) × (base ≤ 16) × (at + count ≤ length out.old) }
     ensures { out.new ≡ paste at (digits base count v) out.old }
 {
-    let mut i = at + count;
     let mut w = v;
-    while at < i {
-        i -= 1;
+    for i in (at..at + count).rev() {
         out[i] = digit(w % base);
-        w = w / base;
+        w /= base;
     }
 }
 
-// How many digits v has without a zero in front.
-fn digit_count(v: u64, base: u64) -> usize
-    requires { 1 < base }
-    ensures { result ≡ digit_count base v }
-{
-    let mut n: usize = 1;
-    let mut w = v;
-    while base <= w {
-        w = w / base;
-        n += 1;
-    }
-    n
-}
-
+#[tactic(auto, using(crate::proofs::digits::Numerals::decimal_count, crate::proofs::digits::Numerals::decimal_zero, crate::proofs::digits::Numerals::decimal_twenty))]
 fn decimal_len(v: u64) -> usize
     ensures { (result ≡ length (decimal v)) × (result ≤ 20) }
 {
-    digit_count(v, 10)
+    if v == 0 { 1 } else { v.ilog10() as usize + 1 }
 }
 
 // Each writer of text answers the place after it.
@@ -70,28 +57,16 @@ pub fn put_decimal(out: &mut [u8], at: usize, v: u64) -> usize
     at + n
 }
 
-fn below_zero(z: i64) -> bool
-    ensures { result ≡ negative z }
-{
-    z < 0
-}
-
-// In two steps where z is negative: the least i64 has no i64 of its magnitude.
-fn magnitude(z: i64) -> u64
-    ensures { result ≡ nat_abs z }
-{
-    if z < 0 { (-1 - z) as u64 + 1 } else { z as u64 }
-}
-
 pub fn signed_of(z: i64) -> Signed
     ensures { result ≡ sign_parts z }
 {
     Signed {
-        negative: below_zero(z),
-        magnitude: magnitude(z),
+        negative: z.is_negative(),
+        magnitude: z.unsigned_abs(),
     }
 }
 
+#[tactic(auto, using(crate::proofs::digits::Signing::signing))]
 pub fn signed_len(n: Signed) -> usize
     ensures { (result ≡ length (signed_text n)) × (result ≤ 21) }
 {
@@ -99,6 +74,7 @@ pub fn signed_len(n: Signed) -> usize
     if n.negative { k + 1 } else { k }
 }
 
+#[tactic(auto, using(crate::proofs::digits::Signing::signing))]
 pub fn put_signed(out: &mut [u8], at: usize, n: Signed) -> usize
     requires { at + length (signed_text n) ≤ length out.old }
     ensures value { result ≡ at + length (signed_text n) }

@@ -16,13 +16,11 @@ pub fn no_such_shard(spec: Sharding, shard: u64) -> bool
 }
 
 // How many digits a shard number is padded to.
+#[tactic(auto, using(crate::proofs::Sharded::digits_made, crate::proofs::Sharded::digits_most))]
 pub fn shard_digits(spec: Sharding) -> usize
     ensures { (result ≡ shard_digits spec) × (result ≤ 64) }
 {
-    if spec.shard_bits == 0 {
-        return 1;
-    }
-    (spec.shard_bits as usize + 3) / 4
+    usize::from(spec.shard_bits).div_ceil(4).max(1)
 }
 
 pub fn suffix_len(kind: FileKind) -> usize

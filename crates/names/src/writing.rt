@@ -7,7 +7,7 @@ ghost use Rattle.names.specs.Shards.{suffix_of, file_name, file_name_answer, fil
 
 use crate::FileKind;
 use endian;
-use refusal::Written;
+use refusal::Refusal;
 use sharding::Sharding;
 
 // `.sha` and `rd`, `.ind` and `ex`, `.dat` and `a`, as the numbers whose bytes they are.
@@ -43,26 +43,26 @@ pub fn put_file_name(out: &mut [u8], at: usize, spec: Sharding, shard: u64, kind
 }
 
 // The name of one of a shard's files at the front of the buffer.
-fn file_name(spec: Sharding, shard: u64, kind: FileKind, out: &mut [u8]) -> Written
+fn file_name(spec: Sharding, shard: u64, kind: FileKind, out: &mut [u8]) -> Result<usize, Refusal>
     ensures value { result ≡ written (file_name kind spec shard) out.old }
     ensures out_after { out.new ≡ left_by (file_name kind spec shard) out.old }
 {
     if out.len() < crate::lengths::file_name_len(spec, kind) {
-        return Written::Refused(13);
+        return Err(Refusal::NoRoom);
     }
-    Written::Length(put_file_name(out, 0, spec, shard, kind))
+    Ok(put_file_name(out, 0, spec, shard, kind))
 }
 
 // The same, refused with 1 or 5 first.
-pub fn name_of(spec: Sharding, shard: u64, kind: FileKind, out: &mut [u8]) -> Written
+pub fn name_of(spec: Sharding, shard: u64, kind: FileKind, out: &mut [u8]) -> Result<usize, Refusal>
     ensures answer { result ≡ file_name_answer kind spec shard out.old }
     ensures out { out.new ≡ file_name_left kind spec shard out.old }
 {
     if !sharding::limits::is_allowed(spec) {
-        return Written::Refused(1);
+        return Err(Refusal::ShardingNotAllowed);
     }
     if crate::lengths::no_such_shard(spec, shard) {
-        return Written::Refused(5);
+        return Err(Refusal::NoSuchShard);
     }
     file_name(spec, shard, kind, out)
 }

@@ -11,8 +11,8 @@ use lib.Seq.{length-take-le}
 use Rattle.refusal.specs.Choice.{pick}
 use Rattle.refusal.specs.Checks.{Check, check, first_number, first_position}
 use Rattle.refusal.specs.Buffer.{room}
-use Rattle.refusal.specs.declared.Written.{Written}
-use Rattle.refusal.specs.declared.Written.TheVariants.{Length as Wrote, Refused as NotWritten}
+use Rattle.std.specs.Prelude.{Ok, Err}
+use Rattle.refusal.specs.Answers.{Answer}
 use Rattle.refusal.proofs.Positions.{Plain}
 use Rattle.endian.specs.Little.{le_at, row_at}
 use Rattle.endian.specs.Range.{any_below, first}
@@ -286,9 +286,9 @@ unlisted-named spec shard file k p e = go (check_answer spec shard file) refl (s
         record { minishard = m; named = t; points = check-points spec shard file k m p t }
 
 module _ (spec : Sharding) (shard : ℕ) (file : List ℕ) (k p : ℕ) where
-  named : (c : CheckAnswer) (w : Written) → check_answer spec shard file ≡ c → after_check N.Refused N.Faulty c (answer_of w) ≡ N.Faulty k p → Named spec shard file k p
-  named Sound (Wrote n) q e = let z : ◌≡◌ {A = ℕ} 0 1 = cc in absurd (omega arith)
-  named Sound (NotWritten n) q e = let z : ◌≡◌ {A = ℕ} 0 1 = cc in absurd (omega arith)
+  named : (c : CheckAnswer) (w : Answer ℕ) → check_answer spec shard file ≡ c → after_check N.Refused N.Faulty c (answer_of w) ≡ N.Faulty k p → Named spec shard file k p
+  named Sound (Ok n) q e = let z : ◌≡◌ {A = ℕ} 0 1 = cc in absurd (omega arith)
+  named Sound (Err n) q e = let z : ◌≡◌ {A = ℕ} 0 1 = cc in absurd (omega arith)
   named (CheckRefused j) w q e = let z : ◌≡◌ {A = ℕ} 0 1 = cc in absurd (omega arith)
   named (Faulty j m i) w q e =
       let u : j ≡ k = cc in

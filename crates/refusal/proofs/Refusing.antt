@@ -6,7 +6,11 @@ use mathlib.Core.Logic.{◌↔◌}
 use mathlib.Core.List.{List, [], ◌∷◌, ◌++◌}
 use native.Mathlib.Omega.{arith}
 use Rattle.refusal.specs.Choice.{pick}
-use Rattle.refusal.specs.Table.{last, InTable}
+use Rattle.refusal.specs.Table.{last, InTable, number_of, refusal_of}
+use Rattle.std.specs.Prelude.{Ok, Err}
+use Rattle.refusal.specs.declared.Refusal.{Refusal}
+use Rattle.refusal.specs.Answers.{Answer, refuse}
+use Rattle.refusal.proofs.Table.{number-in, number-refusal, refusal-number}
 use Rattle.refusal.specs.Checks.{Check, first_number, unless, answered, left}
 use Rattle.refusal.proofs.Picks.{all_in, AllIn, all_in_lem}
 
@@ -103,3 +107,29 @@ unless-kept r (suc n) a after before k never e = refl
 pub keeping : {A B : Type 0} (r : ℕ → A) (checks : List Check) (a : A) (after before : B) (k : ℕ)
     → (a ≡ r k → ◌≡◌ {A = ℕ} 0 1) → answered r checks a ≡ r k → left checks after before ≡ before
 keeping r checks = unless-kept r (first_number checks)
+
+-- ---- answers of the kind `Answer`
+
+-- the answer a is the refusal r exactly when r has the number of the first check that holds
+pub record RefusesBy {A : Type 0} (a : Answer A) (checks : List Check) : Type 0 where
+  pub decided : (r : Refusal) → (a ≡ Err r) ↔ (first_number checks ≡ number_of r)
+
+unless-refuses_by : {A : Type 0} (n : ℕ) (v : A) (checks : List Check) → n ≤ last → first_number checks ≡ n → RefusesBy (unless refuse n (Ok v)) checks
+unfolding unless
+unless-refuses_by zero v checks l e =
+    record { decided = λ r. (λ p. let z : ◌≡◌ {A = ℕ} 0 1 = cc in absurd (omega arith), λ p. let i = number-in r in absurd (omega (arith, i.0))) }
+unless-refuses_by (suc n) v checks l e =
+    record {
+      decided = λ r. (
+        λ p. let z : refusal_of (suc n) ≡ r = cc in e ∙ sym (number-refusal (suc n) (omega arith, l)) ∙ ap number_of z,
+        λ p. ap Err (ap refusal_of (sym e ∙ p) ∙ refusal-number r),
+      );
+    }
+
+-- an answer by checks, or else v, refuses by them
+pub refuses_by : {A : Type 0} (checks : List Check) (v : A) → all_in checks ≡ true → RefusesBy (answered refuse checks (Ok v)) checks
+refuses_by checks v t = unless-refuses_by (first_number checks) v checks (first-most checks (all_in_lem checks t)) refl
+
+-- refused, such a call leaves lent memory as it was
+pub keeping_by : {A B : Type 0} (checks : List Check) (v : A) (after before : B) (r : Refusal) → answered refuse checks (Ok v) ≡ Err r → left checks after before ≡ before
+keeping_by checks v after before r e = keeping refuse checks (Ok v) after before (number_of r) (λ h. cc) (e ∙ ap Err (sym (refusal-number r)))

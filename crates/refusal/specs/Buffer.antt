@@ -1,8 +1,7 @@
 -- A whole answer written at the front of lent memory.
-use Rattle.std.specs.Prelude.{ℕ, List, [], ◌∷◌, ◌++◌, ltb, length, drop}
+use Rattle.std.specs.Prelude.{ℕ, List, [], ◌∷◌, ◌++◌, ltb, length, drop, Ok}
 use Rattle.refusal.specs.Checks.{Check, check, answered, left}
-use Rattle.refusal.specs.declared.Written.{Written}
-use Rattle.refusal.specs.declared.Written.TheVariants.{Length, Refused}
+use Rattle.refusal.specs.Answers.{Answer, refuse}
 
 -- refusal 13: "the output is too short for the whole answer" (RULES R5)
 abbrev pub room : {A : Type 0} → List A → List A → Check
@@ -13,8 +12,8 @@ abbrev pub over : {A : Type 0} → List A → List A → List A
 over s out = s ++ drop (length s) out
 
 -- what a writer of s answers: its length, or 13
-unfoldable pub written : List ℕ → List ℕ → Written
-written s out = answered Refused (room s out ∷ []) (Length (length s))
+unfoldable pub written : List ℕ → List ℕ → Answer ℕ
+written s out = answered refuse (room s out ∷ []) (Ok (length s))
 
 -- what the buffer then holds
 unfoldable pub left_by : List ℕ → List ℕ → List ℕ

@@ -2,5 +2,6 @@
 pub mod Choice
 pub mod Table
 pub mod Checks
+pub mod Answers
 pub mod Result
 pub mod Buffer

@@ -1,10 +1,9 @@
 -- What an answer tells, in one shape for all calls: each kind of answer has a definition that gives it (RULES R1 to R3).
-use Rattle.std.specs.Prelude.{ℕ, ◌≡◌, ◌⊎◌, List}
+use Rattle.std.specs.Prelude.{ℕ, ◌≡◌, ◌⊎◌, List, Ok, Err}
 use Rattle.std.proofs.Math.Option.{Option, none, some}
-use Rattle.refusal.specs.Table.{InTable}
+use Rattle.refusal.specs.Table.{InTable, number_of}
 use Rattle.refusal.specs.Checks.{Check, first_number, first_position}
-use Rattle.refusal.specs.declared.Written.{Written}
-use Rattle.refusal.specs.declared.Written.TheVariants as W
+use Rattle.refusal.specs.Answers.{Answer}
 use Rattle.refusal.specs.declared.CountAnswer.{CountAnswer}
 use Rattle.refusal.specs.declared.CountAnswer.TheVariants as C
 
@@ -40,9 +39,9 @@ pub record DecidedBy {B : Type 0} (checks : List Check) (r : Result B) : Type 0 
 -- ---- the answers of this crate
 
 -- how many were written
-abbrev pub written_result : Written → Result ℕ
-written_result (W.Length n) = success n
-written_result (W.Refused k) = refused k
+abbrev pub written_result : Answer ℕ → Result ℕ
+written_result (Ok n) = success n
+written_result (Err k) = refused (number_of k)
 
 -- how many there are
 abbrev pub count_result : CountAnswer → Result ℕ

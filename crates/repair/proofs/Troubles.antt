@@ -1,5 +1,5 @@
 -- What cannot be taken of two copies, minishard by minishard.
-use Rattle.std.proofs.Common.{◌≡◌, ℕ, zero, suc, ◌+◌, ◌-◌, ◌*◌, ◌<◌, ◌≤◌, Bool, true, false, not, ◌&&◌, eqb, ◌⊎◌, List, length, sym, refl, ap, ◌∙◌, subst, inl, inr, ⊎_elim, true≢false, eq-or-lt_of_le, add-one, arith, rules, falls, eq-eqb, ne_eqb}
+use Rattle.std.proofs.Common.{◌≡◌, ℕ, zero, suc, ◌+◌, ◌-◌, ◌*◌, ◌<◌, ◌≤◌, Bool, true, false, not, ◌&&◌, eqb, ◌⊎◌, List, length, sym, refl, ap, ◌∙◌, subst, inl, inr, ⊎_elim, true≢false, eq-or-lt_of_le, add-one, arith, rules, eq-eqb, ne_eqb}
 use native.Mathlib.Nat.{sub-zero}
 use borrow.Author.Tests.{not-true, not-false, eqb-false}
 use Rattle.sharding.specs.declared.Sharding.{Sharding}
@@ -169,4 +169,4 @@ module _ (f : ℕ → Fault) (n m : ℕ) (h : Looking f n m) where
 pub small-turn : (spec : Sharding) {m n : ℕ} → m < n → n ≤ minishard_count_of spec → m < minishard_count_of spec
 small-turn spec l h = omega arith
 
-pub ruleset looking = (looking_first, looking_next, looking_hit, looking_end, small-turn, falls, rules)
+pub ruleset looking = (looking_first, looking_next, looking_hit, looking_end, small-turn, rules)

@@ -75,8 +75,7 @@ fn first_trouble(
     requires { Pair spec ia.now da.now ib.now db.now × (n ≤ minishard_count_of spec) }
     ensures { result ≡ first_fault (trouble_of spec shard ia.now da.now ib.now db.now) 0 n }
 {
-    let mut m: u64 = 0;
-    while m < n {
+    for m in 0..n {
         let fault = trouble_of(spec, shard, ia, da, ib, db, m);
         if fault.number != 0 {
             return ShardFault {
@@ -85,7 +84,6 @@ fn first_trouble(
                 position: fault.position,
             };
         }
-        m += 1;
     }
     ShardFault {
         number: 0,

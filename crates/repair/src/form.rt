@@ -22,6 +22,7 @@ use sharding::limits::minishard_count;
 // ---- one minishard
 
 // Whether minishard m is sound in a copy.
+#[tactic(auto, using(crate::proofs::form::OneMinishard::judging))]
 pub fn is_sound(spec: Sharding, shard: u64, index: &[u8], data: &[u8], m: usize) -> bool
     requires spec_value { allowed spec ≡ true }
     requires index_len { (length index.now ≡ index_length_of spec) × (length «data».now ≤ most_shard_bytes) }
@@ -33,6 +34,7 @@ pub fn is_sound(spec: Sharding, shard: u64, index: &[u8], data: &[u8], m: usize)
 }
 
 // The length of minishard m, settled.
+#[tactic(auto, using(crate::proofs::form::OneMinishard::choosing))]
 fn length_of_one(
     spec: Sharding,
     shard: u64,
@@ -52,6 +54,7 @@ fn length_of_one(
 }
 
 // Minishard m at the place p, from the copy that is chosen, and its entry in the shard index.
+#[tactic(auto, using(crate::proofs::form::OneMinishard::choosing))]
 fn repair_one(
     spec: Sharding,
     shard: u64,
@@ -77,6 +80,7 @@ fn repair_one(
 
 // ---- n minishards
 
+#[tactic(auto, using(crate::proofs::form::AllMinishards::summing))]
 fn length_of_all(
     spec: Sharding,
     shard: u64,
@@ -90,10 +94,8 @@ fn length_of_all(
     ensures { result ≡ capped (length_by (chosen spec shard ia.now da.now ib.now db.now) n) }
 {
     let mut sum = add_capped(0, 16 * n);
-    let mut m = 0;
-    while m < n {
+    for m in 0..n {
         sum = add_capped(sum, length_of_one(spec, shard, ia, da, ib, db, m));
-        m += 1;
     }
     sum
 }
@@ -114,11 +116,9 @@ fn repair_all(
     ensures out_after { out.new ≡ paste 0 (settled (content_by (chosen spec shard ia.now da.now ib.now db.now) 0 n)) out.old }
 {
     let base = 16 * n;
-    let mut m = 0;
     let mut p = 0;
-    while m < n {
+    for m in 0..n {
         p += repair_one(spec, shard, ia, da, ib, db, base, m, p, out);
-        m += 1;
     }
     base + p
 }
@@ -126,6 +126,7 @@ fn repair_all(
 // ---- the whole
 
 // The length of the repaired form, or 1 GiB and a byte where it is longer than 1 GiB.
+#[tactic(auto, using(crate::proofs::form::AllMinishards::counting))]
 pub fn repaired_length(
     spec: Sharding,
     shard: u64,
@@ -142,6 +143,7 @@ pub fn repaired_length(
 }
 
 // The repaired form, into an output that has room for it.
+#[tactic(auto, using(crate::proofs::form::AllMinishards::counting))]
 pub fn write_repaired(
     spec: Sharding,
     shard: u64,

@@ -20,19 +20,13 @@ fn same_bytes(a: &[u8], i: usize, b: &[u8], j: usize, n: usize) -> bool
     requires { (i + n ≤ length a.now) × (j + n ≤ length b.now) }
     ensures { Tells (take n (drop i a.now) ≡ take n (drop j b.now)) result }
 {
-    let mut k: usize = 0;
-    while k < n {
-        if a[i + k] != b[j + k] {
-            return false;
-        }
-        k += 1;
-    }
-    true
+    a[i..i + n] == b[j..j + n]
 }
 
 // ---- chunks
 
 // Whether two chunks of the same bytes have the same leads, which are then of one length.
+#[tactic(auto, using(crate::proofs::same_listing::Items::leading))]
 fn same_leads(spec: Sharding, a: &[u8], start: usize, size: usize, b: &[u8], from: usize) -> bool
     requires size_in_bounds { (start + size ≤ length a.now) × Led spec a.now start size }
     requires size_in_bounds_2 { (from + size ≤ length b.now) × Led spec b.now from size }
@@ -44,6 +38,7 @@ fn same_leads(spec: Sharding, a: &[u8], start: usize, size: usize, b: &[u8], fro
 }
 
 // Whether two chunks are the same, with their leads.
+#[tactic(auto, using(crate::proofs::same_listing::Items::comparing))]
 fn same_chunk(
     spec: Sharding,
     a: &[u8],
@@ -66,28 +61,6 @@ fn same_chunk(
     same_leads(spec, a, start, size, b, from)
 }
 
-// The same with their ids.
-fn same_item(
-    spec: Sharding,
-    a: &[u8],
-    id: u64,
-    start: usize,
-    size: usize,
-    b: &[u8],
-    own: u64,
-    from: usize,
-    len: usize,
-) -> bool
-    requires size_in_bounds { (start + size ≤ length a.now) × Led spec a.now start size }
-    requires len_in_bounds { (from + len ≤ length b.now) × Led spec b.now from len }
-    ensures { Tells (item_of spec a.now id start size ≡ item_of spec b.now own from len) result }
-{
-    if id != own {
-        return false;
-    }
-    same_chunk(spec, a, start, size, b, from, len)
-}
-
 // ---- entries
 
 // An entry of a minishard index: its id, where its chunk starts, how long it is, and where the next counts from.
@@ -99,49 +72,57 @@ struct Entry {
     end: u64,
 }
 
-// Entry i of the n at p, by the sums of those before it.
-fn read_entry(data: &[u8], p: usize, n: usize, i: usize, id: u64, at: u64) -> Entry
-    requires { ReadableIndex «data».now p n × Walked «data».now p n i id at × (i < n) }
+// What the first entry counts from.
+const NONE: Entry = Entry {
+    id: 0,
+    start: 0,
+    size: 0,
+    end: 0,
+};
+
+// Entry i of the n at p, by the one before it.
+fn read_entry(data: &[u8], p: usize, n: usize, i: usize, before: Entry) -> Entry
+    requires { ReadableIndex «data».now p n × Walked «data».now p n i before.id before.end × (i < n) }
     ensures { EntryRead «data».now p n i result.id result.start result.size result.end }
 {
-    let own = std::num::wrapping_add_u64(id, read_u64(data, p + 8 * i));
-    let start = std::num::wrapping_add_u64(at, read_u64(data, p + 8 * n + 8 * i));
+    let id = before.id.wrapping_add(read_u64(data, p + 8 * i));
+    let start = before.end.wrapping_add(read_u64(data, p + 8 * n + 8 * i));
     let size = read_u64(data, p + 16 * n + 8 * i);
-    let end = std::num::wrapping_add_u64(start, size);
+    let end = start.wrapping_add(size);
     Entry {
-        id: own,
+        id,
         start: start as usize,
         size: size as usize,
         end,
     }
 }
 
-// Whether one of the n entries at p of b is the item.
-fn is_among(
-    spec: Sharding,
-    a: &[u8],
-    id: u64,
-    start: usize,
-    size: usize,
-    b: &[u8],
-    p: usize,
-    n: usize,
-) -> bool
-    requires size_in_bounds { (start + size ≤ length a.now) × Led spec a.now start size }
-    requires readable_index { ReadableIndex b.now p n × LeadsIn spec b.now p n }
-    ensures { Tells (Member (item_of spec a.now id start size) (items_at spec b.now p n)) result }
+// Whether two entries have the same id and the same chunk.
+#[tactic(auto, using(crate::proofs::same_listing::Items::comparing))]
+fn same_item(spec: Sharding, a: &[u8], one: Entry, b: &[u8], other: Entry) -> bool
+    requires one_in_bounds { (one.start + one.size ≤ length a.now) × Led spec a.now one.start one.size }
+    requires other_in_bounds { (other.start + other.size ≤ length b.now) × Led spec b.now other.start other.size }
+    ensures { Tells (item_of spec a.now one.id one.start one.size ≡ item_of spec b.now other.id other.start other.size) result }
 {
-    let mut at: u64 = 0;
-    let mut own: u64 = 0;
-    let mut i: usize = 0;
-    while i < n {
-        let next = read_entry(b, p, n, i, own, at);
-        if same_item(spec, a, id, start, size, b, next.id, next.start, next.size) {
+    if one.id != other.id {
+        return false;
+    }
+    same_chunk(spec, a, one.start, one.size, b, other.start, other.size)
+}
+
+// Whether one of the n entries at p of b is the same as one of a.
+fn is_among(spec: Sharding, a: &[u8], one: Entry, b: &[u8], p: usize, n: usize) -> bool
+    requires one_in_bounds { (one.start + one.size ≤ length a.now) × Led spec a.now one.start one.size }
+    requires readable_index { ReadableIndex b.now p n × LeadsIn spec b.now p n }
+    ensures { Tells (Member (item_of spec a.now one.id one.start one.size) (items_at spec b.now p n)) result }
+{
+    let mut before = NONE;
+    for i in 0..n {
+        let next = read_entry(b, p, n, i, before);
+        if same_item(spec, a, one, b, next) {
             return true;
         }
-        own = next.id;
-        at = next.end;
-        i += 1;
+        before = next;
     }
     false
 }
@@ -152,17 +133,13 @@ fn all_among(spec: Sharding, a: &[u8], p: usize, n: usize, b: &[u8], s: usize, k
     requires readable_index_2 { ReadableIndex b.now s k × LeadsIn spec b.now s k }
     ensures { Tells (AllIn spec a.now p n b.now s k) result }
 {
-    let mut at: u64 = 0;
-    let mut own: u64 = 0;
-    let mut i: usize = 0;
-    while i < n {
-        let next = read_entry(a, p, n, i, own, at);
-        if !is_among(spec, a, next.id, next.start, next.size, b, s, k) {
+    let mut before = NONE;
+    for i in 0..n {
+        let next = read_entry(a, p, n, i, before);
+        if !is_among(spec, a, next, b, s, k) {
             return false;
         }
-        own = next.id;
-        at = next.end;
-        i += 1;
+        before = next;
     }
     true
 }
@@ -173,32 +150,16 @@ fn in_step(spec: Sharding, a: &[u8], p: usize, b: &[u8], s: usize, n: usize) -> 
     requires readable_index_2 { ReadableIndex b.now s n × LeadsIn spec b.now s n }
     ensures { Tells (InStep spec a.now p b.now s n) result }
 {
-    let mut end: u64 = 0;
-    let mut at: u64 = 0;
-    let mut id: u64 = 0;
-    let mut own: u64 = 0;
-    let mut i: usize = 0;
-    while i < n {
-        let one = read_entry(a, p, n, i, id, end);
-        let other = read_entry(b, s, n, i, own, at);
-        if !same_item(
-            spec,
-            a,
-            one.id,
-            one.start,
-            one.size,
-            b,
-            other.id,
-            other.start,
-            other.size,
-        ) {
+    let mut before = NONE;
+    let mut beside = NONE;
+    for i in 0..n {
+        let one = read_entry(a, p, n, i, before);
+        let other = read_entry(b, s, n, i, beside);
+        if !same_item(spec, a, one, b, other) {
             return false;
         }
-        id = one.id;
-        end = one.end;
-        own = other.id;
-        at = other.end;
-        i += 1;
+        before = one;
+        beside = other;
     }
     true
 }
@@ -206,6 +167,7 @@ fn in_step(spec: Sharding, a: &[u8], p: usize, b: &[u8], s: usize, n: usize) -> 
 // ---- minishards
 
 // Whether the n entries at p of a list the same as the k at s of b.
+#[tactic(auto, using(crate::proofs::same_listing::Minishards::matching))]
 fn same_entries(spec: Sharding, a: &[u8], p: usize, n: usize, b: &[u8], s: usize, k: usize) -> bool
     requires readable_index { ReadableIndex a.now p n × LeadsIn spec a.now p n × Apart a.now p n }
     requires readable_index_2 { ReadableIndex b.now s k × LeadsIn spec b.now s k × Apart b.now s k }
@@ -224,6 +186,7 @@ fn same_entries(spec: Sharding, a: &[u8], p: usize, n: usize, b: &[u8], s: usize
 }
 
 // Whether minishard m lists the same in two shards of two parts, in both of which it can be settled.
+#[tactic(auto, using(crate::proofs::same_listing::Minishards::deciding))]
 pub fn lists_alike(spec: Sharding, ia: &[u8], da: &[u8], ib: &[u8], db: &[u8], m: usize) -> bool
     requires m_in_bounds { (16 * m + 16 ≤ length ia.now) × SettleableIn spec ia.now da.now m }
     requires m_in_bounds_2 { (16 * m + 16 ≤ length ib.now) × SettleableIn spec ib.now db.now m }

@@ -23,7 +23,7 @@ module _ (spec : Sharding) (shard : ℕ) (file : List ℕ) (dropping : Bool) whe
 
   pub length_decided : DecidedBy (settled_length_checks spec shard file dropping) (count_result (length_answer spec shard file dropping))
   unfolding length_answer
-  length_decided = decided_at count_result Refused (λ k. refl) Faulty (λ k p. (refl, refl, refl)) (settled_length_checks spec shard file dropping) _ refl lengths_in
+  length_decided = decided_at count_result Refused (λ k t. refl) Faulty (λ k p. (refl, refl, refl)) (settled_length_checks spec shard file dropping) _ refl lengths_in
 
   module _ (out : List ℕ) where
     settles_in : AllIn (settle_checks spec shard file dropping out)
@@ -36,7 +36,7 @@ module _ (spec : Sharding) (shard : ℕ) (file : List ℕ) (dropping : Bool) whe
 
     pub settle_decided : DecidedBy (settle_checks spec shard file dropping out) (count_result (settle_answer spec shard file dropping out))
     unfolding settle_answer
-    settle_decided = decided_at count_result Refused (λ k. refl) Faulty (λ k p. (refl, refl, refl)) (settle_checks spec shard file dropping out) _ refl settles_in
+    settle_decided = decided_at count_result Refused (λ k t. refl) Faulty (λ k p. (refl, refl, refl)) (settle_checks spec shard file dropping out) _ refl settles_in
 
     pub settle-kept : (k : ℕ) (p : Option ℕ) → settle_answer spec shard file dropping out ≡ refusal Refused Faulty k p → settle_left spec shard file dropping out ≡ out
     unfolding settle_answer settle_left

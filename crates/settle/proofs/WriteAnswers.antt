@@ -1,6 +1,6 @@
 -- What settling a shard answers and leaves, by what the check said.
 use Rattle.std.proofs.Common.{◌≡◌, ℕ, Bool, List, take, ap, ◌∙◌, rules}
-use Rattle.refusal.specs.declared.Written.{Written}
+use Rattle.refusal.specs.Answers.{Answer}
 use Rattle.sharding.specs.declared.Sharding.{Sharding}
 use Rattle.shard.specs.declared.CheckAnswer.{CheckAnswer}
 use Rattle.shard.specs.declared.CheckAnswer.TheVariants.{Sound, Refused as CheckRefused, Faulty as CheckFaulty}
@@ -48,11 +48,11 @@ module _ (spec : Sharding) (shard : ℕ) (file : List ℕ) (dropping : Bool) {a 
       pub passed_ranges : RangedShard spec (take n file) (rest_of n file)
       passed_ranges = rw (rest-whole n file, c) (sound_ranged (passed_sound spec shard file e q))
 
-      pub length_passed : {w : Written} {r : CountAnswer} → w ≡ length_in spec (take n file) (rest_of n file) dropping → r ≡ answer_of w → r ≡ length_answer spec shard file dropping
-      length_passed h g = rw (length_by_check spec shard file dropping, ← e, q) (g ∙ ap (λ (w : Written). answer_of w) (rw (rest-whole n file, c) at h))
+      pub length_passed : {w : Answer ℕ} {r : CountAnswer} → w ≡ length_in spec (take n file) (rest_of n file) dropping → r ≡ answer_of w → r ≡ length_answer spec shard file dropping
+      length_passed h g = rw (length_by_check spec shard file dropping, ← e, q) (g ∙ ap (λ (w : Answer ℕ). answer_of w) (rw (rest-whole n file, c) at h))
 
-      pub settle_passed : (out : List ℕ) {w : Written} {r : CountAnswer} → w ≡ settle_in spec (take n file) (rest_of n file) dropping out → r ≡ answer_of w → r ≡ settle_answer spec shard file dropping out
-      settle_passed out h g = rw (settle_by_check spec shard file dropping out, ← e, q) (g ∙ ap (λ (w : Written). answer_of w) (rw (rest-whole n file, c) at h))
+      pub settle_passed : (out : List ℕ) {w : Answer ℕ} {r : CountAnswer} → w ≡ settle_in spec (take n file) (rest_of n file) dropping out → r ≡ answer_of w → r ≡ settle_answer spec shard file dropping out
+      settle_passed out h g = rw (settle_by_check spec shard file dropping out, ← e, q) (g ∙ ap (λ (w : Answer ℕ). answer_of w) (rw (rest-whole n file, c) at h))
 
       pub left_passed : (out : List ℕ) {o : List ℕ} → o ≡ left_in spec (take n file) (rest_of n file) dropping out → o ≡ settle_left spec shard file dropping out
       left_passed out h = rw (left_by_check spec shard file dropping out, ← e, q) (rw (rest-whole n file, c) at h)

@@ -3,14 +3,14 @@
 ghost use Rattle.std.specs.Prelude.{◌≡◌};
 ghost use Rattle.settle.specs.answers.Answers.{answer_of};
 
-use refusal::{CountAnswer, Written};
+use refusal::{CountAnswer, Refusal};
 
 // The length of the form, or the refusal.
-pub fn answer_of(written: Written) -> CountAnswer
+pub fn answer_of(written: Result<usize, Refusal>) -> CountAnswer
     ensures { result ≡ answer_of written }
 {
     match written {
-        Written::Length(n) => CountAnswer::Count(n),
-        Written::Refused(number) => CountAnswer::Refused(number),
+        Ok(n) => CountAnswer::Count(n),
+        Err(refusal) => CountAnswer::Refused(refusal.number()),
     }
 }

@@ -13,14 +13,12 @@ fn ids_rise(data: &[u8], s: usize, n: usize) -> bool
     ensures { Climbs (id_steps «data».now s) n result }
 {
     let mut id = read_u64(data, s);
-    let mut i = 1;
-    while i < n {
-        let next = std::num::wrapping_add_u64(id, read_u64(data, s + 8 * i));
+    for i in 1..n {
+        let next = id.wrapping_add(read_u64(data, s + 8 * i));
         if next <= id {
             return false;
         }
         id = next;
-        i += 1;
     }
     true
 }

@@ -19,21 +19,20 @@ pub fn copy_chunks(data: &[u8], s: usize, n: usize, out: &mut [u8], at: usize) -
 {
     let starts = s + 8 * n;
     let sizes = s + 16 * n;
-    let mut i = 0;
     let mut from: u64 = 0;
     let mut to = at;
-    while i < n {
-        let start = std::num::wrapping_add_u64(from, read_u64(data, starts + 8 * i));
+    for i in 0..n {
+        let start = from.wrapping_add(read_u64(data, starts + 8 * i));
         let size = read_u64(data, sizes + 8 * i);
         copy_bytes(data, start as usize, size as usize, out, to);
         from = start + size;
         to += size as usize;
-        i += 1;
     }
     to
 }
 
 // The row of start steps: the place of the first chunk, then zeros.
+#[tactic(auto, using(crate::proofs::chunk_runs::StoredStarts::writing))]
 pub fn put_starts(out: &mut [u8], at: usize, n: usize, p: usize)
     requires { (0 < n) × (at + 8 * n ≤ length out.old) }
     ensures { out.new ≡ paste at (le 8 p ++ replicate (8 * n - 8) 0) out.old }

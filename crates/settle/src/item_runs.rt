@@ -30,8 +30,7 @@ pub fn copy_items(
 {
     let mut to = at;
     let mut place = p;
-    let mut i = 0;
-    while i < n {
+    for i in 0..n {
         let e = get(out, q, n, i);
         let start = e.start as usize;
         let size = e.size as usize;
@@ -41,6 +40,5 @@ pub fn copy_items(
         put_u64(out, q + 8 * n + 8 * i, (place + lead) as u64);
         place = 0;
         to += len;
-        i += 1;
     }
 }

@@ -11,6 +11,7 @@ use sharding::Sharding;
 use sharding::limits::minishard_count;
 
 // The length of minishard m, settled.
+#[tactic(auto, using(crate::proofs::length::Lengths::reading))]
 pub fn one_length(spec: Sharding, index: &[u8], data: &[u8], m: usize) -> usize
     requires m_in_bounds { 16 * m + 16 ≤ length index.now }
     requires settleable_in { SettleableIn spec index.now «data».now m }
@@ -25,20 +26,20 @@ pub fn one_length(spec: Sharding, index: &[u8], data: &[u8], m: usize) -> usize
 }
 
 // The length of the settled form of n minishards.
+#[tactic(auto, using(crate::proofs::length::Lengths::summing))]
 fn length_of_all(spec: Sharding, index: &[u8], data: &[u8], n: usize) -> usize
     requires { SettleableParts spec index.now «data».now n }
     ensures { result ≡ capped (whole_length spec index.now «data».now n) }
 {
     let mut sum = add_capped(0, 16 * n);
-    let mut m = 0;
-    while m < n {
+    for m in 0..n {
         sum = add_capped(sum, one_length(spec, index, data, m));
-        m += 1;
     }
     sum
 }
 
 // The length of the settled form of a shard, or 1 GiB and a byte where it is longer than 1 GiB.
+#[tactic(auto, using(crate::proofs::length::Lengths::counting))]
 pub fn form_length(spec: Sharding, index: &[u8], data: &[u8]) -> usize
     requires { SettleableShard spec index.now «data».now }
     ensures { result ≡ capped (form_length spec index.now «data».now) }

@@ -18,10 +18,7 @@ pub fn add_capped(a: usize, b: usize) -> usize
     requires { a ≤ most_shard_bytes + 1 }
     ensures { result ≡ capped (a + b) }
 {
-    if TOO_LONG - a <= b {
-        return TOO_LONG;
-    }
-    a + b
+    a.saturating_add(b).min(TOO_LONG)
 }
 
 // The sizes of the n chunks together.
@@ -31,10 +28,8 @@ fn sizes_length(data: &[u8], s: usize, n: usize) -> usize
 {
     let sizes = s + 16 * n;
     let mut sum = 0;
-    let mut i = 0;
-    while i < n {
+    for i in 0..n {
         sum = add_capped(sum, read_u64(data, sizes + 8 * i) as usize);
-        i += 1;
     }
     sum
 }
@@ -48,19 +43,18 @@ fn leads_length(spec: Sharding, data: &[u8], s: usize, n: usize) -> usize
     let sizes = s + 16 * n;
     let mut sum = 0;
     let mut from: u64 = 0;
-    let mut i = 0;
-    while i < n {
-        let start = std::num::wrapping_add_u64(from, read_u64(data, starts + 8 * i));
+    for i in 0..n {
+        let start = from.wrapping_add(read_u64(data, starts + 8 * i));
         let size = read_u64(data, sizes + 8 * i);
         let lead = lead_length(spec, data, start as usize, size as usize);
         sum = add_capped(sum, lead);
         from = start + size;
-        i += 1;
     }
     sum
 }
 
 // The length of the settled minishard. Leads are read only where there may be any.
+#[tactic(auto, using(crate::proofs::minishard_length::Lengths::totalling))]
 pub fn part_length(spec: Sharding, data: &[u8], s: usize, n: usize) -> usize
     requires { ReadableIndex «data».now s n × LeadsIn spec «data».now s n }
     ensures { result ≡ capped (minishard_length spec «data».now s n) }

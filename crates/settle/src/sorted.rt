@@ -29,15 +29,13 @@ fn put_rows(data: &[u8], s: usize, n: usize, out: &mut [u8], q: usize)
     let sizes = s + 16 * n;
     let mut id: u64 = 0;
     let mut end: u64 = 0;
-    let mut i = 0;
-    while i < n {
-        id = std::num::wrapping_add_u64(id, read_u64(data, s + 8 * i));
-        let start = std::num::wrapping_add_u64(end, read_u64(data, starts + 8 * i));
+    for i in 0..n {
+        id = id.wrapping_add(read_u64(data, s + 8 * i));
+        let start = end.wrapping_add(read_u64(data, starts + 8 * i));
         let size = read_u64(data, sizes + 8 * i);
         let e = Entry { id, start, size };
         put(out, q, n, i, e);
-        end = std::num::wrapping_add_u64(start, size);
-        i += 1;
+        end = start.wrapping_add(size);
     }
 }
 
@@ -57,12 +55,10 @@ fn put_steps(out: &mut [u8], q: usize, n: usize)
     ensures { out.new ≡ paste q (row (steps_from (row_at out.old q) 0 0 n)) out.old }
 {
     let mut before: u64 = 0;
-    let mut i = 0;
-    while i < n {
+    for i in 0..n {
         let id = read_u64(out, q + 8 * i);
         put_u64(out, q + 8 * i, id - before);
         before = id;
-        i += 1;
     }
 }
 

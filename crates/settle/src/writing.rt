@@ -18,6 +18,7 @@ use sharding::limits::minishard_count;
 // ---- one minishard
 
 // An entry of the shard index: where a minishard index begins and ends.
+#[tactic(auto, using(crate::proofs::writing::WriteWhole::reading))]
 fn put_entry(out: &mut [u8], at: usize, begin: usize, end: usize)
     requires { at + 16 ≤ length out.old }
     ensures { out.new ≡ paste at (row (begin ∷ end ∷ [])) out.old }
@@ -27,6 +28,7 @@ fn put_entry(out: &mut [u8], at: usize, begin: usize, end: usize)
 }
 
 // Minishard m at the place p, and its entry in the shard index. An empty one may point past the data, and is not read.
+#[tactic(auto, using(crate::proofs::writing::WriteWhole::reading))]
 pub fn settle_one(
     spec: Sharding,
     index: &[u8],
@@ -65,16 +67,15 @@ fn settle_all(spec: Sharding, index: &[u8], data: &[u8], n: usize, out: &mut [u8
     ensures out_after { out.new ≡ paste 0 (settled (content_from spec index.now «data».now 0 n)) out.old }
 {
     let base = 16 * n;
-    let mut m = 0;
     let mut p = 0;
-    while m < n {
+    for m in 0..n {
         p += settle_one(spec, index, data, base, m, p, out);
-        m += 1;
     }
     base + p
 }
 
 // The settled form of a shard, into an output that has room for it.
+#[tactic(auto, using(crate::proofs::writing::WriteWhole::counting))]
 pub fn settle_parts(spec: Sharding, index: &[u8], data: &[u8], out: &mut [u8]) -> usize
     requires settleable_shard { SettleableShard spec index.now «data».now }
     requires data_in_bounds { (form_length spec index.now «data».now ≤ length out.old) × (form_length spec index.now «data».now ≤ most_shard_bytes) }

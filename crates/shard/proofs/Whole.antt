@@ -4,7 +4,7 @@ use mathlib.Core.Option.{some}
 use borrow.Author.Tests.{lt-leb}
 use Rattle.refusal.specs.Checks.{first_number, unless}
 use Rattle.refusal.specs.Result.{DecidedBy}
-use Rattle.refusal.proofs.Results.{decided_at}
+use Rattle.refusal.proofs.Results.{told, decided_at}
 use Rattle.refusal.proofs.Refusing.{Refuses, refuses}
 use Rattle.sharding.specs.declared.Sharding.{Sharding}
 use Rattle.sharding.specs.Specification.{minishard_count_of, shard_count_of, no_such_shard}
@@ -152,7 +152,7 @@ module _ (spec : Sharding) (shard : ℕ) (file : List ℕ) where
   check_decided =
       let at : ℕ → ℕ → CheckAnswer = λ k p. Faulty k (shard_fault spec shard index d).minishard p in
       rw (sym (shard-answer spec shard file Refused at Sound))
-      (decided_at check_result Refused (λ k. refl) at (λ k p. (refl, refl, refl)) (shard_checks spec shard file) Sound refl (shard_in spec shard file))
+      (decided_at check_result Refused (λ k t. refl) at (λ k p. (refl, refl, refl)) (shard_checks spec shard file) Sound refl (shard_in spec shard file))
 
   pub check-passes-sound : check_answer spec shard file ≡ Sound → SoundShard spec shard file
   unfolding check_answer shard_fault

@@ -31,8 +31,7 @@ pub fn first_fault(
     let base = index.len();
     let len = data.len() as u64;
     let mut found = fault_at(0, 0, 0);
-    let mut m = from;
-    'minishards: while m < to {
+    'minishards: for m in from..to {
         let s = entry_start(index, m);
         let e = entry_end(index, m);
         if e < s {
@@ -56,21 +55,18 @@ pub fn first_fault(
                 break 'minishards;
             }
             let mut own: u64 = 0;
-            let mut j: usize = 0;
-            'places: while j < n {
-                own = std::num::wrapping_add_u64(own, read_u64(data, p + 8 * j));
+            'places: for j in 0..n {
+                own = own.wrapping_add(read_u64(data, p + 8 * j));
                 if is_foreign(spec, shard, m, own) {
                     found = row_fault(10, m, base, p, j);
                     break 'minishards;
                 }
-                j += 1;
             }
             let q = p + 8 * n;
             let t = p + 16 * n;
             let mut end: u64 = 0;
-            let mut k: usize = 0;
-            'ends: while k < n {
-                let start = std::num::wrapping_add_u64(end, read_u64(data, q + 8 * k));
+            'ends: for k in 0..n {
+                let start = end.wrapping_add(read_u64(data, q + 8 * k));
                 let size = read_u64(data, t + 8 * k);
                 if len < start {
                     found = row_fault(11, m, base, q, k);
@@ -81,7 +77,6 @@ pub fn first_fault(
                     break 'minishards;
                 }
                 end = start + size;
-                k += 1;
             }
             let bad = mesh_fault(spec, base, data, p, n);
             if bad.number != 0 {
@@ -93,7 +88,6 @@ pub fn first_fault(
                 break 'minishards;
             }
         }
-        m += 1;
     }
     found
 }

@@ -23,14 +23,16 @@ struct Failed {
 fn manifest_number(start: u64, body: &[u8]) -> u8
     ensures { result ≡ manifest_number start body.now }
 {
-    let number = judge(body);
-    if number != 0 {
-        return number;
+    match judge(body) {
+        Err(refusal) => refusal.number(),
+        Ok(()) => {
+            if start < fragments_length(body) {
+                21
+            } else {
+                0
+            }
+        }
     }
-    if start < fragments_length(body) {
-        return 21;
-    }
-    0
 }
 
 // The same of the chunk of that start and size.
@@ -59,6 +61,8 @@ fn lesser_of(found: Failed, number: u8, i: usize) -> Failed
 }
 
 // Of the n entries at p, the first of the tests that one fails, with the first entry that fails it. Each manifest is read once.
+// Not inlined: the loops of the judge, which calls this once a minishard of a mesh, keep the registers to themselves.
+#[inline(never)]
 fn first_failed(base: usize, data: &[u8], p: usize, n: usize) -> Failed
     requires { Readable base «data».now p n }
     ensures { result ≡ least_of n (manifest_tests «data».now p n) }
@@ -70,14 +74,12 @@ fn first_failed(base: usize, data: &[u8], p: usize, n: usize) -> Failed
         entry: 0,
     };
     let mut at: u64 = 0;
-    let mut i: usize = 0;
-    while i < n {
-        let start = std::num::wrapping_add_u64(at, read_u64(data, q + 8 * i));
+    for i in 0..n {
+        let start = at.wrapping_add(read_u64(data, q + 8 * i));
         let size = read_u64(data, t + 8 * i);
         let number = chunk_number(data, start, size);
         found = lesser_of(found, number, i);
         at = start + size;
-        i += 1;
     }
     found
 }

@@ -76,12 +76,8 @@ minishards-most spec e = let w : Within spec = allowed-within e in pow_mono w.mi
 pub shards-most : (spec : Sharding) → allowed spec ≡ true → shard_count_of spec ≤ 2 ^ most_shard_bits
 shards-most spec e = let w : Within spec = allowed-within e in pow_mono w.shard
 
--- one shifted to the left in a u64
-pub one_shifted : (k : ℕ) → k < 64 → (1 * 2 ^ k) % 2 ^ 64 ≡ 2 ^ k
-one_shifted k h = shl_exact 1 k 64 (omega arith) (omega arith) ∙ one-mul (2 ^ k)
-
-pub one-shifted-some : (k : ℕ) → k < 64 → 0 < (1 * 2 ^ k) % 2 ^ 64
-one-shifted-some k h = rw (one_shifted k h) (pow_pos k)
-
-pub same-most : {r n m : ℕ} → r ≡ n → n ≤ m → r ≤ m
-same-most p h = rw p h
+-- a power of two as the shift of one, up to that of the limit
+pub power_within : {k m : ℕ} → k ≤ m → m < 64 → ((1 * 2 ^ k) % 2 ^ 64 ≡ 2 ^ k) × ((0 < (1 * 2 ^ k) % 2 ^ 64) × ((1 * 2 ^ k) % 2 ^ 64 ≤ 2 ^ m))
+power_within {k} {m} h l =
+    let e : (1 * 2 ^ k) % 2 ^ 64 ≡ 2 ^ k = shl_exact 1 k 64 (omega arith) (omega arith) ∙ one-mul (2 ^ k) in
+    rw e (refl, (pow_pos k, pow_mono h))

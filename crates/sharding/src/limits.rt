@@ -20,6 +20,7 @@ const VOLUME: u8 = 0;
 const MESH: u8 = 1;
 
 // Whether refusal 1 does not hold.
+#[tactic(auto, unfolding(crate::specs::Specification::allowed))]
 pub fn is_allowed(spec: Sharding) -> bool
     ensures { result ≡ allowed spec }
 {
@@ -37,23 +38,18 @@ pub fn is_mesh(spec: Sharding) -> bool
     spec.kind == MESH
 }
 
-fn two_to(bits: u8) -> u64
-    requires { bits < 64 }
-    ensures { (result ≡ 2 ^ bits) × (0 < result) }
-{
-    1u64 << bits
-}
-
+#[tactic(auto, using(crate::proofs::Allowed::minishard_shifts))]
 pub fn minishard_count(spec: Sharding) -> u64
     requires { allowed spec ≡ true }
     ensures { (result ≡ minishard_count_of spec) × ((0 < result) × (result ≤ 2 ^ most_minishard_bits)) }
 {
-    two_to(spec.minishard_bits)
+    1 << spec.minishard_bits
 }
 
+#[tactic(auto, using(crate::proofs::Allowed::shard_shifts))]
 pub fn shard_count(spec: Sharding) -> u64
     requires { allowed spec ≡ true }
     ensures { (result ≡ shard_count_of spec) × ((0 < result) × (result ≤ 2 ^ most_shard_bits)) }
 {
-    two_to(spec.shard_bits)
+    1 << spec.shard_bits
 }

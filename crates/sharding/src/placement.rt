@@ -6,6 +6,7 @@ ghost use Rattle.sharding.specs.placement.Place.{place_answer};
 
 use crate::Sharding;
 use crate::limits::is_allowed;
+use refusal::Refusal;
 
 #[derive(Clone, Copy)]
 pub struct Place {
@@ -13,19 +14,13 @@ pub struct Place {
     pub minishard: u64,
 }
 
-#[derive(Clone, Copy)]
-pub enum PlaceAnswer {
-    At(Place),
-    Refused(u8),
-}
-
 // The shard and minishard of an id, or refusal 1.
-pub fn place_of(spec: Sharding, id: u64) -> PlaceAnswer
+pub fn place_of(spec: Sharding, id: u64) -> Result<Place, Refusal>
     ensures answer { result ≡ place_answer spec id }
 {
     if is_allowed(spec) {
-        PlaceAnswer::At(inner::place(spec, id))
+        Ok(inner::place(spec, id))
     } else {
-        PlaceAnswer::Refused(1)
+        Err(Refusal::ShardingNotAllowed)
     }
 }

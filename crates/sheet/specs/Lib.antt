@@ -1,3 +1,2 @@
 -- What the program `sheet` makes of what it reads.
-pub mod input_end
 pub mod one_turn

@@ -1,42 +1,17 @@
 // Reads shards from standard input and prints the holdings sheet over them: docs/SHEET.md fixes the input and the lines.
 #![tactic(auto)]
 
-pub mod input_end;
 pub mod one_turn;
 
 ghost use Rattle.std.specs.Prelude.{◌≡◌, ◌≤◌, length, take};
 ghost use Rattle.sheet.specs.one_turn.Turns.{header_bytes, most_bytes, TurnedBy, Turned, Told, Next, Finished};
 
-use crate::one_turn::Turn;
+use crate::one_turn::{Ending, Turn};
 use holdings::one_shard::Sheet;
-use std::io::{self, Read, Stdin};
+use reading::{read_full, read_one};
+use std::io::{self, Stdin};
 
 // ---- reading
-
-// Reads until the buffer is full, the input ends or a read fails, and answers how many bytes came.
-fn read_full(mut input: Stdin, buf: &mut [u8]) -> usize
-    ensures within { result ≤ length buf.new }
-    ensures part { result ≡ length (take result buf.new) }
-{
-    let mut done = 0;
-    while done < buf.len() {
-        match input.read(&mut buf[done..]) {
-            Ok(0) => break,
-            Ok(n) => done += n,
-            Err(_) => break,
-        }
-    }
-    done
-}
-
-// What a read of one byte more answers: how many came, or -1 where it failed.
-fn read_one(mut input: Stdin) -> isize {
-    let mut one = [0u8; 1];
-    match input.read(&mut one) {
-        Ok(n) => n as isize,
-        Err(_) => -1,
-    }
-}
 
 // As many bytes of a shard as the buffer has, behind its header.
 fn read_body(input: Stdin, sheet: Sheet, head: &[u8], body: &mut [u8]) -> Turn
@@ -73,8 +48,9 @@ fn next(input: Stdin, sheet: Sheet, head: &mut [u8; 17], body: &mut [u8; 65536])
     tell(input, read_next(input, sheet, head, body))
 }
 
-// Shard by shard, up to what ends the input. A proved loop has to end, and nothing says that the input does: the turns are counted down
-// from a number that no run uses up.
+// Shard by shard, up to what ends the input. A proved loop has to end, and nothing says that the input does: there are as many turns as
+// no run uses up.
+#[tactic(auto, using(crate::proofs::one_turn::Turning::reaching))]
 fn add_all(input: Stdin) -> Turn
     ensures { Finished result }
 {
@@ -82,12 +58,13 @@ fn add_all(input: Stdin) -> Turn
     let mut body = [0u8; 65536];
     let mut at = Turn {
         sheet: holdings::one_shard::empty(),
-        ending: crate::one_turn::MORE,
+        ending: Ending::More,
     };
-    let mut left = u64::MAX;
-    while left > 0 && at.ending == crate::one_turn::MORE {
+    for _turns in 0..u64::MAX {
+        let Ending::More = at.ending else {
+            return at;
+        };
         at = next(input, at.sheet, &mut head, &mut body);
-        left -= 1;
     }
     at
 }
@@ -119,20 +96,14 @@ fn print_sheet(rt: &impl Print, sheet: Sheet) -> io::Result<()> {
 }
 
 // Why the reading stopped, where that was not the input's end.
-fn print_ending(rt: &impl Print, ending: u8) -> io::Result<()> {
-    if ending == crate::one_turn::CUT {
-        println!(rt; "cut")?;
+fn print_ending(rt: &impl Print, ending: Ending) -> io::Result<()> {
+    match ending {
+        Ending::More | Ending::End => Ok(()),
+        Ending::Cut => println!(rt; "cut"),
+        Ending::Long => println!(rt; "too long"),
+        Ending::Full => println!(rt; "refused 27"),
+        Ending::Unreadable => println!(rt; "unreadable"),
     }
-    if ending == crate::one_turn::LONG {
-        println!(rt; "too long")?;
-    }
-    if ending == crate::one_turn::FULL {
-        println!(rt; "refused 27")?;
-    }
-    if ending == crate::one_turn::UNREADABLE {
-        println!(rt; "unreadable")?;
-    }
-    Ok(())
 }
 
 fn main(rt: HostRuntime) -> io::Result<()> {

@@ -3,31 +3,34 @@
 ghost use Rattle.std.specs.Prelude.{◌≡◌, ◌≤◌, length};
 ghost use Rattle.sheet.specs.one_turn.Turns.{header_bytes, spec_in, body_length, turn_of, turn_by, stops_short, told};
 
-use crate::input_end::is_none;
 use endian::{read_u32, read_u64};
-use holdings::SheetAnswer;
 use holdings::one_shard::Sheet;
+use reading::is_end;
+use refusal::Refusal;
 use sharding::Sharding;
 
-// There may be another shard; the input ended, was cut, or has a shard that is too long; a total would pass 2^64 - 1; the
-// input could not be read on.
-pub const MORE: u8 = 0;
-
-pub const END: u8 = 1;
-
-pub const CUT: u8 = 2;
-
-pub const LONG: u8 = 3;
-
-pub const FULL: u8 = 4;
-
-pub const UNREADABLE: u8 = 5;
+// What comes after a turn.
+#[derive(Clone, Copy)]
+pub enum Ending {
+    // there may be another shard
+    More,
+    // the input ended
+    End,
+    // it was cut
+    Cut,
+    // it has a shard that is too long
+    Long,
+    // a total would pass 2^64 - 1
+    Full,
+    // it could not be read on
+    Unreadable,
+}
 
 // The sheet, and what comes next.
 #[derive(Clone, Copy)]
 pub struct Turn {
     pub sheet: Sheet,
-    pub ending: u8,
+    pub ending: Ending,
 }
 
 // The specification in a whole header.
@@ -59,17 +62,17 @@ pub fn body_length(head: &[u8]) -> usize
 }
 
 // What a sheet's answer makes of the turn.
-fn turn_by(sheet: Sheet, answer: SheetAnswer) -> Turn
+fn turn_by(sheet: Sheet, answer: Result<Sheet, Refusal>) -> Turn
     ensures { result ≡ turn_by sheet answer }
 {
     match answer {
-        SheetAnswer::Total(next) => Turn {
+        Ok(next) => Turn {
             sheet: next,
-            ending: MORE,
+            ending: Ending::More,
         },
-        SheetAnswer::Refused(_) => Turn {
+        Err(_) => Turn {
             sheet,
-            ending: FULL,
+            ending: Ending::Full,
         },
     }
 }
@@ -80,20 +83,29 @@ pub fn turned(sheet: Sheet, head: &[u8], body: &[u8]) -> Turn
     ensures { result ≡ turn_of sheet head.now body.now }
 {
     if head.len() == 0 {
-        return Turn { sheet, ending: END };
+        return Turn {
+            sheet,
+            ending: Ending::End,
+        };
     }
     if head.len() < 17 {
-        return Turn { sheet, ending: CUT };
+        return Turn {
+            sheet,
+            ending: Ending::Cut,
+        };
     }
     let n = read_u32(head, 13) as usize;
     if 65536 < n {
         return Turn {
             sheet,
-            ending: LONG,
+            ending: Ending::Long,
         };
     }
     if body.len() < n {
-        return Turn { sheet, ending: CUT };
+        return Turn {
+            sheet,
+            ending: Ending::Cut,
+        };
     }
     let answer = holdings::add(sheet, spec_in(head), read_u64(head, 5), body);
     turn_by(sheet, answer)
@@ -103,21 +115,20 @@ pub fn turned(sheet: Sheet, head: &[u8], body: &[u8]) -> Turn
 pub fn stops_short(turn: Turn) -> bool
     ensures { result ≡ stops_short turn }
 {
-    let ending = turn.ending;
-    (ending == END) | (ending == CUT)
+    matches!(turn.ending, Ending::End | Ending::Cut)
 }
 
 // What is told of a turn that found too few bytes, by what one read more answered: only that can tell the input's end from a
 // read that failed.
-pub fn told(turn: Turn, answer: isize) -> Turn
+pub fn told(turn: Turn, answer: Option<usize>) -> Turn
     ensures { result ≡ told turn answer }
 {
-    if is_none(answer) {
+    if is_end(answer) {
         return turn;
     }
     let sheet = turn.sheet;
     Turn {
         sheet,
-        ending: UNREADABLE,
+        ending: Ending::Unreadable,
     }
 }

@@ -6,7 +6,7 @@ use native.Mathlib.Omega.{arith}
 use mir.Syntax.{w32}
 use mir.Val.{Fits}
 use Rattle.murmur3.specs.Murmur.{mul32, fmix32, finished, murmur3, murmur_hash}
-use Rattle.murmur3.proofs.Words.{product-fits, product_halves}
+use Rattle.murmur3.proofs.Words.{product_fits, product_halves}
 use Rattle.theorems.specs.Hash.{by_halves, fmix_by, tail_by, finished_by, hash_by, Order3}
 
 -- a product's low word is that of its factors' low words
@@ -26,7 +26,7 @@ same-product a b =
     let fits : (x : ℕ) → Fits w32 (x % 2 ^ 32) = λ x. record { fits = omega arith } in
     let low : (x : ℕ) → x % 65536 ≡ x % 2 ^ 32 % 65536 = λ x. omega arith in
     let high : (x : ℕ) → x / 2 ^ 16 % 65536 ≡ x % 2 ^ 32 / 2 ^ 16 = λ x. omega arith in
-    product_halves (fits a) (fits b) (ap₂ ◌*◌ (low a) (low b)) (ap₂ ◌*◌ (high a) (low b)) (ap₂ ◌*◌ (low a) (high b)) refl refl ∙ sym (low-words a b)
+    product_halves (fits a) (fits b) (ap₂ ◌*◌ (low a) (low b)) (ap₂ ◌*◌ (high a) (low b)) (ap₂ ◌*◌ (low a) (high b)) ∙ sym (low-words a b)
 
 plain-hash : (n : ℕ) → hash_by mul32 n ≡ murmur_hash n
 unfolding hash_by finished_by tail_by fmix_by murmur_hash murmur3 finished fmix32
@@ -37,7 +37,7 @@ same_way = λ i a b. same-product a b i
 
 pub order_3 : Order3
 order_3 = record {
-  words = λ a b p q. (product-fits p q).fits;
+  words = λ a b p q. (product_fits p q).fits;
   product = same-product;
   hash = λ n. ap (λ mul. hash_by mul n) same_way ∙ plain-hash n;
 }

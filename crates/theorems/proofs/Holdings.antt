@@ -8,6 +8,8 @@ use native.Mathlib.Nat.{zero-add}
 use native.Mathlib.Omega.{arith}
 use borrow.Author.Tests.{ltb-false, le-ltb, ne_eqb}
 use lib.ListN.{length}
+use Rattle.refusal.specs.declared.Refusal.{Refusal}
+use Rattle.refusal.specs.declared.Refusal.TheVariants.{TotalTooLarge}
 use Rattle.refusal.specs.Choice.{pick}
 use Rattle.refusal.proofs.Tests.{neither}
 use Rattle.duplicate_ids.proofs.ids.Cases.{eq-or-not}
@@ -23,8 +25,8 @@ use Rattle.holdings.specs.measures.Measures.{measure_of, file_measure}
 use Rattle.holdings.specs.declared.measures.Counts.{Counts}
 use Rattle.holdings.specs.chunk_sums.Totals.{most_total, passes}
 use Rattle.holdings.specs.declared.one_shard.Sheet.{Sheet}
-use Rattle.holdings.specs.declared.SheetAnswer.{SheetAnswer}
-use Rattle.holdings.specs.declared.SheetAnswer.TheVariants.{Total, Refused as SheetRefused}
+use Rattle.std.specs.Prelude.{Ok, Err}
+use Rattle.refusal.specs.Answers.{Answer, refuse}
 use Rattle.holdings.specs.one_shard.Sheet.{rows, from_rows_of, reporting, empty, tally, sound_sheet, refused_sheet, shard_sheet, numbers, is_among, has_row}
 use Rattle.holdings.specs.totals.Totals.{added, any_passes, both}
 use Rattle.holdings.specs.Answers.{join_answer, sheet_of, add_answer, pair_sheet, pair_add_answer}
@@ -135,7 +137,7 @@ unfolding add_one one verdict_on counts_of add_answer sheet_of pair_add_answer p
 add-one s (one_file spec shard file) = refl
 add-one s (two_files spec shard index d) = refl
 
-joined : (a b : Sheet) → any_passes (rows (both a b)) ≡ false → join_answer a b ≡ Total (both a b)
+joined : (a b : Sheet) → any_passes (rows (both a b)) ≡ false → join_answer a b ≡ Ok (both a b)
 joined a b h = join_pick a b ∙ rw h
 
 module _ (s : Sheet) (h : Holding) (hs : List Holding) (w : any_passes (rows (both s (sums (h ∷ hs)))) ≡ false) where
@@ -146,7 +148,7 @@ module _ (s : Sheet) (h : Holding) (hs : List Holding) (w : any_passes (rows (bo
   rest-within : any_passes (rows (both (both s (one h)) (sums hs))) ≡ false
   rest-within = ap (λ (x : Sheet). any_passes (rows x)) (sym regrouped) ∙ w
 
-  here : add_one s h ≡ Total (both s (one h))
+  here : add_one s h ≡ Ok (both s (one h))
   here = add-one s h ∙ joined s (one h) (within_first (both s (one h)) (sums hs) rest-within)
 
   stepped : kept_by s (add_one s h) ≡ both s (one h)
@@ -201,7 +203,7 @@ module _ (hs gs : List Holding) (w : Within (hs ++ gs)) where
   whole : add_all empty (hs ++ gs) ≡ both (sums hs) (sums gs)
   whole = add-counts (hs ++ gs) w ∙ over-sums (hs ++ gs) ∙ sums-parts hs gs
 
-  parts_join : join_answer (add_all empty hs) (add_all empty gs) ≡ Total (add_all empty (hs ++ gs))
+  parts_join : join_answer (add_all empty hs) (add_all empty gs) ≡ Ok (add_all empty (hs ++ gs))
   parts_join = rw (first_part, second-part, whole) (joined (sums hs) (sums gs) parts_within)
 
 -- ---- each shard is in a row
@@ -249,25 +251,25 @@ one-sheet : (h : Holding) → sheet_over (h ∷ []) ≡ one h
 unfolding sums
 one-sheet h = over-sums (h ∷ []) ∙ both_comm (one h) empty ∙ both-empty (one h)
 
-add-pick : (s : Sheet) (h : Holding) → add_one s h ≡ pick (any_passes (rows (both s (sheet_over (h ∷ []))))) (SheetRefused 27) (Total (both s (one h)))
+add-pick : (s : Sheet) (h : Holding) → add_one s h ≡ pick (any_passes (rows (both s (sheet_over (h ∷ []))))) (refuse 27) (Ok (both s (one h)))
 add-pick s h = add-one s h ∙ rw (one-sheet h) (join_pick s (one h))
 
-by_27 : (b : Bool) (t : Sheet) → (pick b (SheetRefused 27) (Total t) ≡ SheetRefused 27) ↔ (b ≡ true)
+by_27 : (b : Bool) (t : Sheet) → (pick b (refuse 27) (Ok t) ≡ refuse 27) ↔ (b ≡ true)
 by_27 true t = (λ e. refl, λ e. refl)
 by_27 false t = (λ e. let z : ◌≡◌ {A = ℕ} 0 1 = cc in absurd (omega arith), λ e. absurd (false≢true e))
 
-only_27 : (b : Bool) (t : Sheet) (k : ℕ) → pick b (SheetRefused 27) (Total t) ≡ SheetRefused k → k ≡ 27
+only_27 : (b : Bool) (t : Sheet) (k : Refusal) → pick b (refuse 27) (Ok t) ≡ Err k → k ≡ TotalTooLarge
 only_27 true t k e = cc
 only_27 false t k e = let z : ◌≡◌ {A = ℕ} 0 1 = cc in absurd (omega arith)
 
-rows_stay : (lent : List ℕ) (k : ℕ) → rows_after (SheetRefused k) lent ≡ lent
+rows_stay : (lent : List ℕ) (k : Refusal) → rows_after (Err k) lent ≡ lent
 unfolding rows_after
 rows_stay lent k = refl
 
-rows_left : (s : Sheet) (a : SheetAnswer) → rows_after a (rows s) ≡ rows (kept_by s a)
+rows_left : (s : Sheet) (a : Answer Sheet) → rows_after a (rows s) ≡ rows (kept_by s a)
 unfolding kept_by rows_after
-rows_left s (Total t) = refl
-rows_left s (SheetRefused k) = refl
+rows_left s (Ok t) = refl
+rows_left s (Err k) = refl
 
 -- ---- a pair that passes is a sound joined file, cut at its seam
 

@@ -9,7 +9,7 @@ use Rattle.endian.specs.Range.{sum_to}
 use Rattle.morton.specs.declared.grid.Extents.{Extents}
 use Rattle.morton.specs.declared.grid.Cell.{Cell}
 use Rattle.morton.specs.declared.grid.Volume.{Volume}
-use Rattle.morton.specs.declared.KeyAnswer.TheVariants.{Key}
+use Rattle.std.specs.Prelude.{Ok}
 use Rattle.morton.specs.axis.Axis.{bit_of, used, count, put}
 use Rattle.morton.specs.Key.{key_of}
 use Rattle.morton.specs.grid.Grid.{grid_of}
@@ -95,5 +95,5 @@ module _ (g : Extents) (c : Cell) where
         below = rw (bits_are 32, ← bits_is g) (key_below g c);
       }
 
-pub key-bits : (v : Volume) (c : Cell) (k : ℕ) → key_answer v c ≡ Key k → HasBits (grid_of v) c k
+pub key-bits : (v : Volume) (c : Cell) (k : ℕ) → key_answer v c ≡ Ok k → HasBits (grid_of v) c k
 key-bits v c k e = rw (keyed v c k e).is (has-bits (grid_of v) c)

@@ -10,8 +10,10 @@ use lib.Seq.{drop-append_seam}
 use borrow.Author.Tests.{ltb-true, ltb-false, lt-leb}
 use Rattle.refusal.specs.Choice.{pick}
 use Rattle.refusal.specs.Checks.{first_number, unless}
-use Rattle.refusal.specs.declared.Written.TheVariants.{Length, Refused}
-use Rattle.refusal.proofs.Refusing.{by_none}
+use Rattle.std.specs.Prelude.{Ok}
+use Rattle.refusal.specs.Answers.{refuse}
+use Rattle.refusal.proofs.Picks.{all_in_lem}
+use Rattle.refusal.proofs.Refusing.{by_none, first-most}
 use Rattle.endian.specs.Little.{le, le_at}
 use Rattle.endian.specs.Range.{any_below}
 use Rattle.morton.specs.grid.Grid.{grid_size, has_zero}
@@ -45,56 +47,56 @@ number_13 false false true d e = absurd (omega arith)
 number_13 false false false true e = (refl, refl)
 number_13 false false false false e = absurd (omega arith)
 
-module _ (sh : Shape) (n : ℕ) (e : length_answer sh ≡ Length n) where
+module _ (sh : Shape) (n : ℕ) (e : length_answer sh ≡ Ok n) where
   length_unrefused : first_number (unpacked_length_checks sh) ≡ 0
   unfolding length_answer
   length_unrefused = length_none _ _ n e
 
-  length-answered : length_answer sh ≡ Length (unpacked_bytes sh)
+  length-answered : length_answer sh ≡ Ok (unpacked_bytes sh)
   unfolding length_answer
-  length-answered = by_none Refused (unpacked_length_checks sh) _ length_unrefused
+  length-answered = by_none refuse (unpacked_length_checks sh) _ length_unrefused
 
   measured : n ≡ unpacked_bytes sh
   measured = let f = length-answered in cc
 
 module _ (s : List ℕ) (sh : Shape) (out : List ℕ) (n : ℕ) where
-  unpack-none : unpack_answer s sh out ≡ Length n → first_number (unpack_checks s sh out) ≡ 0
+  unpack-none : unpack_answer s sh out ≡ Ok n → first_number (unpack_checks s sh out) ≡ 0
   unfolding unpack_answer
   unpack-none e = length_none _ _ n e
 
-  unpack-answered : unpack_answer s sh out ≡ Length n → unpack_answer s sh out ≡ Length (length (raw_form s sh))
+  unpack-answered : unpack_answer s sh out ≡ Ok n → unpack_answer s sh out ≡ Ok (length (raw_form s sh))
   unfolding unpack_answer
-  unpack-answered e = by_none Refused (unpack_checks s sh out) _ (unpack-none e)
+  unpack-answered e = by_none refuse (unpack_checks s sh out) _ (unpack-none e)
 
-  unpack-length : unpack_answer s sh out ≡ Length n → n ≡ length (raw_form s sh)
+  unpack-length : unpack_answer s sh out ≡ Ok n → n ≡ length (raw_form s sh)
   unpack-length e = let f = unpack-answered e in cc
 
-  unpack-past : unpack_answer s sh out ≡ Length n → drop n (unpack_left s sh out) ≡ drop n out
+  unpack-past : unpack_answer s sh out ≡ Ok n → drop n (unpack_left s sh out) ≡ drop n out
   unfolding unpack_left
   unpack-past e =
       ap (drop n) (by_none (λ j. out) (unpack_checks s sh out) _ (unpack-none e))
       ∙ rw (unpack-length e) (drop-append_seam (raw_form s sh) (drop (length (raw_form s sh)) out))
 
-  unpack-told : length out < 2 ^ 64 → unpack_answer s sh out ≡ Length n → length_answer sh ≡ Length n
+  unpack-told : length out < 2 ^ 64 → unpack_answer s sh out ≡ Ok n → length_answer sh ≡ Ok n
   unfolding length_answer unpacked_length_checks first_number unpack_checks
   unpack-told h e =
       let f = number_0 (no_voxels sh) (some_refused 29 s sh) (some_refused 28 s sh) (ltb (length out) (length (raw_form s sh))) (unpack-none e) in
       let g : length (raw_form s sh) ≤ length out = ltb-false (length out) (length (raw_form s sh)) f.1 in
       let l = form-bytes sh s f.0 in
       let q = unpack-length e in
-      by_none Refused (unpacked_length_checks sh) _ (rw (f.0, lt-leb (2 ^ 64) (unpacked_bytes sh) (omega arith))) ∙ ap Length (sym l ∙ sym q)
+      by_none refuse (unpacked_length_checks sh) _ (rw (f.0, lt-leb (2 ^ 64) (unpacked_bytes sh) (omega arith))) ∙ ap Ok (sym l ∙ sym q)
 
-  enough-room : length_answer sh ≡ Length n → n ≤ length out → unpack_answer s sh out ≡ Refused 13 → ⊥
+  enough-room : length_answer sh ≡ Ok n → n ≤ length out → unpack_answer s sh out ≡ refuse 13 → ⊥
   unfolding unpack_answer first_number unpack_checks
   enough-room e h r =
-      let f = number_13 (no_voxels sh) (some_refused 29 s sh) (some_refused 28 s sh) (ltb (length out) (length (raw_form s sh))) (refused-number _ _ 13 r) in
+      let f = number_13 (no_voxels sh) (some_refused 29 s sh) (some_refused 28 s sh) (ltb (length out) (length (raw_form s sh))) (refused-number _ _ 13 (first-most (unpack_checks s sh out) (all_in_lem (unpack_checks s sh out) refl)) (omega arith, omega arith) r) in
       let g : length out < length (raw_form s sh) = ltb-true (length out) (length (raw_form s sh)) f.1 in
       let l = form-bytes sh s f.0 in
       omega (arith, measured sh n e)
 
 -- ---- the worked chunk
 
-worked-answer : unpack_answer worked_chunk worked_shape (zeros 32 (5 ∷ [])) ≡ Length 32
+worked-answer : unpack_answer worked_chunk worked_shape (zeros 32 (5 ∷ [])) ≡ Ok 32
 unfolding first_number unless unpack_answer unpack_checks some_refused any_below raw_form raw_channel raw_layer raw_row raw_voxel concat_to label_answer label_checks label_at other_width cut_off value_in no_voxels has_zero outside_shape block_number place_number grid_size is_width word whole le le_at
 worked-answer = refl
 

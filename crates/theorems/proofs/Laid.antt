@@ -21,19 +21,18 @@ use Rattle.mesh_manifest.specs.layout.Bits.{real_at}
 use Rattle.mesh_manifest.specs.sound.Verdict.{manifest_verdict}
 use Rattle.mesh_manifest.specs.Fields.{header_at, header_answer, field_at, field_answer}
 use Rattle.mesh_manifest.specs.declared.Header.{Header}
-use Rattle.mesh_manifest.specs.declared.HeaderAnswer.TheVariants as H
+use Rattle.std.specs.Prelude.{Ok}
+use Rattle.refusal.specs.Answers.{refuse}
 use Rattle.mesh_manifest.specs.declared.Field.TheVariants as F
 use Rattle.mesh_manifest.specs.nodes.Nodes.{has_node, fragment_start, node_at, node_answer}
 use Rattle.mesh_manifest.specs.declared.nodes.Node.{Node}
-use Rattle.mesh_manifest.specs.declared.nodes.NodeAnswer.TheVariants as O
 use Rattle.mesh_manifest.specs.reals.Reals.{near_of, far_of}
 use Rattle.mesh_manifest.specs.corners.Boxes.{near_corner, far_corner, box_of, corners_checks, corners_answer}
 use Rattle.mesh_manifest.specs.declared.corners.Corners.{Corners}
-use Rattle.mesh_manifest.specs.declared.corners.CornersAnswer.TheVariants as C
 use Rattle.mesh_manifest.proofs.sound.Judged.{unrefused}
 use Rattle.mesh_manifest.proofs.Asked.{header_read, header-given, field-none, field-given}
 use Rattle.mesh_manifest.proofs.nodes.Asked.{node-read, node-given}
-use Rattle.theorems.specs.Manifests.{Entry, float32, uint32, number_of, field_of, axes, Fragment, Level, Manifest, level_entries, entries_of, bytes_of, Fits, total, sizes_of}
+use Rattle.theorems.specs.Manifests.{Entry, float32, uint32, number_of, field_of, axes, Fragment, Level, Manifest, level_entries, entries_of, bytes_of, Fits, total, sizes_of, field_said}
 use Rattle.theorems.specs.Published.{real, near_end, far_end, corner, Stands}
 
 -- ---- numbers of four bytes, read back
@@ -181,7 +180,7 @@ unfolding is_float
 field_by_kind (float32 n) = refl
 field_by_kind (uint32 n) = refl
 
-fields_at : (xs : List Entry) (i : ℕ) → i < length xs → get_or (map field_of xs) i (F.Refused 18) ≡ field_of (get_or xs i missing)
+fields_at : (xs : List Entry) (i : ℕ) → i < length xs → get_or (map field_said xs) i (refuse 18) ≡ Ok (field_of (get_or xs i missing))
 fields_at [] i h = absurd (not-suc-le-zero h)
 fields_at (x ∷ xs) zero h = refl
 fields_at (x ∷ xs) (suc i) h = fields_at xs i (omega arith)
@@ -378,8 +377,8 @@ module _ (m : Manifest) (fits : Fits m) where
         let b : j < count_of s (length t.before) = omega (arith, below, count_at t.before t.level t.after e) in
         rw (lt-ltb _ _ a, lt-ltb _ _ b)
 
-    pub node-is : manifest_verdict s ≡ 0 → node_answer s l i ≡ O.Node given
-    node-is z = rw (t.level_number, t.fragment_number) (sym (node-given s (sym z) (length t.before) j refl refl (rw has) node_at_lem))
+    pub node-is : manifest_verdict s ≡ 0 → node_answer s l i ≡ Ok given
+    node-is z = rw (t.level_number, t.fragment_number) (sym (node-given s z (length t.before) j refl (rw has) node_at_lem))
 
   -- ---- the header
 
@@ -394,13 +393,13 @@ module _ (m : Manifest) (fits : Fits m) where
   unfolding entries_of
   header-at = header_read s (real-at 0 _ refl) (real-at 1 _ refl) (real-at 2 _ refl) (real-at 3 _ refl) (real-at 4 _ refl) (real-at 5 _ refl)
 
-  pub header_is : manifest_verdict s ≡ 0 → header_answer s ≡ H.Header heading
-  header_is z = sym (header-given s (sym z) refl header-at)
+  pub header_is : manifest_verdict s ≡ 0 → header_answer s ≡ Ok heading
+  header_is z = sym (header-given s z header-at)
 
-  pub corners_are : (l i start : ℕ) (f : Fragment) → Stands m l i f start → (c : Corners) → corners_answer s l i ≡ C.Corners c → (c.near ≡ corner near_end m l f) × (c.far ≡ corner far_end m l f)
+  pub corners_are : (l i start : ℕ) (f : Fragment) → Stands m l i f start → (c : Corners) → corners_answer s l i ≡ Ok c → (c.near ≡ corner near_end m l f) × (c.far ≡ corner far_end m l f)
   unfolding corners_answer
   corners_are l i start f t c g =
-      let z = unrefused C.Refused (corners_checks s l i) (C.Corners (box_of (header_at s) l (node_at s l i))) (λ k p. cc) g in
+      let z = unrefused refuse (corners_checks s l i) (Ok (box_of (header_at s) l (node_at s l i))) (λ k p. cc) g in
       let n : given l i start f t ≡ node_at s l i = rw (t.level_number, t.fragment_number) (node_at_lem l i start f t) in
       let w : c ≡ box_of heading l (given l i start f t) = cc (z.1, header-at, n) in
       rw w (unfold box_of near_corner far_corner near_of far_of in (refl, refl))
@@ -458,11 +457,11 @@ module _ (m : Manifest) (fits : Fits m) where
   unfolding bytes_of
   long-bytes = length-row32 (map number_of (entries_of m)) ∙ ap (λ (n : ℕ). 4 * n) (length-map (entries_of m) number_of)
 
-  pub field_is : manifest_verdict s ≡ 0 → (i : ℕ) → field_answer s i ≡ get_or (map field_of (entries_of m)) i (F.Refused 18)
+  pub field_is : manifest_verdict s ≡ 0 → (i : ℕ) → field_answer s i ≡ get_or (map field_said (entries_of m)) i (refuse 18)
   field_is z i = by (dec_lt i (length (entries_of m)))
     where
-      by : Dec (i < length (entries_of m)) → field_answer s i ≡ get_or (map field_of (entries_of m)) i (F.Refused 18)
-      by (yes p) = sym (fields_at (entries_of m) i p ∙ field-given s (sym z) i refl (field-at i) (omega (arith, long-bytes)))
+      by : Dec (i < length (entries_of m)) → field_answer s i ≡ get_or (map field_said (entries_of m)) i (refuse 18)
+      by (yes p) = sym (fields_at (entries_of m) i p ∙ field-given s z i (field-at i) (omega (arith, long-bytes)))
       by (no f) =
-          let a : length (map field_of (entries_of m)) ≤ i = omega (arith, f, length-map (entries_of m) field_of) in
-          sym (get_or-eq_default (map field_of (entries_of m)) (F.Refused 18) a ∙ field-none s (sym z) i refl (omega (arith, f, long-bytes)))
+          let a : length (map field_said (entries_of m)) ≤ i = omega (arith, f, length-map (entries_of m) field_said) in
+          sym (get_or-eq_default (map field_said (entries_of m)) (refuse 18) a ∙ field-none s z i (omega (arith, f, long-bytes)))

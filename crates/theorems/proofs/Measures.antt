@@ -10,7 +10,8 @@ use Rattle.refusal.specs.Checks.{Check, check, first_number, unless, answered_at
 use Rattle.refusal.specs.Result.{Result, refused, DecidedBy}
 use Rattle.refusal.proofs.Picks.{all_in_lem, all_in_both}
 use Rattle.refusal.proofs.Positions.{at_both, at_plain}
-use Rattle.refusal.proofs.Results.{decided, decided_after, decided_at}
+use Rattle.refusal.specs.Table.{InTable}
+use Rattle.refusal.proofs.Results.{told, decided, decided_after, decided_at}
 use Rattle.sharding.specs.declared.Sharding.{Sharding}
 use Rattle.sharding.specs.Specification.{no_such_shard}
 use Rattle.shard.specs.declared.CheckAnswer.TheVariants as C
@@ -30,7 +31,7 @@ use Rattle.holdings.specs.chunk_sums.Totals.{passes}
 use Rattle.holdings.specs.measures.Answers.{measured_in, after_verdict, measure_answer, pair_measure, measure_result}
 use Rattle.holdings.proofs.measures.Answered.{measure-faulty, measure_as_joined, named-fault}
 use Rattle.holdings.specs.declared.one_shard.Sheet.{Sheet}
-use Rattle.holdings.specs.declared.SheetAnswer.TheVariants as Sh
+use Rattle.refusal.specs.Answers.{refuse}
 use Rattle.holdings.specs.Answers.{join_answer, sheet_of, add_answer, pair_sheet, pair_add_answer, sheet_result}
 use Rattle.theorems.specs.Demands.{measure_checks, join_checks}
 
@@ -66,7 +67,7 @@ module _ (spec : Sharding) (shard : ℕ) (file : List ℕ) where
   pub measure_decided : DecidedBy (measure_checks spec shard file) (measure_result (measure_answer spec shard file))
   measure_decided =
       rw measure-is
-      (decided_at measure_result Refused (λ k. refl) (faulty_at spec shard file) (λ k p. (refl, refl, refl)) (measure_checks spec shard file) _ refl
+      (decided_at measure_result Refused (λ k t. refl) (faulty_at spec shard file) (λ k p. (refl, refl, refl)) (measure_checks spec shard file) _ refl
       (all_in_both (shard_checks spec shard file) past (shard_in spec shard file) (all_in_lem past refl)))
 
   pub measure-names : (k m p : ℕ) → (measure_answer spec shard file ≡ Faulty k m p) ↔ FirstFaultIs spec shard file k m p
@@ -77,7 +78,7 @@ module _ (spec : Sharding) (shard : ℕ) (file : List ℕ) where
 
 -- ---- a pair: 1, 5, 23, then what decides the joined file
 
-pub pair_decided : {A B : Type 0} (f : A → Result B) (r : ℕ → A) → ((k : ℕ) → f (r k) ≡ refused k) → (spec : Sharding) (five : Bool) (index : List ℕ) {cs : List Check} {x : A}
+pub pair_decided : {A B : Type 0} (f : A → Result B) (r : ℕ → A) → ((k : ℕ) → InTable k → f (r k) ≡ refused k) → (spec : Sharding) (five : Bool) (index : List ℕ) {cs : List Check} {x : A}
     → DecidedBy cs (f x) → DecidedBy (pair_checks spec five index ++ cs) (f (pair_answer r spec five index x))
 unfolding pair_checks
 pair_decided f r plain spec five index {cs} {x} h =
@@ -97,7 +98,7 @@ module _ (spec : Sharding) (shard : ℕ) (index d : List ℕ) where
 
   pub check_decided_pair : DecidedBy (pair_checks spec (no_such_shard spec shard) index ++ shard_checks spec shard (index ++ d)) (check_result (pair_check spec shard index d))
   unfolding pair_check
-  check_decided_pair = pair_decided check_result C.Refused (λ k. refl) spec (no_such_shard spec shard) index (check_decided spec shard (index ++ d))
+  check_decided_pair = pair_decided check_result C.Refused (λ k t. refl) spec (no_such_shard spec shard) index (check_decided spec shard (index ++ d))
 
   pub check-names-pair : (k m p : ℕ) → (pair_check spec shard index d ≡ C.Faulty k m p) ↔ ((length index ≡ index_length_of spec) × FirstFaultIs spec shard (index ++ d) k m p)
   unfolding pair_check
@@ -118,13 +119,13 @@ module _ (spec : Sharding) (shard : ℕ) (index d : List ℕ) where
   )
 
   pub measure_decided_pair : DecidedBy (pair_checks spec (no_such_shard spec shard) index ++ measure_checks spec shard (index ++ d)) (measure_result (pair_measure spec shard index d))
-  measure_decided_pair = rw pair_is (pair_decided measure_result Refused (λ k. refl) spec (no_such_shard spec shard) index (measure_decided spec shard (index ++ d)))
+  measure_decided_pair = rw pair_is (pair_decided measure_result Refused (λ k t. refl) spec (no_such_shard spec shard) index (measure_decided spec shard (index ++ d)))
 
 -- ---- a sheet
 
 pub join_decided : (a b : Sheet) → DecidedBy (join_checks a b) (sheet_result (join_answer a b))
 unfolding join_answer
-join_decided a b = decided sheet_result Sh.Refused (λ k. refl) (join_checks a b) _ refl refl refl
+join_decided a b = decided sheet_result refuse told (join_checks a b) _ refl refl refl
 
 pub add_decided : (sheet : Sheet) (spec : Sharding) (shard : ℕ) (file : List ℕ) → DecidedBy (join_checks sheet (sheet_of spec shard file)) (sheet_result (add_answer sheet spec shard file))
 unfolding add_answer

@@ -5,16 +5,11 @@ use mathlib.Core.Logic.{◌↔◌}
 use mathlib.Core.Option.{Option, none, some}
 use native.Mathlib.Omega.{arith}
 use Rattle.refusal.specs.Result.{Result, faulty_in, written_result, count_result}
-use Rattle.refusal.specs.declared.Written.TheVariants as W
+use Rattle.std.specs.Prelude.{Ok, Err}
 use Rattle.refusal.specs.declared.CountAnswer.TheVariants as N
-use Rattle.morton.specs.declared.grid.GridAnswer.TheVariants as G
-use Rattle.morton.specs.declared.KeyAnswer.TheVariants as K
-use Rattle.morton.specs.declared.CellAnswer.TheVariants as L
-use Rattle.morton.specs.declared.bounds.BoundsAnswer.TheVariants as B
 use Rattle.morton.specs.grid.Answers.{grid_result}
 use Rattle.morton.specs.Answers.{key_result, cell_result}
 use Rattle.morton.specs.bounds.Answers.{bounds_result}
-use Rattle.sharding.specs.declared.placement.PlaceAnswer.TheVariants as P
 use Rattle.sharding.specs.placement.Place.{place_result}
 use Rattle.shard.specs.declared.CheckAnswer.{CheckAnswer}
 use Rattle.shard.specs.declared.CheckAnswer.TheVariants as C
@@ -24,26 +19,17 @@ use Rattle.lookup.specs.declared.id_search.LookupAnswer.TheVariants as A
 use Rattle.lookup.specs.Find.{lookup_result}
 use Rattle.split_shard.specs.declared.held_range.RangeAnswer.TheVariants as R
 use Rattle.split_shard.specs.seam.Range.{range_result}
-use Rattle.intake.specs.declared.IntakeAnswer.TheVariants as I
-use Rattle.intake.specs.declared.CloseAnswer.TheVariants as X
 use Rattle.intake.specs.Calls.{intake_result, close_result}
 use Rattle.holdings.specs.declared.measures.MeasureAnswer.{MeasureAnswer}
 use Rattle.holdings.specs.declared.measures.MeasureAnswer.TheVariants as M
 use Rattle.holdings.specs.measures.Answers.{measure_result}
-use Rattle.holdings.specs.declared.SheetAnswer.TheVariants as S
 use Rattle.holdings.specs.Answers.{sheet_result}
-use Rattle.card.specs.declared.CardAnswer.TheVariants as D
 use Rattle.card.specs.Answers.{card_result}
-use Rattle.mesh_manifest.specs.declared.sound.ManifestAnswer.TheVariants as Q
-use Rattle.mesh_manifest.specs.declared.HeaderAnswer.TheVariants as H
 use Rattle.mesh_manifest.specs.declared.Field.TheVariants as F
-use Rattle.mesh_manifest.specs.declared.nodes.NodeAnswer.TheVariants as O
-use Rattle.mesh_manifest.specs.declared.corners.CornersAnswer.TheVariants as Y
 use Rattle.mesh_manifest.specs.sound.Verdict.{manifest_result}
 use Rattle.mesh_manifest.specs.Fields.{header_result, field_result}
 use Rattle.mesh_manifest.specs.nodes.Nodes.{node_result}
 use Rattle.mesh_manifest.specs.corners.Boxes.{corners_result}
-use Rattle.compressed_segmentation.specs.declared.LabelAnswer.TheVariants as E
 use Rattle.compressed_segmentation.specs.Labels.{label_result}
 use Rattle.theorems.specs.Minishards.{Minishards, NamesNone, NamesWithPosition}
 use Rattle.theorems.proofs.Measures.{measure-names, check-names-pair, measure-names-pair}
@@ -92,28 +78,28 @@ measure_with (M.Faulty k m p) = some-none
 -- ---- the other answers name none
 
 grid-none : NamesNone grid_result
-grid-none (G.Grid g) = refl
-grid-none (G.Refused k) = refl
+grid-none (Ok g) = refl
+grid-none (Err k) = refl
 
 key-none : NamesNone key_result
-key-none (K.Key n) = refl
-key-none (K.Refused k) = refl
+key-none (Ok n) = refl
+key-none (Err k) = refl
 
 cell-none : NamesNone cell_result
-cell-none (L.At c) = refl
-cell-none (L.Refused k) = refl
+cell-none (Ok c) = refl
+cell-none (Err k) = refl
 
 bounds-none : NamesNone bounds_result
-bounds-none (B.Within b) = refl
-bounds-none (B.Refused k) = refl
+bounds-none (Ok b) = refl
+bounds-none (Err k) = refl
 
 place_none : NamesNone place_result
-place_none (P.At p) = refl
-place_none (P.Refused k) = refl
+place_none (Ok p) = refl
+place_none (Err k) = refl
 
 written_none : NamesNone written_result
-written_none (W.Length n) = refl
-written_none (W.Refused k) = refl
+written_none (Ok n) = refl
+written_none (Err k) = refl
 
 count_none : NamesNone count_result
 count_none (N.Count n) = refl
@@ -131,45 +117,45 @@ range_none (R.InData start n) = refl
 range_none (R.Refused k) = refl
 
 sheet-none : NamesNone sheet_result
-sheet-none (S.Total t) = refl
-sheet-none (S.Refused k) = refl
+sheet-none (Ok t) = refl
+sheet-none (Err k) = refl
 
 intake-none : NamesNone intake_result
-intake-none (I.Next s) = refl
-intake-none (I.Refused k) = refl
+intake-none (Ok s) = refl
+intake-none (Err k) = refl
 
 close-none : NamesNone close_result
-close-none (X.Closed s n) = refl
-close-none (X.Refused k) = refl
+close-none (Ok c) = refl
+close-none (Err k) = refl
 
 card-none : NamesNone card_result
-card-none (D.Says c) = refl
-card-none (D.Refused k) = refl
+card-none (Ok c) = refl
+card-none (Err k) = refl
 
 manifest-none : NamesNone manifest_result
-manifest-none Q.Sound = refl
-manifest-none (Q.Refused k) = refl
+manifest-none (Ok v) = refl
+manifest-none (Err k) = refl
 
 header-none : NamesNone header_result
-header-none (H.Header h) = refl
-header-none (H.Refused k) = refl
+header-none (Ok h) = refl
+header-none (Err k) = refl
 
 field-none : NamesNone field_result
-field-none (F.Real x) = refl
-field-none (F.Whole n) = refl
-field-none (F.Refused k) = refl
+field-none (Ok (F.Real x)) = refl
+field-none (Ok (F.Whole n)) = refl
+field-none (Err k) = refl
 
 node-none : NamesNone node_result
-node-none (O.Node n) = refl
-node-none (O.Refused k) = refl
+node-none (Ok n) = refl
+node-none (Err k) = refl
 
 corners-none : NamesNone corners_result
-corners-none (Y.Corners c) = refl
-corners-none (Y.Refused k) = refl
+corners-none (Ok c) = refl
+corners-none (Err k) = refl
 
 label-none : NamesNone label_result
-label-none (E.Label n) = refl
-label-none (E.Refused k) = refl
+label-none (Ok n) = refl
+label-none (Err k) = refl
 
 pub minishards : Minishards
 minishards = record {

@@ -13,14 +13,14 @@ use lib.IntN.{ℤ, pos, negsuc}
 use lib.ListN.{length, get_or, take, get_or-append}
 use lib.Seq.{take-append_seam, get_or-append_seam}
 use Rattle.refusal.specs.Checks.{first_number, unless}
-use Rattle.refusal.specs.declared.Written.TheVariants.{Length, Refused}
+use Rattle.std.specs.Prelude.{Ok}
+use Rattle.refusal.specs.Answers.{refuse}
 use Rattle.mesh_manifest.proofs.sound.Judged.{unrefused, none-head}
 use Rattle.morton.specs.declared.grid.Volume.{Volume}
 use Rattle.morton.specs.declared.grid.Cell.{Cell}
 use Rattle.morton.specs.declared.bounds.Bounds.{Bounds}
 use Rattle.morton.specs.bounds.Bounds.{bounds_of}
 use Rattle.sharding.specs.declared.Sharding.{Sharding}
-use Rattle.sharding.specs.declared.placement.PlaceAnswer.TheVariants.{At}
 use Rattle.sharding.specs.Specification.{allowed, minishard_bits_of, shard_bits_of, shard_count_of}
 use Rattle.sharding.specs.placement.Place.{hashed_id, minishard_of, shard_of, place_checks, place_answer}
 use Rattle.names.specs.digits.Digits.{digit_byte, digits, digit_count, decimal}
@@ -52,7 +52,7 @@ high_bits m k {n = n} l e = rw e (add-mul-div_left n k (omega arith) ∙ ap (λ 
 
 pub place_is : (spec : Sharding) (shifted low minishard shard rest : ℕ) → allowed spec ≡ true → low < 2 ^ spec.preshift → minishard < 2 ^ minishard_bits_of spec → shard < 2 ^ shard_bits_of spec
     → hash_of spec shifted ≡ minishard + 2 ^ minishard_bits_of spec * (shard + 2 ^ shard_bits_of spec * rest)
-    → place_answer spec (shifted * 2 ^ spec.preshift + low) ≡ At (record { shard = shard; minishard = minishard })
+    → place_answer spec (shifted * 2 ^ spec.preshift + low) ≡ Ok (record { shard = shard; minishard = minishard })
 unfolding place_answer place_checks first_number unless minishard_of shard_of
 place_is spec shifted low minishard shard rest a hl hm hs e =
     let id = shifted * 2 ^ spec.preshift + low in
@@ -107,11 +107,11 @@ names-file kind spec shard h =
       some = f.2;
     }
 
-pub file-name-is : (kind : FileKind) (spec : Sharding) (shard : ℕ) (out : List ℕ) (n : ℕ) → file_name_answer kind spec shard out ≡ Length n → NamesFile kind spec shard (take n (file_name_left kind spec shard out))
+pub file-name-is : (kind : FileKind) (spec : Sharding) (shard : ℕ) (out : List ℕ) (n : ℕ) → file_name_answer kind spec shard out ≡ Ok n → NamesFile kind spec shard (take n (file_name_left kind spec shard out))
 unfolding file_name_answer file_name_left file_name_checks unless
 file-name-is kind spec shard out n e =
     let name = file_name kind spec shard in
-    let z = unrefused Refused (file_name_checks kind spec shard out) (Length (length name)) (λ k p. cc) e in
+    let z = unrefused refuse (file_name_checks kind spec shard out) (Ok (length name)) (λ k p. cc) e in
     let q : n ≡ length name = cc z.1 in
     let h = leb-false (shard_count_of spec) shard (none-head 4 _ _ (none-head 0 _ _ z.0).1).0 in
     rw (z.0, q, take-append_seam name _) (names-file kind spec shard h)
@@ -179,10 +179,10 @@ names-chunk b =
       says_z_end = says_integer _;
     }
 
-pub chunk-name-is : (v : Volume) (c : Cell) (out : List ℕ) (n : ℕ) → chunk_name_answer v c out ≡ Length n → NamesChunk (bounds_of v c) (take n (chunk_name_left v c out))
+pub chunk-name-is : (v : Volume) (c : Cell) (out : List ℕ) (n : ℕ) → chunk_name_answer v c out ≡ Ok n → NamesChunk (bounds_of v c) (take n (chunk_name_left v c out))
 unfolding chunk_name_answer chunk_name_left chunk_name unless
 chunk-name-is v c out n e =
     let name = chunk_name v c in
-    let z = unrefused Refused (chunk_name_checks v c out) (Length (length name)) (λ k p. cc) e in
+    let z = unrefused refuse (chunk_name_checks v c out) (Ok (length name)) (λ k p. cc) e in
     let q : n ≡ length name = cc z.1 in
     rw (z.0, q, take-append_seam name _) (names-chunk (bounds_of v c))

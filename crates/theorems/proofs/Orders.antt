@@ -24,7 +24,8 @@ use Rattle.shard.specs.File.{index_part, data_part, bad_file_length, file_checks
 use Rattle.lookup.specs.Find.{lookup_checks, lookup_answer}
 use Rattle.split_shard.specs.Answers.{other_shard}
 use Rattle.card.specs.declared.Card.{Card}
-use Rattle.card.specs.declared.CardAnswer.TheVariants.{Says, Refused}
+use Rattle.std.specs.Prelude.{Ok}
+use Rattle.refusal.specs.Answers.{refuse}
 use Rattle.card.specs.Layout.{head, field, one_byte, sharding_bytes, volume_bytes, kind_bytes, card_bytes}
 use Rattle.card.specs.Answers.{write_left}
 use Rattle.card.specs.older_readers.Before.{card_bytes_before_mesh}
@@ -114,7 +115,7 @@ module _ (spec : Sharding) (e : allowed_before spec ≡ true) where
   unfolding settle_before settle_left_before content_before form_length form_of content_of
   same-settle shard file out = rw (← same_checks shard file out) (asked-to-drop spec shard file out)
 
-says_none : (n : ℕ) (c : Card) → Refused n ≡ Says c → ⊥
+says_none : (n : ℕ) (c : Card) → refuse n ≡ Ok c → ⊥
 says_none n c e = let z : ◌≡◌ {A = ℕ} 0 1 = cc in omega arith
 
 -- tag 3's body

@@ -37,16 +37,16 @@ module _ (spec : Sharding) (shard : ℕ) (index d : List ℕ) where
   module _ (id : ℕ) where
     pub lookup_decided_pair : DecidedBy (pair_checks spec (other_shard spec shard id) index ++ lookup_checks spec shard (index ++ d) id) (lookup_result (pair_lookup spec shard index d id))
     unfolding pair_lookup
-    lookup_decided_pair = pair_decided lookup_result L.Refused (λ k. refl) spec (other_shard spec shard id) index (lookup_decided spec shard (index ++ d) id)
+    lookup_decided_pair = pair_decided lookup_result L.Refused (λ k t. refl) spec (other_shard spec shard id) index (lookup_decided spec shard (index ++ d) id)
 
     pub fragment_decided_pair : (level node : ℕ) → DecidedBy (pair_checks spec (other_shard spec shard id) index ++ fragment_checks spec shard (index ++ d) id level node) (lookup_result (pair_fragment spec shard index d id level node))
     unfolding pair_fragment
-    fragment_decided_pair level node = pair_decided lookup_result L.Refused (λ k. refl) spec (other_shard spec shard id) index (fragment_decided spec shard (index ++ d) id level node)
+    fragment_decided_pair level node = pair_decided lookup_result L.Refused (λ k t. refl) spec (other_shard spec shard id) index (fragment_decided spec shard (index ++ d) id level node)
 
   module _ (m : ℕ) where
     asked_decided : {cs : List Check} (x : CountAnswer) → DecidedBy cs (count_result x) → DecidedBy (pair_asked_checks spec shard m index ++ cs) (count_result (answered N.Refused (pair_asked_checks spec shard m index) x))
     unfolding pair_asked_checks asked_checks
-    asked_decided {cs} x h = decided_after count_result N.Refused (λ k. refl) (pair_asked_checks spec shard m index) cs x (all_in_lem (pair_asked_checks spec shard m index) refl) (refl, (refl, (refl, (refl, tt)))) h
+    asked_decided {cs} x h = decided_after count_result N.Refused (λ k t. refl) (pair_asked_checks spec shard m index) cs x (all_in_lem (pair_asked_checks spec shard m index) refl) (refl, (refl, (refl, (refl, tt)))) h
 
     pub count_decided_pair : DecidedBy (pair_asked_checks spec shard m index ++ count_checks spec shard (index ++ d) m) (count_result (pair_count spec shard index d m))
     unfolding pair_count
@@ -58,16 +58,16 @@ module _ (spec : Sharding) (shard : ℕ) (index d : List ℕ) where
 
   pub unlisted_decided_pair : DecidedBy (pair_checks spec (no_such_shard spec shard) index ++ shard_checks spec shard (index ++ d)) (count_result (pair_unlisted spec shard index d))
   unfolding pair_unlisted
-  unlisted_decided_pair = pair_decided count_result N.Refused (λ k. refl) spec (no_such_shard spec shard) index (unlisted_decided spec shard (index ++ d))
+  unlisted_decided_pair = pair_decided count_result N.Refused (λ k t. refl) spec (no_such_shard spec shard) index (unlisted_decided spec shard (index ++ d))
 
   module _ (dropping : Bool) where
     pub length_decided_pair : DecidedBy (pair_checks spec (no_such_shard spec shard) index ++ settled_length_checks spec shard (index ++ d) dropping) (count_result (pair_length spec shard index d dropping))
     unfolding pair_length
-    length_decided_pair = pair_decided count_result N.Refused (λ k. refl) spec (no_such_shard spec shard) index (length_decided spec shard (index ++ d) dropping)
+    length_decided_pair = pair_decided count_result N.Refused (λ k t. refl) spec (no_such_shard spec shard) index (length_decided spec shard (index ++ d) dropping)
 
     pub settle_decided_pair : (out : List ℕ) → DecidedBy (pair_checks spec (no_such_shard spec shard) index ++ settle_checks spec shard (index ++ d) dropping out) (count_result (pair_settle spec shard index d dropping out))
     unfolding pair_settle
-    settle_decided_pair out = pair_decided count_result N.Refused (λ k. refl) spec (no_such_shard spec shard) index (settle_decided spec shard (index ++ d) dropping out)
+    settle_decided_pair out = pair_decided count_result N.Refused (λ k t. refl) spec (no_such_shard spec shard) index (settle_decided spec shard (index ++ d) dropping out)
 
 -- a range request, by its own checks
 held : (seam start end : ℕ) → range_result (held_range seam start end) ≡ success (pick (ltb start seam) (0, start, end - start) (1, start - seam, end - start))
@@ -81,4 +81,4 @@ held seam start end = go (ltb start seam)
 pub range_decided : (spec : Sharding) (index d : List ℕ) (start end : ℕ) → DecidedBy (range_checks spec index d start end) (range_result (range_answer spec index d start end))
 unfolding range_answer range_checks
 range_decided spec index d start end =
-    decided range_result R.Refused (λ k. refl) (range_checks spec index d start end) (held_range (length index) start end) (held (length index) start end) refl refl
+    decided range_result R.Refused (λ k t. refl) (range_checks spec index d start end) (held_range (length index) start end) (held (length index) start end) refl refl

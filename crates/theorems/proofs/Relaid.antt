@@ -11,16 +11,17 @@ use Rattle.endian.specs.Range.{sum_to}
 use Rattle.endian.proofs.Little.{le-le_at, le_at-bound}
 use Rattle.endian.proofs.Ranges.{sum_grows}
 use Rattle.mesh_manifest.specs.layout.Layout.{manifest_item, levels_of, count_of, level_item, field_count}
-use Rattle.mesh_manifest.specs.declared.sound.ManifestAnswer.TheVariants.{Sound, Refused}
+use Rattle.std.specs.Prelude.{Ok}
+use Rattle.refusal.proofs.Passed.{passed-none}
 use Rattle.mesh_manifest.specs.sound.Verdict.{manifest_checks, manifest_verdict, manifest_answer}
 use Rattle.mesh_manifest.proofs.sound.Judged.{unrefused}
 use Rattle.mesh_manifest.proofs.Fields.{field-count}
 use Rattle.theorems.specs.Manifests.{float32, uint32, number_of, Axes, axes, Fragment, Level, Manifest, level_entries, entries_of, bytes_of}
 use Rattle.theorems.specs.Published.{Laid}
 
-pub verdict : (s : List ℕ) → manifest_answer s ≡ Sound → manifest_verdict s ≡ 0
+pub verdict : (s : List ℕ) → manifest_answer s ≡ Ok tt → manifest_verdict s ≡ 0
 unfolding manifest_answer manifest_verdict
-verdict s e = (unrefused Refused (manifest_checks s) Sound (λ k p. cc) e).0
+verdict s e = passed-none (manifest_verdict s) (sym e)
 
 module _ (s : List ℕ) where
   -- ---- the layout read from the items
@@ -180,7 +181,7 @@ module _ (s : List ℕ) where
         let a : drop (4 * suc i) s ≡ drop 4 (drop (4 * i) s) = ap (λ (n : ℕ). drop n s) n ∙ sym (drop-drop 4 (4 * i) s) in
         rw (le-le_at 4 s (4 * i) bytes (omega arith), items_bytes k (suc i) (omega arith), a) (take-append-drop 4 (drop (4 * i) s))
 
-    pub relaid : manifest_answer s ≡ Sound → (m : Manifest) × Laid m × (bytes_of m ≡ s)
+    pub relaid : manifest_answer s ≡ Ok tt → (m : Manifest) × Laid m × (bytes_of m ≡ s)
     unfolding bytes_of
     relaid e =
         let back : bytes_of layout ≡ s = ap row32 items_are ∙ items_bytes (field_count s) 0 (omega (arith, field-count s (verdict s e))) in

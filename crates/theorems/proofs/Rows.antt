@@ -10,14 +10,16 @@ use Rattle.refusal.specs.Checks.{first_number, unless}
 use Rattle.sharding.specs.declared.Sharding.{Sharding}
 use Rattle.sharding.proofs.Allowed.{allowed-within}
 use Rattle.intake.specs.declared.state.Intake.{Intake}
-use Rattle.intake.specs.declared.IntakeAnswer.TheVariants.{Next, Refused}
-use Rattle.intake.specs.declared.CloseAnswer.{CloseAnswer}
-use Rattle.intake.specs.declared.CloseAnswer.TheVariants.{Closed, Refused as NotClosed}
+use Rattle.std.specs.Prelude.{Ok}
+use Rattle.refusal.specs.Table.{refusal_of}
+use Rattle.refusal.specs.Answers.{Answer, refuse}
+use Rattle.refusal.proofs.Table.{number-in}
+use Rattle.intake.specs.declared.Closed.{Closed}
 use Rattle.intake.specs.numbers.Numbers.{numbers_of, state_of}
 use Rattle.intake.specs.state.State.{announced_length}
 use Rattle.intake.specs.steps.Steps.{opened, announced, taken, closed}
 use Rattle.intake.specs.admission.Refusals.{open_checks, announce_checks, part_checks, close_checks}
-use Rattle.intake.specs.Calls.{open_answer, announce_answer, announce_left, announce_waiting, part_answer, part_left, close_answer, close_left, intake_result, close_result}
+use Rattle.intake.specs.Calls.{open_answer, announce_answer, announce_left, announce_waiting, part_answer, part_left, close_answer, close_left, closes_with, intake_result, close_result}
 use Rattle.intake.proofs.state.Passing.{volume-allowed, sane-parts}
 use Rattle.intake.proofs.Refused.{announce_told}
 use Rattle.intake.proofs.numbers.Numbered.{state_back, part-numbers}
@@ -31,29 +33,29 @@ use Rattle.theorems.specs.Intake.{Row, announce_on, part_on, close_on, RowHands,
 
 -- ---- the word 0 is no refusal
 
-word_next : (n : ℕ) (s : Intake) → word_of (intake_result (unless Refused n (Next s))) ≡ 0 → unless Refused n (Next s) ≡ Next s
+word_next : (n : ℕ) (s : Intake) → word_of (intake_result (unless refuse n (Ok s))) ≡ 0 → unless refuse n (Ok s) ≡ Ok s
 unfolding unless word_of
 word_next zero s e = refl
-word_next (suc n) s e = absurd (omega arith)
+word_next (suc n) s e = let i = number-in (refusal_of (suc n)) in absurd (omega (arith, i.0, e))
 
-word-closed : (n : ℕ) (s : Intake) (l : ℕ) → word_of (close_result (unless NotClosed n (Closed s l))) ≡ 0 → unless NotClosed n (Closed s l) ≡ Closed s l
+word-closed : (n : ℕ) (s : Intake) (l : ℕ) → word_of (close_result (unless refuse n (closes_with s l))) ≡ 0 → unless refuse n (closes_with s l) ≡ closes_with s l
 unfolding unless word_of
 word-closed zero s l e = refl
-word-closed (suc n) s l e = absurd (omega arith)
+word-closed (suc n) s l e = let i = number-in (refusal_of (suc n)) in absurd (omega (arith, i.0, e))
 
-open_next : (spec : Sharding) (shard : ℕ) (o w : List ℕ) → word_of (intake_result (open_answer spec shard o w)) ≡ 0 → open_answer spec shard o w ≡ Next (opened spec shard (length o) (length w))
+open_next : (spec : Sharding) (shard : ℕ) (o w : List ℕ) → word_of (intake_result (open_answer spec shard o w)) ≡ 0 → open_answer spec shard o w ≡ Ok (opened spec shard (length o) (length w))
 unfolding open_answer
 open_next spec shard o w e = word_next (first_number (open_checks spec shard (length o))) (opened spec shard (length o) (length w)) e
 
-announce_next : (s : Intake) (id size : ℕ) (o w : List ℕ) → word_of (intake_result (announce_answer s id size o w)) ≡ 0 → announce_answer s id size o w ≡ Next (announced s id size)
+announce_next : (s : Intake) (id size : ℕ) (o w : List ℕ) → word_of (intake_result (announce_answer s id size o w)) ≡ 0 → announce_answer s id size o w ≡ Ok (announced s id size)
 unfolding announce_answer
 announce_next s id size o w e = word_next (first_number (announce_checks s id size (length o) w)) (announced s id size) e
 
-part-next : (s : Intake) (b o w : List ℕ) → word_of (intake_result (part_answer s b o w)) ≡ 0 → part_answer s b o w ≡ Next (taken s (length b))
+part-next : (s : Intake) (b o w : List ℕ) → word_of (intake_result (part_answer s b o w)) ≡ 0 → part_answer s b o w ≡ Ok (taken s (length b))
 unfolding part_answer
 part-next s b o w e = word_next (first_number (part_checks s (length b) (length o) w)) (taken s (length b)) e
 
-close-closed : (s : Intake) (o w : List ℕ) → word_of (close_result (close_answer s o w)) ≡ 0 → close_answer s o w ≡ Closed (closed s) (announced_length s)
+close-closed : (s : Intake) (o w : List ℕ) → word_of (close_result (close_answer s o w)) ≡ 0 → close_answer s o w ≡ closes_with (closed s) (announced_length s)
 unfolding close_answer
 close-closed s o w e = word-closed (first_number (close_checks s (length o) w)) (closed s) (announced_length s) e
 
@@ -102,7 +104,7 @@ module _ {spec : Sharding} {shard output waiting : ℕ} where
   row_hands {d} {r} (row-part {bytes = bytes} q rest) f m =
       let s = taken d.state (length bytes) in
       let a : part_on r bytes ≡ part_answer d.state bytes d.output d.waiting = rw (m.back, m.output, m.waiting) in
-      let n : part_answer d.state bytes d.output d.waiting ≡ Next s = part-next d.state bytes d.output d.waiting (rw a at q) in
+      let n : part_answer d.state bytes d.output d.waiting ≡ Ok s = part-next d.state bytes d.output d.waiting (rw a at q) in
       let l : length r.numbers ≡ 15 = ap length m.numbers ∙ fifteen d.state in
       let x : part_after (part_on r bytes) r.numbers ≡ numbers_of s =
       rw (a, n) (part-numbers r.numbers l bytes r.output r.waiting (a ∙ n)) in
@@ -118,7 +120,7 @@ module _ {spec : Sharding} {shard output waiting : ℕ} where
       let t = d.state in
       let s = announced t x.id x.size in
       let a : announce_on r x.id x.size ≡ announce_answer t x.id x.size d.output d.waiting = rw (m.back, m.output, m.waiting) in
-      let n : announce_answer t x.id x.size d.output d.waiting ≡ Next s = announce_next t x.id x.size d.output d.waiting (rw a at q) in
+      let n : announce_answer t x.id x.size d.output d.waiting ≡ Ok s = announce_next t x.id x.size d.output d.waiting (rw a at q) in
       let y : state_after_of (announce_on r x.id x.size) r.numbers ≡ numbers_of s = rw (a, n) in
       let f₁ : Fit spec shard output waiting (after_announce d x.id x.size s) = announce_fit x l (announce_told t x.id x.size d.output d.waiting n).0 f in
       let o : announce_left (state_of r.numbers) x.id x.size r.output r.waiting ≡ announce_left t x.id x.size d.output d.waiting = rw (m.back, m.output, m.waiting) in
@@ -138,7 +140,7 @@ row_takes : {spec : Sharding} {shard : ℕ} {out waiting : List ℕ} {xs : List 
 unfolding state_after_of
 row_takes {spec} {shard} {out} {waiting} t =
     let s = opened spec shard (length out) (length waiting) in
-    let n : open_answer spec shard out waiting ≡ Next s = open_next spec shard out waiting t.opens in
+    let n : open_answer spec shard out waiting ≡ Ok s = open_next spec shard out waiting t.opens in
     let d : Desk = after_open spec shard out waiting s in
     let z : Takes spec shard out waiting [] d = record { state = s; opens = n; idle = []; first = d; idles = no_part; delivers = no_chunk } in
     let f = takes_fit z in
@@ -163,6 +165,6 @@ row_settled before t q =
     let k = row_takes t in
     let d = k.desk in
     let a = same-close k.mirrors in
-    let n = close-closed d.state d.output d.waiting (sym (ap (λ (y : CloseAnswer). word_of (close_result y)) a.0) ∙ q) in
+    let n = close-closed d.state d.output d.waiting (sym (ap (λ (y : Answer Closed). word_of (close_result y)) a.0) ∙ q) in
     let c = closes-settled k.takes n in
-    (ap (λ (y : CloseAnswer). shard_length_after y before) (a.0 ∙ n) ∙ c.0, a.1 ∙ c.1)
+    (ap (λ (y : Answer Closed). shard_length_after y before) (a.0 ∙ n) ∙ c.0, a.1 ∙ c.1)

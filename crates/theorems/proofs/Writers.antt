@@ -8,7 +8,8 @@ use lib.ListN.{length}
 use Rattle.refusal.specs.Checks.{first_number, first_position, unless, refusal}
 use Rattle.refusal.specs.Result.{success, written_result, count_result}
 use Rattle.refusal.specs.Buffer.{over}
-use Rattle.refusal.specs.declared.Written.TheVariants.{Length, Refused}
+use Rattle.std.specs.Prelude.{Ok}
+use Rattle.refusal.specs.Answers.{refuse}
 use Rattle.refusal.specs.declared.CountAnswer.TheVariants as N
 use Rattle.sharding.specs.declared.Sharding.{Sharding}
 use Rattle.sharding.specs.batch.Batch.{shards_of, minishards_of, places_checks, places_answer, shards_left, minishards_left}
@@ -43,7 +44,7 @@ module _ (spec : Sharding) where
       → (n ≡ length ids) × (shards_left spec ids shards minishards ≡ over (shards_of spec ids) shards) × (minishards_left spec ids shards minishards ≡ over (minishards_of spec ids) minishards)
   unfolding places_answer shards_left minishards_left unless
   places-written ids shards minishards n e =
-      let z = unrefused Refused (places_checks spec ids shards minishards) (Length (length ids)) (λ k p. cc) (written-told _ e) in
+      let z = unrefused refuse (places_checks spec ids shards minishards) (Ok (length ids)) (λ k p. cc) (written-told _ e) in
       (cc z.1, rw z.0, rw z.0)
 
 pub level-written : (s : List ℕ) (l : ℕ) (out : List ℕ) (n : ℕ) → written_result (nodes_answer s l out) ≡ success n → (n ≡ length (nodes_of s l)) × (nodes_left s l out ≡ over (nodes_of s l) out)

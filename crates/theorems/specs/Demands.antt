@@ -1,10 +1,11 @@
 -- The three demands, sentence by sentence, of the definitions that the entry points' contracts cite. Proved in proofs/Demands.antt.
-use Rattle.std.specs.Prelude.{ℕ, ◌+◌, ◌*◌, ◌≤◌, ◌<◌, ◌≡◌, Bool, true, false, ◌↔◌, ◌⊎◌, List, [], ◌∷◌, ◌++◌, length}
+use Rattle.std.specs.Prelude.{ℕ, ◌+◌, ◌*◌, ◌≤◌, ◌<◌, ◌≡◌, Bool, true, false, ◌↔◌, ◌⊎◌, List, [], ◌∷◌, ◌++◌, length, Err}
 use Rattle.std.proofs.Math.Option.{Option, none}
+use Rattle.refusal.specs.declared.Refusal.{Refusal}
 use Rattle.refusal.specs.Checks.{Check, check, refusal}
 use Rattle.refusal.specs.Result.{success, refused as refused_by, written_result, count_result, DecidedBy}
 use Rattle.refusal.specs.Buffer.{over}
-use Rattle.refusal.specs.declared.Written.TheVariants.{Refused}
+use Rattle.refusal.specs.Answers.{refuse}
 use Rattle.endian.specs.Place.{Holds}
 use Rattle.morton.specs.declared.grid.Volume.{Volume}
 use Rattle.morton.specs.declared.grid.Cell.{Cell}
@@ -47,8 +48,6 @@ use Rattle.split_shard.specs.Answers.{other_shard, pair_check, pair_lookup, pair
 use Rattle.split_shard.specs.form.Answers.{pair_asked_checks, pair_count, pair_listing, pair_listing_left, pair_unlisted, pair_length, pair_settle, pair_settle_left}
 use Rattle.intake.specs.declared.state.Intake.{Intake}
 use Rattle.intake.specs.admission.Refusals.{open_checks, announce_checks, part_checks, close_checks}
-use Rattle.intake.specs.declared.IntakeAnswer.TheVariants as I
-use Rattle.intake.specs.declared.CloseAnswer.TheVariants as X
 use Rattle.intake.specs.Calls.{open_answer, open_left, announce_answer, announce_left, announce_waiting, part_answer, part_left, close_answer, close_left, intake_result, close_result}
 use Rattle.holdings.specs.measures.Measures.{chunk_bytes}
 use Rattle.holdings.specs.chunk_sums.Totals.{passes}
@@ -154,26 +153,26 @@ pub record Demand1 : Type 0 where
   -- It gives nothing else, but the whole-shard check adds the minishard.
   pub minishards : Minishards
   -- And it changes no byte of a buffer that was lent. (A sheet stays: order 13's stays.)
-  pub keys_kept : (v : Volume) (cells : List Cell) (out : List ℕ) (k : ℕ) → keys_answer v cells out ≡ Refused k → keys_left v cells out ≡ out
-  pub cover_kept : (v : Volume) (lower upper : Point) (out : List ℕ) (k : ℕ) → cover_answer v lower upper out ≡ Refused k → cover_left v lower upper out ≡ out
-  pub places_kept : (spec : Sharding) (ids shards minishards : List ℕ) (k : ℕ) → places_answer spec ids shards minishards ≡ Refused k
+  pub keys_kept : (v : Volume) (cells : List Cell) (out : List ℕ) (r : Refusal) → keys_answer v cells out ≡ Err r → keys_left v cells out ≡ out
+  pub cover_kept : (v : Volume) (lower upper : Point) (out : List ℕ) (r : Refusal) → cover_answer v lower upper out ≡ Err r → cover_left v lower upper out ≡ out
+  pub places_kept : (spec : Sharding) (ids shards minishards : List ℕ) (r : Refusal) → places_answer spec ids shards minishards ≡ Err r
       → (shards_left spec ids shards minishards ≡ shards) × (minishards_left spec ids shards minishards ≡ minishards)
-  pub chunk_name_kept : (v : Volume) (c : Cell) (out : List ℕ) (k : ℕ) → chunk_name_answer v c out ≡ Refused k → chunk_name_left v c out ≡ out
-  pub file_name_kept : (kind : FileKind) (spec : Sharding) (shard : ℕ) (out : List ℕ) (k : ℕ) → file_name_answer kind spec shard out ≡ Refused k → file_name_left kind spec shard out ≡ out
+  pub chunk_name_kept : (v : Volume) (c : Cell) (out : List ℕ) (r : Refusal) → chunk_name_answer v c out ≡ Err r → chunk_name_left v c out ≡ out
+  pub file_name_kept : (kind : FileKind) (spec : Sharding) (shard : ℕ) (out : List ℕ) (r : Refusal) → file_name_answer kind spec shard out ≡ Err r → file_name_left kind spec shard out ≡ out
   pub listing_kept : (spec : Sharding) (shard : ℕ) (file : List ℕ) (m : ℕ) (out : List ℕ) (k : ℕ) (p : Option ℕ) → listing_answer spec shard file m out ≡ refusal N.Refused N.Faulty k p → listing_left spec shard file m out ≡ out
   pub settle_kept : (spec : Sharding) (shard : ℕ) (file : List ℕ) (dropping : Bool) (out : List ℕ) (k : ℕ) (p : Option ℕ) → settle_answer spec shard file dropping out ≡ refusal N.Refused N.Faulty k p → settle_left spec shard file dropping out ≡ out
   pub listing_of_pair_kept : (spec : Sharding) (shard : ℕ) (index d : List ℕ) (m : ℕ) (out : List ℕ) (k : ℕ) (p : Option ℕ) → pair_listing spec shard index d m out ≡ refusal N.Refused N.Faulty k p → pair_listing_left spec shard index d m out ≡ out
   pub settle_of_pair_kept : (spec : Sharding) (shard : ℕ) (index d : List ℕ) (dropping : Bool) (out : List ℕ) (k : ℕ) (p : Option ℕ) → pair_settle spec shard index d dropping out ≡ refusal N.Refused N.Faulty k p → pair_settle_left spec shard index d dropping out ≡ out
-  pub card_kept : (c : Card) (out : List ℕ) (k : ℕ) → write_answer c out ≡ Refused k → write_left c out ≡ out
+  pub card_kept : (c : Card) (out : List ℕ) (r : Refusal) → write_answer c out ≡ Err r → write_left c out ≡ out
   -- (nor does it give an intake another state: its answer has none)
-  pub intake_open_kept : (spec : Sharding) (shard : ℕ) (out waiting : List ℕ) (k : ℕ) → open_answer spec shard out waiting ≡ I.Refused k → open_left spec shard out ≡ out
-  pub intake_announce_kept : (s : Intake) (id size : ℕ) (out waiting : List ℕ) (k : ℕ) → announce_answer s id size out waiting ≡ I.Refused k
+  pub intake_open_kept : (spec : Sharding) (shard : ℕ) (out waiting : List ℕ) (r : Refusal) → open_answer spec shard out waiting ≡ Err r → open_left spec shard out ≡ out
+  pub intake_announce_kept : (s : Intake) (id size : ℕ) (out waiting : List ℕ) (r : Refusal) → announce_answer s id size out waiting ≡ Err r
       → (announce_left s id size out waiting ≡ out) × (announce_waiting s id size out waiting ≡ waiting)
-  pub intake_part_kept : (s : Intake) (bytes out waiting : List ℕ) (k : ℕ) → part_answer s bytes out waiting ≡ I.Refused k → part_left s bytes out waiting ≡ out
-  pub intake_close_kept : (s : Intake) (out waiting : List ℕ) (k : ℕ) → close_answer s out waiting ≡ X.Refused k → close_left s out waiting ≡ out
-  pub nodes_kept : (s : List ℕ) (l : ℕ) (out : List ℕ) (k : ℕ) → nodes_answer s l out ≡ Refused k → nodes_left s l out ≡ out
-  pub unpack_kept : (s : List ℕ) (sh : Shape) (out : List ℕ) (k : ℕ) → unpack_answer s sh out ≡ Refused k → unpack_left s sh out ≡ out
-  pub unpack_in_c_kept : (bits : ℕ) (s : List ℕ) (sh : Shape) (out : List ℕ) (k : ℕ) → written_by bits (unpack_answer s sh out) ≡ Refused k → labels_left_by bits (unpack_left s sh out) out ≡ out
+  pub intake_part_kept : (s : Intake) (bytes out waiting : List ℕ) (r : Refusal) → part_answer s bytes out waiting ≡ Err r → part_left s bytes out waiting ≡ out
+  pub intake_close_kept : (s : Intake) (out waiting : List ℕ) (r : Refusal) → close_answer s out waiting ≡ Err r → close_left s out waiting ≡ out
+  pub nodes_kept : (s : List ℕ) (l : ℕ) (out : List ℕ) (r : Refusal) → nodes_answer s l out ≡ Err r → nodes_left s l out ≡ out
+  pub unpack_kept : (s : List ℕ) (sh : Shape) (out : List ℕ) (r : Refusal) → unpack_answer s sh out ≡ Err r → unpack_left s sh out ≡ out
+  pub unpack_in_c_kept : (bits : ℕ) (s : List ℕ) (sh : Shape) (out : List ℕ) (r : Refusal) → written_by bits (unpack_answer s sh out) ≡ Err r → labels_left_by bits (unpack_left s sh out) out ≡ out
 
 -- ---- Demand 2
 

@@ -1,5 +1,7 @@
 -- What order 13 promises (RULES H4): the yearly holdings sheet counts, and the order in which shards are added makes no difference.
-use Rattle.std.specs.Prelude.{ℕ, ◌+◌, ◌≡◌, Bool, true, false, ◌↔◌, List, [], ◌∷◌, ◌++◌, eqb, length}
+use Rattle.std.specs.Prelude.{ℕ, ◌+◌, ◌≡◌, Bool, true, false, ◌↔◌, List, [], ◌∷◌, ◌++◌, eqb, length, Ok, Err}
+use Rattle.refusal.specs.declared.Refusal.{Refusal}
+use Rattle.refusal.specs.declared.Refusal.TheVariants.{TotalTooLarge}
 use Rattle.refusal.specs.Choice.{pick}
 use Rattle.sharding.specs.declared.Sharding.{Sharding}
 use Rattle.shard.specs.declared.CheckAnswer.{CheckAnswer}
@@ -14,8 +16,7 @@ use Rattle.split_shard.specs.Answers.{pair_check}
 use Rattle.holdings.specs.declared.measures.Counts.{Counts}
 use Rattle.holdings.specs.measures.Measures.{measure_of, file_measure}
 use Rattle.holdings.specs.declared.one_shard.Sheet.{Sheet}
-use Rattle.holdings.specs.declared.SheetAnswer.{SheetAnswer}
-use Rattle.holdings.specs.declared.SheetAnswer.TheVariants.{Total, Refused as SheetRefused}
+use Rattle.refusal.specs.Answers.{Answer, refuse}
 use Rattle.holdings.specs.one_shard.Sheet.{rows, from_rows_of, reporting, empty}
 use Rattle.holdings.specs.totals.Totals.{any_passes, both}
 use Rattle.holdings.specs.Answers.{join_answer, add_answer, pair_add_answer}
@@ -39,14 +40,14 @@ counts_of (two_files spec shard index d) = measure_of spec index d
 
 -- ---- the sheet that is made of them, "added to the sheet one at a time"
 
-unfoldable pub add_one : Sheet → Holding → SheetAnswer
+unfoldable pub add_one : Sheet → Holding → Answer Sheet
 add_one sheet (one_file spec shard file) = add_answer sheet spec shard file
 add_one sheet (two_files spec shard index d) = pair_add_answer sheet spec shard index d
 
 -- 27: "the sheet stays as before that shard"
-unfoldable pub kept_by : Sheet → SheetAnswer → Sheet
-kept_by sheet (Total next) = next
-kept_by sheet (SheetRefused k) = sheet
+unfoldable pub kept_by : Sheet → Answer Sheet → Sheet
+kept_by sheet (Ok next) = next
+kept_by sheet (Err k) = sheet
 
 unfoldable pub add_all : Sheet → List Holding → Sheet
 add_all sheet [] = sheet
@@ -55,7 +56,7 @@ add_all sheet (h ∷ hs) = add_all (kept_by sheet (add_one sheet h)) hs
 -- none of them is refused with 27
 unfoldable pub NoneRefused : Sheet → List Holding → Type 0
 NoneRefused sheet [] = Unit {0}
-NoneRefused sheet (h ∷ hs) = (add_one sheet h ≡ Total (kept_by sheet (add_one sheet h))) × NoneRefused (kept_by sheet (add_one sheet h)) hs
+NoneRefused sheet (h ∷ hs) = (add_one sheet h ≡ Ok (kept_by sheet (add_one sheet h))) × NoneRefused (kept_by sheet (add_one sheet h)) hs
 
 -- ---- what it should say
 
@@ -138,12 +139,12 @@ pub record Order13 : Type 0 where
       → (measure_of spec index d).bytes ≡ body_bytes items
   pub list_of_pair : (spec : Sharding) (shard : ℕ) (index d : List ℕ) → pair_check spec shard index d ≡ Sound → (items : List Item) × ListsThese spec (index ++ d) items
   -- The sheets of two parts, joined, are that of the whole.
-  pub parts : (hs gs : List Holding) → Within (hs ++ gs) → join_answer (add_all empty hs) (add_all empty gs) ≡ Total (add_all empty (hs ++ gs))
+  pub parts : (hs gs : List Holding) → Within (hs ++ gs) → join_answer (add_all empty hs) (add_all empty gs) ≡ Ok (add_all empty (hs ++ gs))
   -- 27 is given exactly when a total would pass, of any sheet, and no other number;
-  pub past : (sheet : Sheet) (h : Holding) → (add_one sheet h ≡ SheetRefused 27) ↔ WouldPass sheet h
-  pub only : (sheet : Sheet) (h : Holding) (k : ℕ) → add_one sheet h ≡ SheetRefused k → k ≡ 27
+  pub past : (sheet : Sheet) (h : Holding) → (add_one sheet h ≡ refuse 27) ↔ WouldPass sheet h
+  pub only : (sheet : Sheet) (h : Holding) (r : Refusal) → add_one sheet h ≡ Err r → r ≡ TotalTooLarge
   -- "the sheet stays as before that shard": what the contracts of the C calls say of the numbers that were lent.
-  pub stays : (lent : List ℕ) (h : Holding) (k : ℕ) → add_one (from_rows_of lent) h ≡ SheetRefused k → rows_after (add_one (from_rows_of lent) h) lent ≡ lent
-  pub join_stays : (lent other : List ℕ) (k : ℕ) → join_answer (from_rows_of lent) (from_rows_of other) ≡ SheetRefused k → rows_after (join_answer (from_rows_of lent) (from_rows_of other)) lent ≡ lent
+  pub stays : (lent : List ℕ) (h : Holding) (r : Refusal) → add_one (from_rows_of lent) h ≡ Err r → rows_after (add_one (from_rows_of lent) h) lent ≡ lent
+  pub join_stays : (lent other : List ℕ) (r : Refusal) → join_answer (from_rows_of lent) (from_rows_of other) ≡ Err r → rows_after (join_answer (from_rows_of lent) (from_rows_of other)) lent ≡ lent
   -- Where the rows of a sheet are lent, the next sheet's rows are left: `add_all` is a run of these calls.
   pub lent : (sheet : Sheet) (h : Holding) → rows_after (add_one (from_rows_of (rows sheet)) h) (rows sheet) ≡ rows (kept_by sheet (add_one sheet h))

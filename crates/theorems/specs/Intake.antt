@@ -1,5 +1,5 @@
 -- What order 11 promises (RULES N4, N6, N7, N9): intake from the scanner. What the four calls refuse, and that a refusal changes no buffer, is in Demand1.
-use Rattle.std.specs.Prelude.{ℕ, ◌+◌, ◌^◌, ◌≤◌, ◌<◌, ◌≡◌, List, [], ◌∷◌, length, take}
+use Rattle.std.specs.Prelude.{ℕ, ◌+◌, ◌^◌, ◌≤◌, ◌<◌, ◌≡◌, List, [], ◌∷◌, length, take, Ok}
 use Rattle.refusal.specs.Buffer.{over}
 use Rattle.refusal.specs.Checks.{first_number}
 use Rattle.endian.specs.Place.{Holds}
@@ -7,14 +7,12 @@ use Rattle.sharding.specs.declared.Sharding.{Sharding}
 use Rattle.shard.specs.File.{index_length_of}
 use Rattle.shard.specs.Items.{Item}
 use Rattle.intake.specs.declared.state.Intake.{Intake}
-use Rattle.intake.specs.declared.IntakeAnswer.{IntakeAnswer}
-use Rattle.intake.specs.declared.IntakeAnswer.TheVariants.{Next}
-use Rattle.intake.specs.declared.CloseAnswer.{CloseAnswer}
+use Rattle.refusal.specs.Answers.{Answer}
+use Rattle.intake.specs.declared.Closed.{Closed}
 use Rattle.intake.specs.numbers.Numbers.{state_of}
 use Rattle.intake.specs.admission.Refusals.{open_checks, announce_checks, part_checks, close_checks}
-use Rattle.intake.specs.declared.CloseAnswer.TheVariants.{Closed}
 use Rattle.intake.specs.steps.Steps.{closed}
-use Rattle.intake.specs.Calls.{open_answer, open_left, announce_answer, announce_left, announce_waiting, part_answer, part_left, close_answer, close_left, intake_result, close_result}
+use Rattle.intake.specs.Calls.{open_answer, open_left, announce_answer, announce_left, announce_waiting, part_answer, part_left, close_answer, close_left, closes_with, intake_result, close_result}
 use Rattle.coronagamba.specs.word.Word.{word_of}
 use Rattle.coronagamba.specs.Intakes.{state_after_of, part_after, shard_length_after}
 use Rattle.delivered.specs.Delivered.{Delivery, as_items, delivered_form, InOrder}
@@ -26,7 +24,7 @@ use Rattle.delivered.specs.Says.{owing, open_says, announce_says, part_says, clo
 
 -- the close of d reports n
 abbrev pub Closes : Desk → ℕ → Type 0
-Closes d n = close_answer d.state d.output d.waiting ≡ Closed (closed d.state) n
+Closes d n = close_answer d.state d.output d.waiting ≡ closes_with (closed d.state) n
 
 -- the first n bytes of the output after the close
 abbrev pub front : Desk → ℕ → List ℕ
@@ -40,13 +38,13 @@ pub record Row : Type 0 where
   pub waiting : List ℕ
 
 -- what the calls answer on a row
-abbrev pub announce_on : Row → ℕ → ℕ → IntakeAnswer
+abbrev pub announce_on : Row → ℕ → ℕ → Answer Intake
 announce_on r id size = announce_answer (state_of r.numbers) id size r.output r.waiting
 
-abbrev pub part_on : Row → List ℕ → IntakeAnswer
+abbrev pub part_on : Row → List ℕ → Answer Intake
 part_on r bytes = part_answer (state_of r.numbers) bytes r.output r.waiting
 
-abbrev pub close_on : Row → CloseAnswer
+abbrev pub close_on : Row → Answer Closed
 close_on r = close_answer (state_of r.numbers) r.output r.waiting
 
 -- and leave, by the contracts of crates/coronagamba/src/intakes.rt; before the opening any numbers stood there
@@ -105,7 +103,7 @@ pub record Order11 : Type 0 where
   -- "Data goes to its final place in the output at once": the bytes of a part, in the midst of any run, stand right after the call where they stand
   -- after the close, among the n bytes of the form.
   pub at_once : (spec : Sharding) (shard : ℕ) (out waiting : List ℕ) (xs ys : List Delivery) (d e f : Desk) (bytes : List ℕ) (parts : List (List ℕ)) (s : Intake) (n : ℕ)
-      → Takes spec shard out waiting xs d → part_answer d.state bytes d.output d.waiting ≡ Next s
+      → Takes spec shard out waiting xs d → part_answer d.state bytes d.output d.waiting ≡ Ok s
       → HandsOver (after_part d bytes s) parts e → Delivers e ys f → Closes f n
       → Holds (part_left d.state bytes d.output d.waiting) (index_length_of spec + d.state.next) bytes
       × (Holds (close_left f.state f.output f.waiting) (index_length_of spec + d.state.next) bytes × (index_length_of spec + d.state.next + length bytes ≤ n))

@@ -1,6 +1,6 @@
 -- What order 14 promises (RULES E10): the labels inside a chunk, in the compressed segmentation encoding.
-use Rattle.std.specs.Prelude.{ℕ, zero, suc, ◌^◌, ◌≤◌, ◌<◌, ◌≡◌, false, List, [], ◌∷◌, length, drop}
-use Rattle.refusal.specs.declared.Written.TheVariants.{Length, Refused}
+use Rattle.std.specs.Prelude.{ℕ, zero, suc, ◌^◌, ◌≤◌, ◌<◌, ◌≡◌, false, List, [], ◌∷◌, length, drop, Ok}
+use Rattle.refusal.specs.Answers.{refuse}
 use Rattle.morton.specs.declared.grid.Extents.{Extents}
 use Rattle.compressed_segmentation.specs.declared.Shape.{Shape}
 use Rattle.compressed_segmentation.specs.raw_form.Raw.{unpack_answer, unpack_left, length_answer}
@@ -40,9 +40,9 @@ pub record Order14 : Type 0 where
   pub voxels : (s : List ℕ) (sh : Shape) (out : List ℕ) → RefusesByVoxels s sh out
   -- The order of each call's refusals, and that a refused unpacking leaves the output as it was, is in Demand1; otherwise it is as it was past the length
   -- that is answered.
-  pub past : (s : List ℕ) (sh : Shape) (out : List ℕ) (n : ℕ) → unpack_answer s sh out ≡ Length n → drop n (unpack_left s sh out) ≡ drop n out
+  pub past : (s : List ℕ) (sh : Shape) (out : List ℕ) (n : ℕ) → unpack_answer s sh out ≡ Ok n → drop n (unpack_left s sh out) ≡ drop n out
   -- That length is told by the shape alone, of every output whose own length is a number of 64 bits; and with that room none is refused with 13.
-  pub told : (s : List ℕ) (sh : Shape) (out : List ℕ) (n : ℕ) → length out < 2 ^ 64 → unpack_answer s sh out ≡ Length n → length_answer sh ≡ Length n
-  pub room : (s : List ℕ) (sh : Shape) (out : List ℕ) (n : ℕ) → length_answer sh ≡ Length n → n ≤ length out → unpack_answer s sh out ≡ Refused 13 → ⊥
+  pub told : (s : List ℕ) (sh : Shape) (out : List ℕ) (n : ℕ) → length out < 2 ^ 64 → unpack_answer s sh out ≡ Ok n → length_answer sh ≡ Ok n
+  pub room : (s : List ℕ) (sh : Shape) (out : List ℕ) (n : ℕ) → length_answer sh ≡ Ok n → n ≤ length out → unpack_answer s sh out ≡ refuse 13 → ⊥
   -- The chunk that is worked by hand, unpacked into an output with a byte more than it needs.
-  pub worked : (unpack_answer worked_chunk worked_shape (zeros 32 (5 ∷ [])) ≡ Length 32) × (unpack_left worked_chunk worked_shape (zeros 32 (5 ∷ [])) ≡ worked_raw (5 ∷ []))
+  pub worked : (unpack_answer worked_chunk worked_shape (zeros 32 (5 ∷ [])) ≡ Ok 32) × (unpack_left worked_chunk worked_shape (zeros 32 (5 ∷ [])) ≡ worked_raw (5 ∷ []))

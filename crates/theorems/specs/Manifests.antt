@@ -1,6 +1,7 @@
 -- A mesh manifest as source 001 lists its parts ("Encoded manifest format"), one after the other (RULES M1, M6, M7). The definitions that the contracts
 -- cite read a manifest by places; this one lays it out, and has no place in it.
-use Rattle.std.specs.Prelude.{ℕ, ◌+◌, ◌^◌, ◌<◌, length, get_or}
+use Rattle.std.specs.Prelude.{ℕ, ◌+◌, ◌^◌, ◌<◌, length, get_or, Ok}
+use Rattle.refusal.specs.Answers.{Answer}
 use mathlib.Core.List.{List, [], ◌∷◌, ◌++◌, map, flat_map}
 use Rattle.std.specs.Float.{binary32}
 use Rattle.std.specs.Float.Ieee.{of_bits}
@@ -21,6 +22,10 @@ number_of (uint32 n) = n
 abbrev pub field_of : Entry → Field
 field_of (float32 n) = Real (of_bits binary32 n)
 field_of (uint32 n) = Whole n
+
+-- as an answer
+abbrev pub field_said : Entry → Answer Field
+field_said e = Ok (field_of e)
 
 -- x, y and z of a real
 pub record Axes : Type 0 where

@@ -1,17 +1,16 @@
 -- What the orders promise (RULES R4, G10, S9, C6, F16, U7, U8), beyond the demands, which hold of volumes as they did, and since order 7 of meshes too.
-use Rattle.std.specs.Prelude.{ℕ, zero, suc, ◌<◌, ◌≤◌, ◌+◌, ◌-◌, ◌^◌, ◌≡◌, Bool, true, false, not, ◌&&◌, ◌||◌, ◌↔◌, eqb, leb, length, take, get_or}
+use Rattle.std.specs.Prelude.{ℕ, zero, suc, ◌<◌, ◌≤◌, ◌+◌, ◌-◌, ◌^◌, ◌≡◌, Bool, true, false, not, ◌&&◌, ◌||◌, ◌↔◌, eqb, leb, length, take, get_or, Ok}
 use Rattle.std.proofs.Math.Option.{none}
 use mathlib.Core.List.{List, [], ◌∷◌, ◌++◌, Memᴰ, map}
 use Rattle.refusal.specs.Choice.{pick}
 use Rattle.refusal.specs.Checks.{Check, check, left, answered_at}
 use Rattle.refusal.specs.Result.{Result, count_result}
 use Rattle.refusal.specs.Buffer.{over, room}
-use Rattle.refusal.specs.declared.Written.TheVariants.{Length}
+use Rattle.refusal.specs.Answers.{refuse}
 use Rattle.morton.specs.declared.grid.Cell.{Cell}
 use Rattle.morton.specs.declared.grid.Extents.{Extents}
 use Rattle.morton.specs.declared.bounds.Point.{Point}
 use Rattle.morton.specs.declared.grid.Volume.{Volume}
-use Rattle.morton.specs.declared.KeyAnswer.TheVariants.{Key}
 use Rattle.morton.specs.grid.Grid.{grid_of, zero_extent, InU32}
 use Rattle.morton.specs.Key.{too_many_bits, key_of, cell_of, is_key}
 use Rattle.morton.specs.Answers.{key_answer}
@@ -52,7 +51,6 @@ use Rattle.split_shard.specs.form.Answers.{pair_count, pair_listing, pair_unlist
 use Rattle.holdings.specs.measures.Answers.{measure_answer, pair_measure, measure_result}
 use Rattle.positions.specs.Points.{PointsAt, Named}
 use Rattle.card.specs.declared.Card.{Card}
-use Rattle.card.specs.declared.CardAnswer.TheVariants.{Says, Refused}
 use Rattle.card.specs.Layout.{card_bytes, Ranged}
 use Rattle.card.specs.Answers.{record_checks, read_answer, write_answer, write_left}
 use Rattle.card.specs.older_readers.Before.{card_bytes_before_mesh, read_answer_before_mesh, MeshCard, record_checks_before, read_answer_before, NewCard}
@@ -101,13 +99,13 @@ pub record Order4 : Type 0 where
   -- "A card with 13 to 16 is written in the same field,
   pub field : (c : Card) → get_or (card_bytes c) 11 0 ≡ minishard_bits_of c.sharding
   -- and the old reading room answers it with 1; show that it never answers otherwise."
-  pub written : (c : Card) (out : List ℕ) (n : ℕ) → Ranged c → write_answer c out ≡ Length n → c.sharding.kind ≡ volume
-      → most_minishard_bits_before < minishard_bits_of c.sharding → read_answer_before (take n (write_left c out)) ≡ Refused 1
-  pub new : (s : List ℕ) → NewCard s → read_answer_before s ≡ Refused 1
+  pub written : (c : Card) (out : List ℕ) (n : ℕ) → Ranged c → write_answer c out ≡ Ok n → c.sharding.kind ≡ volume
+      → most_minishard_bits_before < minishard_bits_of c.sharding → read_answer_before (take n (write_left c out)) ≡ refuse 1
+  pub new : (s : List ℕ) → NewCard s → read_answer_before s ≡ refuse 1
   -- It answers all other bytes but mesh cards as they are answered now,
   pub other : (s : List ℕ) → (MeshCard s → ⊥) → (NewCard s → ⊥) → read_answer_before s ≡ read_answer s
   -- and what it read is read so now.
-  pub read : (s : List ℕ) (c : Card) → read_answer_before s ≡ Says c → read_answer s ≡ Says c
+  pub read : (s : List ℕ) (c : Card) → read_answer_before s ≡ Ok c → read_answer s ≡ Ok c
 
 -- Order 5: "List the keys of all grid cells that share a voxel with the box, each once, in rising key order."
 pub record Order5 : Type 0 where
@@ -115,7 +113,7 @@ pub record Order5 : Type 0 where
   pub listed : (v : Volume) (lower upper : Point) (k : ℕ)
       → Memᴰ k (cover_keys v lower upper) ↔ ((is_key (grid_of v) k ≡ true) × SharesVoxel v lower upper (cell_of (grid_of v) k))
   -- the same of each cell and the key that it is answered with.
-  pub cells : (v : Volume) (lower upper : Point) (c : Cell) (k : ℕ) → InU32 v.size → key_answer v c ≡ Key k
+  pub cells : (v : Volume) (lower upper : Point) (c : Cell) (k : ℕ) → InU32 v.size → key_answer v c ≡ Ok k
       → Memᴰ k (cover_keys v lower upper) ↔ SharesVoxel v lower upper c
   -- Each is above the one before it, so none stands twice.
   pub rising : (v : Volume) (lower upper : Point) → RisingFrom 0 (cover_keys v lower upper)
@@ -126,7 +124,7 @@ pub record Order5 : Type 0 where
   -- number of keys".
   pub written : (v : Volume) (lower upper : Point) (out : List ℕ) → zero_extent v ≡ false → too_many_bits (grid_of v) ≡ false
       → length (cover_keys v lower upper) ≤ length out
-      → (cover_answer v lower upper out ≡ Length (length (cover_keys v lower upper))) × (cover_left v lower upper out ≡ over (cover_keys v lower upper) out)
+      → (cover_answer v lower upper out ≡ Ok (length (cover_keys v lower upper))) × (cover_left v lower upper out ≡ over (cover_keys v lower upper) out)
 
 -- the refusals that carry a position: 7 to 11, 15 to 17 and 21
 abbrev pub is_placed : ℕ → Bool
@@ -212,9 +210,9 @@ pub record Order7 : Type 0 where
       → start_step_in spec (file_form spec a) m i ≡ pick (eqb i 0) (place_in spec a m) 0 + fragments_length_of (chunk_in spec (file_form spec a) m i)
   -- The reader from before this order, and the one from before order 4, answer 14 to what is written now of a mesh, and to every mesh
   -- card, whoever made it.
-  pub written : (c : Card) (out : List ℕ) (n : ℕ) → write_answer c out ≡ Length n → c.sharding.kind ≡ mesh
-      → (read_answer_before_mesh (take n (write_left c out)) ≡ Refused 14) × (read_answer_before (take n (write_left c out)) ≡ Refused 14)
-  pub cards : (s : List ℕ) → MeshCard s → (read_answer_before_mesh s ≡ Refused 14) × (read_answer_before s ≡ Refused 14)
+  pub written : (c : Card) (out : List ℕ) (n : ℕ) → write_answer c out ≡ Ok n → c.sharding.kind ≡ mesh
+      → (read_answer_before_mesh (take n (write_left c out)) ≡ refuse 14) × (read_answer_before (take n (write_left c out)) ≡ refuse 14)
+  pub cards : (s : List ℕ) → MeshCard s → (read_answer_before_mesh s ≡ refuse 14) × (read_answer_before s ≡ refuse 14)
   -- All other bytes the reader from before this order answers as they are answered now,
   pub other : (s : List ℕ) → (MeshCard s → ⊥) → read_answer_before_mesh s ≡ read_answer s
   -- and the card of a volume has the bytes that it had, to which that of a mesh adds tag 8, a length of 1 and the one byte of 1.
@@ -223,7 +221,7 @@ pub record Order7 : Type 0 where
   -- There is no third kind: 1.
   pub kinds : (spec : Sharding) → mesh < spec.kind → allowed spec ≡ false
   -- "the info reader yields volume".
-  pub info : (s : List ℕ) (k : ℕ) (c : Card) → info_answer s k ≡ Says c → c.sharding.kind ≡ volume
+  pub info : (s : List ℕ) (k : ℕ) (c : Card) → info_answer s k ≡ Ok c → c.sharding.kind ≡ volume
 
 -- the checks of settling and of its length before order 8: those of the check, then 13 (RULES U7)
 unfoldable pub settle_checks_before : Sharding → ℕ → List ℕ → List ℕ → List Check
@@ -268,10 +266,10 @@ pub record Order9 : Type 0 where
   -- output is as it was past them;
   pub written : (v : Volume) (cells : List Cell) (out : List ℕ) → zero_extent v ≡ false → each_in_grid (grid_of v) cells ≡ true → too_many_bits (grid_of v) ≡ false
       → length cells ≤ length out
-      → (keys_answer v cells out ≡ Length (length cells)) × (keys_left v cells out ≡ over (map (key_of (grid_of v)) cells) out)
+      → (keys_answer v cells out ≡ Ok (length cells)) × (keys_left v cells out ≡ over (map (key_of (grid_of v)) cells) out)
   -- they are those that each cell is answered with alone.
-  pub alone : (v : Volume) (cells : List Cell) (out : List ℕ) {n : ℕ} → keys_answer v cells out ≡ Length n
-      → (n ≡ length cells) × (map (key_answer v) cells ≡ map Key (keys_of v cells))
+  pub alone : (v : Volume) (cells : List Cell) (out : List ℕ) {n : ℕ} → keys_answer v cells out ≡ Ok n
+      → (n ≡ length cells) × (map (key_answer v) cells ≡ map Ok (keys_of v cells))
   -- The cells of a row are those with x from one number up to another, that end excluded, at one y and z, and there are as many.
   pub row : (y z from to : ℕ) (c : Cell) → Memᴰ c (row_of from to y z) ↔ ((from ≤ c.x) × (c.x < to) × (c.y ≡ y) × (c.z ≡ z))
   pub count : (from to y z : ℕ) → length (row_of from to y z) ≡ to - from

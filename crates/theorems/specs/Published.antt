@@ -1,13 +1,13 @@
 -- Demand 2's first sentence: "Keys, shard and minishard numbers, file names, byte ranges and manifest fields are those of the published format." Each field
 -- says it of one thing, in the words of sources 000, 001 and 002, from another side than the definition that the contracts cite: the bits of a key are
 -- told by their places, a place is put together, a name is read back, a manifest is laid out.
-use Rattle.std.specs.Prelude.{ℕ, suc, ◌+◌, ◌*◌, ◌^◌, ◌≤◌, ◌<◌, ◌≡◌, true, false, ◌⊎◌, eqb, ℤ, pos, negsuc, Float, length, get_or, take}
+use Rattle.std.specs.Prelude.{ℕ, suc, ◌+◌, ◌*◌, ◌^◌, ◌≤◌, ◌<◌, ◌≡◌, true, false, ◌⊎◌, eqb, ℤ, pos, negsuc, Float, length, get_or, take, Ok}
 use mathlib.Core.List.{List, ◌∷◌, ◌++◌, map, flat_map}
 use Rattle.std.specs.Float.{fin, binary32}
 use Rattle.std.specs.Float.Ieee.{add, mul, of_int, of_bits}
 use Rattle.refusal.specs.Choice.{pick}
 use Rattle.refusal.specs.Result.{success}
-use Rattle.refusal.specs.declared.Written.TheVariants.{Length}
+use Rattle.refusal.specs.Answers.{refuse}
 use Rattle.morton.specs.declared.grid.Volume.{Volume}
 use Rattle.endian.specs.Range.{sum_to}
 use Rattle.morton.specs.declared.grid.Cell.{Cell}
@@ -29,15 +29,13 @@ use Rattle.shard.specs.File.{index_length_of}
 use Rattle.lookup.specs.Find.{lookup_answer, part_bytes}
 use Rattle.lookup.specs.fragments.Fragment.{fragment_answer}
 use Rattle.split_shard.specs.Answers.{pair_lookup, pair_fragment, in_data}
-use Rattle.mesh_manifest.specs.declared.sound.ManifestAnswer.TheVariants.{Sound}
-use Rattle.mesh_manifest.specs.declared.Field.TheVariants as F
 use Rattle.mesh_manifest.specs.sound.Verdict.{manifest_answer}
 use Rattle.mesh_manifest.specs.Fields.{header_answer, header_result, field_answer}
 use Rattle.mesh_manifest.specs.nodes.Nodes.{node_answer, node_result}
 use Rattle.mesh_manifest.specs.declared.corners.Corner.{Corner}
 use Rattle.mesh_manifest.specs.declared.corners.Corners.{Corners}
 use Rattle.mesh_manifest.specs.corners.Boxes.{corners_answer, corners_result}
-use Rattle.theorems.specs.Manifests.{field_of, Fragment, Level, Manifest, entries_of, bytes_of, Fits, sizes_of}
+use Rattle.theorems.specs.Manifests.{field_said, Fragment, Level, Manifest, entries_of, bytes_of, Fits, sizes_of}
 
 -- ---- keys
 
@@ -112,7 +110,7 @@ pub record NamesChunk (b : Bounds) (name : List ℕ) : Type 0 where
 -- the manifest is sound, as it is laid out
 pub record Laid (m : Manifest) : Type 0 where
   pub fits : Fits m
-  pub sound : manifest_answer (bytes_of m) ≡ Sound
+  pub sound : manifest_answer (bytes_of m) ≡ Ok tt
 
 abbrev pub real : ℕ → Float
 real n = of_bits binary32 n
@@ -159,11 +157,11 @@ pub record Published : Type 0 where
       → hash_of spec shifted ≡ minishard + 2 ^ minishard_bits_of spec * (shard + 2 ^ shard_bits_of spec * rest)
       → place_result (place_answer spec (shifted * 2 ^ spec.preshift + low)) ≡ success (record { shard = shard; minishard = minishard })
   -- What a call that names a file leaves at the front of the output is the file's name,
-  pub file_name : (kind : FileKind) (spec : Sharding) (shard : ℕ) (out : List ℕ) (n : ℕ) → file_name_answer kind spec shard out ≡ Length n → NamesFile kind spec shard (take n (file_name_left kind spec shard out))
+  pub file_name : (kind : FileKind) (spec : Sharding) (shard : ℕ) (out : List ℕ) (n : ℕ) → file_name_answer kind spec shard out ≡ Ok n → NamesFile kind spec shard (take n (file_name_left kind spec shard out))
   -- and what one that names a chunk leaves there is the name of the chunk's bounds.
-  pub chunk_name : (v : Volume) (c : Cell) (out : List ℕ) (n : ℕ) → chunk_name_answer v c out ≡ Length n → NamesChunk (bounds_of v c) (take n (chunk_name_left v c out))
+  pub chunk_name : (v : Volume) (c : Cell) (out : List ℕ) (n : ℕ) → chunk_name_answer v c out ≡ Ok n → NamesChunk (bounds_of v c) (take n (chunk_name_left v c out))
   -- Every sound manifest is one that is laid out as source 001 says,
-  pub manifest : (s : List ℕ) → ((i : ℕ) → get_or s i 0 < 256) → manifest_answer s ≡ Sound → (m : Manifest) × Laid m × (bytes_of m ≡ s)
+  pub manifest : (s : List ℕ) → ((i : ℕ) → get_or s i 0 < 256) → manifest_answer s ≡ Ok tt → (m : Manifest) × Laid m × (bytes_of m ≡ s)
   -- and of one that is laid out so: the header is its chunk shape and its grid origin;
   pub header : (m : Manifest) → Laid m
       → header_result (header_answer (bytes_of m)) ≡ success (record {
@@ -175,7 +173,7 @@ pub record Published : Type 0 where
         origin_z = real m.origin.z;
       })
   -- the fields, counted from 0, are its items, a float32 as a real and a uint32 as a whole number, and past the last there is none;
-  pub field : (m : Manifest) → Laid m → (i : ℕ) → field_answer (bytes_of m) i ≡ get_or (map field_of (entries_of m)) i (F.Refused 18)
+  pub field : (m : Manifest) → Laid m → (i : ℕ) → field_answer (bytes_of m) i ≡ get_or (map field_said (entries_of m)) i (refuse 18)
   -- a node has its fragment's position, start and size;
   pub node : (m : Manifest) → Laid m → (l i start : ℕ) (f : Fragment) → Stands m l i f start
       → node_result (node_answer (bytes_of m) l i) ≡ success (record { x = f.x; y = f.y; z = f.z; start = start; size = f.size })

@@ -109,7 +109,7 @@ module _ (spec : Sharding) (shard : ℕ) (file : List ℕ) where
 
   pub unlisted_decided : DecidedBy (shard_checks spec shard file) (count_result (unlisted_answer spec shard file))
   unfolding unlisted_answer
-  unlisted_decided = decided_at count_result Refused (λ k. refl) Faulty (λ k p. (refl, refl, refl)) (shard_checks spec shard file) _ refl (shard_in spec shard file)
+  unlisted_decided = decided_at count_result Refused (λ k t. refl) Faulty (λ k p. (refl, refl, refl)) (shard_checks spec shard file) _ refl (shard_in spec shard file)
 
   -- of a sound shard the count is answered
   pub unlisted-sound : SoundShard spec shard file → unlisted_answer spec shard file ≡ Count (file_unlisted spec file)

@@ -16,15 +16,19 @@ use Rattle.unlisted.specs.declared.rising_walk.Run.{Run}
 use Rattle.unlisted.specs.declared.checked_walk.Judged.{Judged}
 use Rattle.unlisted.specs.stretches.Reading.{Ranged}
 use Rattle.unlisted.specs.rising_walk.Order.{Extends, in_part, part_at}
-use Rattle.unlisted.specs.Judging.{Steps, Skips, JudgedAs}
+use Rattle.unlisted.specs.Judging.{Steps, JudgedAs}
 use Rattle.unlisted.proofs.stretches.Covering.{ranged_in, read_ranged}
 use Rattle.unlisted.proofs.rising_walk.Runs.{extends_none}
 use Rattle.unlisted.proofs.rising_walk.Parts.{over_none, all-next, tells-each}
 
 -- ---- one minishard
 
+pub step-faulty : (spec : Sharding) (shard : ℕ) (index d : List ℕ) (m : ℕ) {found : Fault} → found ≡ fault_of spec shard index d m → (found.number ≡ 0 → ⊥) → (run : Run) → run.gaps ≤ run.to
+    → Steps spec shard index d m run (record { number = found.number; position = found.position; run = run })
+step-faulty spec shard index d m f n run h = record { told = f; sums = h; walk = λ z. absurd (n z) }
+
 module _ (spec : Sharding) (shard : ℕ) (index d : List ℕ) (m : ℕ) {s e : ℕ} (es : s ≡ entry_start_of index m) (ee : e ≡ entry_end_of index m) where
-  pub step-empty : s ≡ e → (run : Run) → run.gaps ≤ run.to → Steps spec shard index d m run (record { number = 0; position = 0; run = run })
+  step-empty : s ≡ e → (run : Run) → run.gaps ≤ run.to → Steps spec shard index d m run (record { number = 0; position = 0; run = run })
   step-empty q run h =
       record {
         told = fault-entry spec shard m index d es ee (fault-empty spec shard m (length index) d s e q);
@@ -33,9 +37,6 @@ module _ (spec : Sharding) (shard : ℕ) (index d : List ℕ) (m : ℕ) {s e : �
       }
 
   module _ {found : Fault} (f : found ≡ fault_of spec shard index d m) where
-    pub step-faulty : (found.number ≡ 0 → ⊥) → (run : Run) → run.gaps ≤ run.to → Steps spec shard index d m run (record { number = found.number; position = found.position; run = run })
-    step-faulty n run h = record { told = f; sums = h; walk = λ z. absurd (n z) }
-
     module _ (z : found.number ≡ 0) where
       sound : SoundMinishard spec shard index d m
       sound = passes-minishard spec shard index d m (ap (λ (x : Fault). x.number) (sym f) ∙ z)
@@ -43,8 +44,8 @@ module _ (spec : Sharding) (shard : ℕ) (index d : List ℕ) (m : ℕ) {s e : �
       pub step-ordered : s ≤ e
       step-ordered = rw (es, ee) sound.ordered
 
-      pub step_ranged : length index ≡ index_length_of spec → m < minishard_count_of spec → length d ≤ most_shard_bytes → (s ≡ e → ⊥) → Ranged spec d s ((e - s) / 24)
-      step_ranged h k l n = read_ranged spec index d m es ee (ranged_in sound (omega arith) l) n
+      pub step_ranged : length index ≡ index_length_of spec → m < minishard_count_of spec → length d ≤ most_shard_bytes → (entry_start_of index m ≡ entry_end_of index m → ⊥) → Ranged spec d s ((e - s) / 24)
+      step_ranged h k l n = read_ranged spec index d m es ee (ranged_in sound (omega arith) l) (λ q. n (sym es ∙ q ∙ ee))
 
       pub step-walk : {run next : Run} → Extends (in_part true true spec d s e) run next → Steps spec shard index d m run (record { number = 0; position = found.position; run = next })
       step-walk x =
@@ -53,20 +54,6 @@ module _ (spec : Sharding) (shard : ℕ) (index d : List ℕ) (m : ℕ) {s e : �
             sums = x.sums;
             walk = λ q. rw (es, ee) at x;
           }
-
--- ---- empty minishards
-
-pub skips_first : (index : List ℕ) (m n : ℕ) → m ≤ n → Skips index m n m
-skips_first index m n h = record { from = omega arith; below = h; empty = λ j a b. absurd (omega arith) }
-
-pub skips_next : {index : List ℕ} {m n j s e : ℕ} → Skips index m n j → j < n → s ≡ entry_start_of index j → e ≡ entry_end_of index j → s ≡ e → Skips index m n (j + 1)
-skips_next {index} {m} {n} {j} h l es ee q =
-    record { from = omega (arith, h.from); below = omega arith; empty = λ i a b. one i a (omega arith) }
-  where
-    one : (i : ℕ) → m ≤ i → i ≤ j → entry_start_of index i ≡ entry_end_of index i
-    one i a b = ⊎_elim (λ k. ap (λ (x : ℕ). entry_start_of index x) k ∙ sym es ∙ q ∙ ee ∙ ap (λ (x : ℕ). entry_end_of index x) (sym k)) (λ k. h.empty i a k) (eq-or-lt_of_le b)
-
-pub ruleset skipping = (skips_first, skips_next, rules)
 
 -- ---- the first fault, of those that are left
 
@@ -120,31 +107,21 @@ module _ (spec : Sharding) (shard : ℕ) (index d : List ℕ) where
           walked = all-next true true spec index d m g.walked x;
         }
 
-  -- k empty ones more
-  judging_empty : (k : ℕ) {n m : ℕ} {at : Run} → Judging spec shard index d n m at → m + k ≤ n → ((j : ℕ) → m ≤ j → j < m + k → entry_start_of index j ≡ entry_end_of index j)
-      → Judging spec shard index d n (m + k) at
-  judging_empty zero {n} {m} {at} g h e = let q : m + 0 ≡ m = omega arith in rw q g
-  judging_empty (suc k) {n} {m} {at} g h e =
-      let q : m + suc k ≡ m + k + 1 = omega arith in
-      let b = judging_empty k g (omega arith) (λ j a c. e j a (omega arith)) in
-      let s = e (m + k) (omega arith) (omega arith) in
-      let t = step-empty spec shard index d (m + k) refl refl s at g.walked.sums in
-      rw q (judging_one b (omega arith) (ap (λ (x : Fault). x.number) (sym t.told)) (t.walk refl))
+  -- an empty one
+  pub judging_empty : {n m s e : ℕ} {at : Run} → Judging spec shard index d n m at → m < n → s ≡ entry_start_of index m → e ≡ entry_end_of index m → s ≡ e → Judging spec shard index d n (m + 1) at
+  judging_empty {n} {m} {s} {e} {at} g l es ee q =
+      let t = step-empty spec shard index d m es ee q at g.walked.sums in
+      judging_one g l (ap (λ (x : Fault). x.number) (sym t.told)) (t.walk refl)
 
-  judging_skip : {n m r : ℕ} {at : Run} → Judging spec shard index d n m at → Skips index m n r → Judging spec shard index d n r at
-  judging_skip {n} {m} {r} {at} g h =
-      let q : m + (r - m) ≡ r = omega (arith, h.from) in
-      rw q at (judging_empty (r - m) g (omega (arith, h.below, h.from)) (λ j a b. h.empty j a (omega arith)))
-
-  pub judging_start : {n m : ℕ} {none : Run} → n ≡ minishard_count_of spec → none ≡ record { to = 0; gaps = 0; last = 0 } → Skips index 0 n m → Judging spec shard index d n m none
-  judging_start {n} {m} e z h = rw z (judging_skip (judging_first e) h)
+  pub judging_start : {n : ℕ} {none : Run} → n ≡ minishard_count_of spec → none ≡ record { to = 0; gaps = 0; last = 0 } → Judging spec shard index d n 0 none
+  judging_start {n} e z = rw z (judging_first e)
 
   module _ {n m : ℕ} {at : Run} (g : Judging spec shard index d n m at) (l : m < n) {r : Judged} (s : Steps spec shard index d m at r) where
     numbered : r.number ≡ (fault_of spec shard index d m).number
     numbered = ap (λ (x : Fault). x.number) s.told
 
-    pub judging_turn : r.number ≡ 0 → {k : ℕ} → Skips index (m + 1) n k → Judging spec shard index d n k r.run
-    judging_turn z h = judging_skip (judging_one g l (sym numbered ∙ z) (s.walk z)) h
+    pub judging_turn : r.number ≡ 0 → Judging spec shard index d n (m + 1) r.run
+    judging_turn z = judging_one g l (sym numbered ∙ z) (s.walk z)
 
     pub judged-found : (r.number ≡ 0 → ⊥) → JudgedAs spec shard index d r
     judged-found n =
@@ -169,4 +146,4 @@ module _ (spec : Sharding) (shard : ℕ) (index d : List ℕ) where
         tells = λ z. tells-each spec index d refl (rw q at g.walked);
       }
 
-pub ruleset judging = (judging_start, judging_turn, judged-found, judged-none, rules)
+pub ruleset judging = (judging_start, judging_empty, judging_turn, judged-found, judged-none, rules)

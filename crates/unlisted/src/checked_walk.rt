@@ -1,12 +1,12 @@
 // The walk in turn together with the check: each minishard is judged, and walked over while its bytes are at hand.
 
-ghost use Rattle.std.specs.Prelude.{◌≡◌, ◌-◌, ◌*◌, ◌/◌, ◌<◌, ◌≤◌, true, length};
+ghost use Rattle.std.specs.Prelude.{◌≡◌, ◌-◌, ◌*◌, ◌/◌, ◌<◌, ◌≤◌, ◌≢◌, true, length};
 ghost use Rattle.sharding.specs.Specification.{allowed, minishard_count_of};
-ghost use Rattle.shard.specs.index.Index.{most_shard_bytes};
+ghost use Rattle.shard.specs.index.Index.{entry_start_of, entry_end_of, most_shard_bytes};
 ghost use Rattle.shard.specs.File.{index_length_of};
 ghost use Rattle.unlisted.specs.stretches.Reading.{Ranged};
 ghost use Rattle.unlisted.specs.rising_walk.Order.{Extends, in_part};
-ghost use Rattle.unlisted.specs.Judging.{Steps, Skips, JudgedAs};
+ghost use Rattle.unlisted.specs.Judging.{Steps, JudgedAs};
 
 use crate::rising_walk::{BROKEN, Run, nothing, over_part};
 use shard::index::{entry_end, entry_start};
@@ -34,22 +34,14 @@ fn walk_on(run: Run, spec: Sharding, data: &[u8], s: usize, e: usize) -> Run
     over_part(run, spec, data, s, e, true, true)
 }
 
-// Minishard m: an empty one has no fault, wherever it points.
+// Minishard m, which is not empty.
 fn step(run: Run, spec: Sharding, shard: u64, index: &[u8], data: &[u8], m: u64) -> Judged
     requires spec_value { allowed spec ≡ true }
     requires index_len { (length index.now ≡ index_length_of spec) × (length «data».now ≤ most_shard_bytes) × (m < minishard_count_of spec) }
+    requires some { entry_start_of index.now m ≢ entry_end_of index.now m }
     requires gaps_le_to { run.gaps ≤ run.to }
     ensures { Steps spec shard index.now «data».now m run result }
 {
-    let s = entry_start(index, m);
-    let e = entry_end(index, m);
-    if s == e {
-        return Judged {
-            number: 0,
-            position: 0,
-            run,
-        };
-    }
     let found = judge(spec, shard, index, data, m);
     if found.number != 0 {
         return Judged {
@@ -58,7 +50,9 @@ fn step(run: Run, spec: Sharding, shard: u64, index: &[u8], data: &[u8], m: u64)
             run,
         };
     }
-    let next = walk_on(run, spec, data, s as usize, e as usize);
+    let s = entry_start(index, m) as usize;
+    let e = entry_end(index, m) as usize;
+    let next = walk_on(run, spec, data, s, e);
     Judged {
         number: 0,
         position: found.position,
@@ -66,22 +60,7 @@ fn step(run: Run, spec: Sharding, shard: u64, index: &[u8], data: &[u8], m: u64)
     }
 }
 
-// The first minishard from m on that is not empty, or n.
-fn next_some(index: &[u8], m: u64, n: u64) -> u64
-    requires { (m ≤ n) × (16 * n ≤ length index.now) }
-    ensures { Skips index.now m n result }
-{
-    let mut j = m;
-    while j < n {
-        if entry_start(index, j) != entry_end(index, j) {
-            return j;
-        }
-        j += 1;
-    }
-    j
-}
-
-// All minishards, up to the first with a fault.
+// All minishards, up to the first with a fault. An empty one has none, wherever it points.
 pub fn judge_all(spec: Sharding, shard: u64, index: &[u8], data: &[u8]) -> Judged
     requires spec_value { allowed spec ≡ true }
     requires index_len { (length index.now ≡ index_length_of spec) × (length «data».now ≤ most_shard_bytes) }
@@ -89,14 +68,15 @@ pub fn judge_all(spec: Sharding, shard: u64, index: &[u8], data: &[u8]) -> Judge
 {
     let n = minishard_count(spec);
     let mut at = nothing();
-    let mut m = next_some(index, 0, n);
-    while m < n {
+    for m in 0..n {
+        if entry_start(index, m) == entry_end(index, m) {
+            continue;
+        }
         let next = step(at, spec, shard, index, data, m);
         if next.number != 0 {
             return next;
         }
         at = next.run;
-        m = next_some(index, m + 1, n);
     }
     Judged {
         number: 0,

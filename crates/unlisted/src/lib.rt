@@ -2,6 +2,7 @@
 #![tactic(auto)]
 
 mod checked_walk;
+mod chunks;
 pub mod counting;
 pub mod ranges;
 pub mod rising_walk;

@@ -9,8 +9,8 @@ ghost use Rattle.unlisted.specs.ranges.Covered.{in_items, covered_at};
 ghost use Rattle.unlisted.specs.stretches.Reading.{Ranged, RangedIn, RangedShard};
 ghost use Rattle.unlisted.specs.rising_walk.Order.{Extends, Tells, in_part, part_at};
 
+use crate::chunks::Chunks;
 use crate::stretches::{item_start, stretch_of};
-use endian::read_u64;
 use shard::index::{entry_end, entry_start};
 use sharding::Sharding;
 use sharding::limits::minishard_count;
@@ -58,21 +58,15 @@ fn over_each(run: Run, spec: Sharding, data: &[u8], s: usize, n: usize, k: usize
     requires gaps_le_to { run.gaps ≤ run.to }
     ensures { Extends (in_items spec «data».now s n k) run result }
 {
-    let starts = s + 8 * n;
-    let sizes = s + 16 * n;
     let mut at = run;
-    let mut end: u64 = 0;
-    let mut i: usize = 0;
-    while i < k {
-        let start = std::num::wrapping_add_u64(end, read_u64(data, starts + 8 * i));
-        let size = read_u64(data, sizes + 8 * i);
-        let begin = item_start(spec, data, start as usize, size as usize);
-        end = start + size;
-        at = extend(at, begin, end as usize);
+    for chunk in Chunks::new(data, s, n, k) {
+        let start = chunk.start as usize;
+        let size = chunk.size as usize;
+        let begin = item_start(spec, data, start, size);
+        at = extend(at, begin, start + size);
         if at.last == BROKEN {
             return at;
         }
-        i += 1;
     }
     at
 }
@@ -147,13 +141,11 @@ fn over_all(run: Run, spec: Sharding, index: &[u8], data: &[u8], items: bool, ro
 {
     let n = minishard_count(spec);
     let mut at = run;
-    let mut m: u64 = 0;
-    while m < n {
+    for m in 0..n {
         at = over_minishard(at, spec, index, data, m, items, rows);
         if at.last == BROKEN {
             return at;
         }
-        m += 1;
     }
     at
 }

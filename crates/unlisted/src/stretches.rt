@@ -46,11 +46,9 @@ fn sums_of(data: &[u8], s: usize, n: usize, k: usize) -> Sums
     let sizes = s + 16 * n;
     let mut steps: u64 = 0;
     let mut sum = read_u64(data, sizes);
-    let mut i: usize = 1;
-    while i < k {
+    for i in 1..k {
         steps = joined(steps, read_u64(data, starts + 8 * i));
-        sum = std::num::wrapping_add_u64(sum, read_u64(data, sizes + 8 * i));
-        i += 1;
+        sum = sum.wrapping_add(read_u64(data, sizes + 8 * i));
     }
     Sums { steps, sizes: sum }
 }
@@ -86,7 +84,7 @@ pub fn stretch_of(spec: Sharding, data: &[u8], s: usize, n: usize, k: usize) -> 
     }
     let sums = sums_of(data, s, n, k);
     let from = read_u64(data, s + 8 * n);
-    let to = std::num::wrapping_add_u64(from, sums.sizes);
+    let to = from.wrapping_add(sums.sizes);
     Stretch {
         whole: sums.steps == 0,
         from: from as usize,

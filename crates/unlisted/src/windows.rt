@@ -1,6 +1,6 @@
 // The unlisted bytes of a shard whatever the order of its ranges, by windows of its data.
 
-ghost use Rattle.std.specs.Prelude.{◌≡◌, ◌+◌, ◌-◌, ◌<◌, ◌≤◌, min, length, take, drop};
+ghost use Rattle.std.specs.Prelude.{◌≡◌, ◌+◌, ◌-◌, ◌<◌, ◌≤◌, length, take, drop};
 ghost use Rattle.bitmap.specs.Positions.{within, after, misses};
 ghost use Rattle.bitmap.specs.window.Window.{span, window_words, Notes, Clear};
 ghost use Rattle.shard.specs.index.Index.{entry_start_of, entry_end_of, most_shard_bytes};
@@ -9,26 +9,13 @@ ghost use Rattle.unlisted.specs.ranges.Covered.{in_items, in_minishard, covered_
 ghost use Rattle.unlisted.specs.stretches.Reading.{Ranged, RangedIn, RangedShard};
 ghost use Rattle.unlisted.specs.windows.Windows.{Limit, Meets};
 
+use crate::chunks::Chunks;
 use crate::stretches::item_start;
 use bitmap::window::{SPAN, WINDOW_WORDS, note, open_below};
-use endian::read_u64;
 use shard::index::{entry_end, entry_start};
 use shard::lengths::{MOST_SHARD_BYTES, has_leads};
 use sharding::Sharding;
 use sharding::limits::minishard_count;
-
-fn least(a: usize, b: usize) -> usize
-    ensures { result ≡ min a b }
-{
-    if a < b { a } else { b }
-}
-
-// How far a lies past b, or 0.
-fn past(a: usize, b: usize) -> usize
-    ensures { result ≡ a - b }
-{
-    if a < b { 0 } else { a - b }
-}
 
 // ---- noting: position p of the map stands for the byte at lo + p
 
@@ -37,8 +24,8 @@ fn note_range(map: &mut [u64], lo: usize, a: usize, b: usize)
     requires { length map.old ≡ window_words }
     ensures { Notes map.old map.new (after lo (within a b)) }
 {
-    let x = past(a, lo);
-    let y = least(past(b, lo), SPAN);
+    let x = a.saturating_sub(lo);
+    let y = b.saturating_sub(lo).min(SPAN);
     if x < y {
         note(map, x, y);
     }
@@ -60,7 +47,7 @@ fn meets(lo: u64, limit: u64, start: u64, size: u64) -> bool
     requires { (lo < limit) × (limit ≤ 2147483648) × (start + size ≤ most_shard_bytes) }
     ensures { Meets lo limit start size result }
 {
-    std::num::wrapping_sub_u64(start + size, lo + 1) < limit - (lo + 1) + size
+    (start + size).wrapping_sub(lo + 1) < limit - (lo + 1) + size
 }
 
 // An item that may meet the window. One whose chunk begins before it needs no lead.
@@ -102,16 +89,8 @@ fn note_items(map: &mut [u64], spec: Sharding, data: &[u8], lo: u64, limit: u64,
     requires ranged { Ranged spec «data».now s n }
     ensures { Notes map.old map.new (after lo (in_items spec «data».now s n n)) }
 {
-    let starts = s + 8 * n;
-    let sizes = s + 16 * n;
-    let mut end: u64 = 0;
-    let mut i: usize = 0;
-    while i < n {
-        let start = std::num::wrapping_add_u64(end, read_u64(data, starts + 8 * i));
-        let size = read_u64(data, sizes + 8 * i);
-        note_item(map, spec, data, lo, limit, start, size);
-        end = start + size;
-        i += 1;
+    for chunk in Chunks::new(data, s, n, n) {
+        note_item(map, spec, data, lo, limit, chunk.start, chunk.size);
     }
 }
 
@@ -146,10 +125,8 @@ fn note_all(map: &mut [u64], spec: Sharding, index: &[u8], data: &[u8], lo: usiz
 {
     let limit = limit_of(spec, lo);
     let n = minishard_count(spec);
-    let mut m: u64 = 0;
-    while m < n {
+    for m in 0..n {
         note_minishard(map, spec, index, data, lo as u64, limit as u64, m);
-        m += 1;
     }
 }
 

@@ -48,10 +48,8 @@ fn print_line(rt: &impl Print, preshift: u8, id: u64) -> io::Result<()>
 fn print_powers(rt: &impl Print, preshift: u8) -> io::Result<()>
     requires { preshift ≤ most_preshift }
 {
-    let mut k = 0u64;
-    while k < 64 {
+    for k in 0..64u32 {
         print_line(rt, preshift, 1u64 << k)?;
-        k += 1;
     }
     Ok(())
 }
@@ -60,11 +58,9 @@ fn print_random(rt: &impl Print, preshift: u8) -> io::Result<()>
     requires { preshift ≤ most_preshift }
 {
     let mut x = 88172645463325252u64;
-    let mut left = 32u32;
-    while left > 0 {
+    for _ in 0..32 {
         x = next(x);
         print_line(rt, preshift, x)?;
-        left -= 1;
     }
     Ok(())
 }

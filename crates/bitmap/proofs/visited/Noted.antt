@@ -9,10 +9,9 @@ use native.Mathlib.Nat.{pow-suc}
 use native.Mathlib.Numerals.{add-one}
 use lib.Bits.{bit_or}
 use lib.Dec.{eqb, leb, ltb}
-use lib.ListN.{length, get_or, set, length-set, replicate, get_or-eq_default}
-use lib.Seq.{get_or-set_same, get_or-set_other}
+use lib.ListN.{length, get_or, set, replicate, get_or-eq_default}
 use lib.Pow.{shl_exact, pow_pos}
-use borrow.Author.Tests.{leb-true, leb-false, ltb-true, le-leb, lt-ltb, eqb-true, eqb-false}
+use borrow.Author.Tests.{leb-true, leb-false, ltb-true, le-leb, lt-ltb}
 use Rattle.refusal.proofs.Tests.{both, neither}
 use Rattle.bitmap.specs.Positions.{within}
 use Rattle.bitmap.specs.Bits.{bit_at, Marked}
@@ -27,9 +26,6 @@ use Rattle.bitmap.specs.visited.Seen.{Seen, Sees, Blank}
 bit-at : (map : List ℕ) (o : ℕ) → bit_at map o ≡ eqb (get_or map (o / 64) 0 / 2 ^ (o % 64) % 2) 1
 unfolding bit_at
 bit-at map o = bit_shift (o % 64) (get_or map (o / 64) 0)
-
-pub bit-read : (map : List ℕ) (o : ℕ) → eqb (get_or map (o / 64) 0 / 2 ^ (o % 64) % 2) 1 ≡ bit_at map o
-bit-read map o = sym (bit-at map o)
 
 zero_bit : (x : ℕ) → eqb (0 / 2 ^ x % 2) 1 ≡ false
 zero_bit x = sym (bit_shift x 0) ∙ bit-zero x
@@ -112,27 +108,5 @@ pub blank_zeros : (n : ℕ) → Blank (replicate n 0)
 unfolding noted
 blank_zeros n = record { none = λ o s. true≢false (sym s.bit ∙ (neither (bit_at (replicate n 0) o) _ ((clear_zeros n).none o)).0) }
 
--- ---- clearing
-
-pub record Cleared (old map : List ℕ) (i : ℕ) : Type 0 where
-  pub same : length map ≡ length old
-  pub zero : (j : ℕ) → j < i → get_or map j 0 ≡ 0
-
-pub cleared_start : (map : List ℕ) → Cleared map map 0
-cleared_start map = record { same = refl; zero = λ j h. absurd (omega arith) }
-
-pub cleared_on : {old map : List ℕ} {i : ℕ} → Cleared old map i → i < length old → Cleared old (set map i 0) (i + 1)
-cleared_on {old} {map} {i} r h = record { same = length-set map i 0 ∙ r.same; zero = λ j l. go j l (eqb j i) refl }
-  where
-    go : (j : ℕ) → j < i + 1 → (b : Bool) → eqb j i ≡ b → get_or (set map i 0) j 0 ≡ 0
-    go j l true e = let s = r.same in ap (λ (k : ℕ). get_or (set map i 0) k 0) (eqb-true j i e) ∙ get_or-set_same map i 0 0 (omega arith)
-    go j l false e = let n = eqb-false j i e in get_or-set_other map i j 0 0 (λ q. n q) ∙ r.zero j (omega arith)
-
-pub cleared_end : {old map : List ℕ} {i : ℕ} → Cleared old map i → length old ≤ i → Blank map
-cleared_end {old} {map} {i} r h = record { none = λ o s. true≢false (sym s.bit ∙ clear o s) }
-  where
-    clear : (o : ℕ) → Seen map o → bit_at map o ≡ false
-    clear o s = bit-at map o ∙ (let q = r.same in let z = r.zero (o / 64) (omega (arith, s.inside)) in rw z (zero_bit (o % 64)))
-
-pub cleared_same : {old map : List ℕ} {i : ℕ} → Cleared old map i → length map ≡ length old
-cleared_same r = r.same
+pub blank_filled : {map : List ℕ} (n : ℕ) → map ≡ replicate n 0 → Blank map
+blank_filled n e = rw e (blank_zeros n)

@@ -5,9 +5,9 @@ use mathlib.Core.Bool.{Bool, true, false, ◌||◌, or-false, or_comm, or_assoc}
 use mathlib.Core.List.{List}
 use native.Mathlib.Omega.{arith}
 use lib.ListN.{length, get_or, replicate, length-replicate}
-use borrow.Author.Rules.{rules}
 use mir.Val.{Fits}
 use mir.Syntax.{w64}
+use Rattle.std.specs.Int.{div_ceil}
 use Rattle.endian.specs.Range.{sum_to}
 use Rattle.bitmap.specs.Positions.{within, after, misses}
 use Rattle.bitmap.specs.Bits.{bit_at, Marked}
@@ -71,7 +71,7 @@ module _ {p q : List ℕ} (f l : ℕ) (w : length p ≡ window_words) (h : l ≤
 
 -- ---- a range
 
-pub note_many : {p q r s : List ℕ} (a b f l : ℕ) → length p ≡ window_words → b ≤ span → f ≡ (a + 4095) / 4096 → l ≡ b / 4096 → f < l
+pub note_many : {p q r s : List ℕ} (a b f l : ℕ) → length p ≡ window_words → b ≤ span → f ≡ div_ceil a 4096 → l ≡ b / 4096 → f < l
     → Marked p q (within (span + f) (span + l)) → Marked q r (within a (4096 * f)) → Marked r s (within (4096 * l) b) → Notes p s (within a b)
 note_many a b f l w h ef el n x y z =
     let u = x.same in
@@ -108,24 +108,22 @@ group_some ws g e t z =
 pub record Tally (ws : List ℕ) (g t : ℕ) : Type 0 where
   pub total : t ≡ misses (noted ws) (4096 * g)
 
-pub tally-first : (ws : List ℕ) → Tally ws 0 0
+pub tally_first : (ws : List ℕ) → Tally ws 0 0
 unfolding sum_to
-tally-first ws = record { total = refl }
+tally_first ws = record { total = refl }
 
-pub tally-fits : {ws : List ℕ} {g t z : ℕ} → g ≤ 1016 → Tally ws g t → z ≤ 4096 → Fits w64 (t + z)
-tally-fits {ws} {g} u h l = let a = h.total in record { fits = omega (arith, misses-le (noted ws) (4096 * g)) }
+pub tally_fits : {ws : List ℕ} {g t z : ℕ} → g ≤ 1016 → Tally ws g t → z ≤ 4096 → Fits w64 (t + z)
+tally_fits {ws} {g} u h l = let a = h.total in record { fits = omega (arith, misses-le (noted ws) (4096 * g)) }
 
-pub tally-next : {ws : List ℕ} {g t z : ℕ} → Tally ws g t → z ≡ misses (after (4096 * g) (noted ws)) 4096 → Tally ws (g + 1) (t + z)
-tally-next {ws} {g} h e =
+pub tally_next : {ws : List ℕ} {g t z : ℕ} → Tally ws g t → z ≡ misses (after (4096 * g) (noted ws)) 4096 → Tally ws (g + 1) (t + z)
+tally_next {ws} {g} h e =
     let a = h.total in
     let s = misses-after (noted ws) (4096 * g) 4096 in
     let c : misses (noted ws) (4096 * (g + 1)) ≡ misses (noted ws) (4096 * g + 4096) = ap (misses (noted ws)) (omega arith) in
     record { total = omega arith }
 
-pub tally-last : {ws : List ℕ} {g t : ℕ} → g ≤ 1016 → Tally ws g t → 1016 ≤ g → t ≡ misses (noted ws) span
-tally-last {ws} u h l = h.total ∙ ap (misses (noted ws)) (omega arith)
-
-pub ruleset tallying = (tally-first, tally-fits, tally-next, tally-last, rules)
+pub tally_last : {ws : List ℕ} {g t : ℕ} → g ≤ 1016 → Tally ws g t → 1016 ≤ g → t ≡ misses (noted ws) span
+tally_last {ws} u h l = h.total ∙ ap (misses (noted ws)) (omega arith)
 
 -- those below n, where those from n on are noted before the count
 pub below-counted : {p q : List ℕ} (n : ℕ) {t : ℕ} → Notes p q (within n span) → n ≤ span → t ≡ misses (noted q) span → t ≡ misses (noted p) n

@@ -11,7 +11,8 @@ use lib.ListN.{length, take}
 use borrow.Author.Tests.{ltb-true, ltb-false, eqb-true}
 use Rattle.refusal.specs.Choice.{pick}
 use Rattle.refusal.specs.Checks.{Check, check, first_number, unless, answered}
-use Rattle.refusal.specs.declared.Written.TheVariants.{Length}
+use Rattle.std.specs.Prelude.{Ok}
+use Rattle.refusal.specs.Answers.{refuse}
 use Rattle.refusal.proofs.Tests.{neither}
 use Rattle.sharding.specs.Specification.{volume, mesh, is_mesh, most_minishard_bits, minishard_bits_of, allowed, Within}
 use Rattle.sharding.specs.declared.Sharding.{Sharding}
@@ -19,7 +20,6 @@ use Rattle.sharding.specs.Before.{most_minishard_bits_before, allowed_before}
 use Rattle.sharding.proofs.Allowed.{allowed-within}
 use Rattle.sharding.proofs.Before.{same-allowed, refused-before}
 use Rattle.card.specs.declared.Card.{Card}
-use Rattle.card.specs.declared.CardAnswer.TheVariants.{Says, Refused}
 use Rattle.card.specs.Layout.{sharding_bytes, volume_bytes, card_bytes, Ranged}
 use Rattle.card.specs.form.Form.{well_formed}
 use Rattle.card.specs.Reading.{kind_in, card_sharding, offset_in, card_volume, card_in}
@@ -98,19 +98,19 @@ module _ (s : List ℕ) where
 
   -- ---- to bytes that were no card
 
-  malformed-before-mesh : well_formed_before_mesh s ≡ false → read_answer_before_mesh s ≡ Refused 14
+  malformed-before-mesh : well_formed_before_mesh s ≡ false → read_answer_before_mesh s ≡ refuse 14
   unfolding read_answer_before_mesh read_checks_before_mesh first_number unless
   malformed-before-mesh e = rw e
 
-  malformed-before : well_formed_before_mesh s ≡ false → read_answer_before s ≡ Refused 14
+  malformed-before : well_formed_before_mesh s ≡ false → read_answer_before s ≡ refuse 14
   unfolding read_answer_before read_checks_before first_number unless
   malformed-before e = rw e
 
-  both_14 : (length s ≡ 50) ⊎ (length s ≡ 65) → (read_answer_before_mesh s ≡ Refused 14) × (read_answer_before s ≡ Refused 14)
+  both_14 : (length s ≡ 50) ⊎ (length s ≡ 65) → (read_answer_before_mesh s ≡ refuse 14) × (read_answer_before s ≡ refuse 14)
   both_14 h = (malformed-before-mesh (mesh-malformed s h), malformed-before (mesh-malformed s h))
 
   -- both readers answer 14 to each mesh card
-  pub mesh-card-is_14 : MeshCard s → (read_answer_before_mesh s ≡ Refused 14) × (read_answer_before s ≡ Refused 14)
+  pub mesh-card-is_14 : MeshCard s → (read_answer_before_mesh s ≡ refuse 14) × (read_answer_before s ≡ refuse 14)
   mesh-card-is_14 h = both_14 (mesh-length h.kind)
 
   -- ---- to all other bytes
@@ -124,21 +124,21 @@ module _ (s : List ℕ) where
     unfolding read_answer_before read_answer read_checks_before read_checks card_in
     same-card q =
         rw (← same-formed e, ← same-said e)
-        (ap (λ (cs : List Check). answered Refused (check 14 (not (well_formed s)) ∷ cs) (Says (card_in s))) (same_record (card_in s) q))
+        (ap (λ (cs : List Check). answered refuse (check 14 (not (well_formed s)) ∷ cs) (Ok (card_in s))) (same_record (card_in s) q))
 
   no-mesh : (MeshCard s → ⊥) → kind_in s ≡ mesh → (t : Bool) → well_formed s ≡ t → well_formed s ≡ false
   no-mesh none e true w = absurd (none (record { formed = w; kind = e }))
   no-mesh none e false w = w
 
   -- a length of mesh cards, and no mesh card: 14 now, and 14 before
-  14-now : (MeshCard s → ⊥) → kind_in s ≡ mesh → read_answer s ≡ Refused 14
+  14-now : (MeshCard s → ⊥) → kind_in s ≡ mesh → read_answer s ≡ refuse 14
   14-now none e = malformed_14 s (no-mesh none e (well_formed s) refl)
 
   pub other-before-mesh : (MeshCard s → ⊥) → read_answer_before_mesh s ≡ read_answer s
   other-before-mesh none =
       ⊎_elim same-volume (λ e. (both_14 (mesh-length e)).0 ∙ sym (14-now none e)) volume-or-mesh
 
-  pub new-card-is_1 : NewCard s → read_answer_before s ≡ Refused 1
+  pub new-card-is_1 : NewCard s → read_answer_before s ≡ refuse 1
   unfolding read_answer_before read_checks_before record_checks_before first_number unless card_in
   new-card-is_1 h = rw (← same-formed h.kind, ← same-said h.kind, h.formed, refused-before (card_sharding s) h.above)
 
@@ -157,12 +157,12 @@ module _ (s : List ℕ) where
 -- ---- what is written now
 
 -- of a mesh: 14 to both readers, whatever the record
-pub written-mesh-is_14 : (c : Card) (out : List ℕ) (n : ℕ) → write_answer c out ≡ Length n → c.sharding.kind ≡ mesh
-    → (read_answer_before_mesh (take n (write_left c out)) ≡ Refused 14) × (read_answer_before (take n (write_left c out)) ≡ Refused 14)
+pub written-mesh-is_14 : (c : Card) (out : List ℕ) (n : ℕ) → write_answer c out ≡ Ok n → c.sharding.kind ≡ mesh
+    → (read_answer_before_mesh (take n (write_left c out)) ≡ refuse 14) × (read_answer_before (take n (write_left c out)) ≡ refuse 14)
 written-mesh-is_14 c out n a e = rw (left-bytes c out n a) (both_14 (card_bytes c) (mesh_lengths c e))
 
 -- of a volume with more than 12 minishard bits
-pub written-is-new : (c : Card) (out : List ℕ) (n : ℕ) → Ranged c → write_answer c out ≡ Length n → c.sharding.kind ≡ volume
+pub written-is-new : (c : Card) (out : List ℕ) (n : ℕ) → Ranged c → write_answer c out ≡ Ok n → c.sharding.kind ≡ volume
     → most_minishard_bits_before < minishard_bits_of c.sharding → NewCard (take n (write_left c out))
 unfolding card_in
 written-is-new c out n r a k h =

@@ -1,6 +1,6 @@
 -- The readers of cards as they were before order 7 and before order 4, in the old reading rooms, and the bytes of a card as they were.
 -- No code uses them. They are kept to say what these readers answer to the cards that are written now (RULES C6).
-use Rattle.std.specs.Prelude.{ℕ, ◌<◌, ◌≤◌, ◌≡◌, Bool, true, false, not, ◌&&◌, List, [], ◌∷◌, ◌++◌, eqb, length, get_or}
+use Rattle.std.specs.Prelude.{ℕ, ◌<◌, ◌≤◌, ◌≡◌, Bool, true, false, not, ◌&&◌, List, [], ◌∷◌, ◌++◌, eqb, length, get_or, Ok}
 use Rattle.refusal.specs.Choice.{pick}
 use Rattle.refusal.specs.Checks.{Check, check, answered}
 use Rattle.morton.specs.grid.Grid.{grid_of, zero_extent}
@@ -10,8 +10,7 @@ use Rattle.sharding.specs.declared.Sharding.{Sharding}
 use Rattle.sharding.specs.Specification.{volume, mesh, most_minishard_bits, minishard_bits_of}
 use Rattle.sharding.specs.Before.{most_minishard_bits_before, allowed_before}
 use Rattle.card.specs.declared.Card.{Card}
-use Rattle.card.specs.declared.CardAnswer.{CardAnswer}
-use Rattle.card.specs.declared.CardAnswer.TheVariants.{Says, Refused}
+use Rattle.refusal.specs.Answers.{Answer, refuse}
 use Rattle.card.specs.Layout.{sharding_bytes, volume_bytes}
 use Rattle.card.specs.fields.Fields.{six_fields, offset_field, card_offset_at}
 use Rattle.card.specs.Reading.{card_extents_at, zeros, kind_in, card_sharding}
@@ -45,8 +44,8 @@ unfoldable pub read_checks_before_mesh : List ℕ → List Check
 read_checks_before_mesh s = check 14 (not (well_formed_before_mesh s)) ∷ record_checks (card_in_before_mesh s)
 
 -- RULES C6
-unfoldable pub read_answer_before_mesh : List ℕ → CardAnswer
-read_answer_before_mesh s = answered Refused (read_checks_before_mesh s) (Says (card_in_before_mesh s))
+unfoldable pub read_answer_before_mesh : List ℕ → Answer Card
+read_answer_before_mesh s = answered refuse (read_checks_before_mesh s) (Ok (card_in_before_mesh s))
 
 -- what that reader did not know: a card with tag 8
 pub record MeshCard (s : List ℕ) : Type 0 where
@@ -66,8 +65,8 @@ unfoldable pub read_checks_before : List ℕ → List Check
 read_checks_before s = check 14 (not (well_formed_before_mesh s)) ∷ record_checks_before (card_in_before_mesh s)
 
 -- RULES C6
-unfoldable pub read_answer_before : List ℕ → CardAnswer
-read_answer_before s = answered Refused (read_checks_before s) (Says (card_in_before_mesh s))
+unfoldable pub read_answer_before : List ℕ → Answer Card
+read_answer_before s = answered refuse (read_checks_before s) (Ok (card_in_before_mesh s))
 
 -- what that reader did not know of volumes: a card with 13 to 16 minishard bits
 pub record NewCard (s : List ℕ) : Type 0 where

@@ -9,7 +9,7 @@ use crate::Card;
 use crate::field_writing::{put_extents, put_sharding};
 use crate::optional_fields::{kind_len, offset_len, put_kind, put_offset};
 use morton::grid::Volume;
-use refusal::Written;
+use refusal::Refusal;
 
 fn put_volume(out: &mut [u8], at: usize, volume: Volume)
     requires { at + (30 + length (offset_bytes volume.offset)) ≤ length out.old }
@@ -51,14 +51,14 @@ fn put_card(out: &mut [u8], card: Card)
 }
 
 // The bytes of a card that was judged.
-pub fn write(card: Card, out: &mut [u8]) -> Written
+pub fn write(card: Card, out: &mut [u8]) -> Result<usize, Refusal>
     ensures value { result ≡ written (card_bytes card) out.old }
     ensures out_after { out.new ≡ left_by (card_bytes card) out.old }
 {
     let n = card_len(card);
     if out.len() < n {
-        return Written::Refused(13);
+        return Err(Refusal::NoRoom);
     }
     put_card(out, card);
-    Written::Length(n)
+    Ok(n)
 }

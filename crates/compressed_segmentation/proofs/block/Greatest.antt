@@ -48,18 +48,11 @@ module _ (f : ℕ → ℕ) where
   pub greatest-is : (n i : ℕ) → i < n → ((j : ℕ) → j < n → f j ≤ f i) → f i ≡ greatest f n
   greatest-is n i h g = le_antisymm (le-greatest n i h) (greatest-le n (f i) g)
 
-  -- a loop that ends at the first number above 0, where none passes it
-  pub greatest_hit : (n i : ℕ) {r : ℕ} → i < n → r ≡ f i → ((j : ℕ) → f j ≤ f i) → r ≡ greatest f n
-  greatest_hit n i h e g = e ∙ greatest-is n i h (λ j k. g j)
-
   pub greatest_still : (i : ℕ) {r : ℕ} → 0 ≡ greatest f i → r ≡ f i → r ≤ 0 → 0 ≡ greatest f (i + 1)
   greatest_still i e q h = omega (arith, greatest-step i)
 
   pub greatest-all : (n i : ℕ) {r : ℕ} → r ≡ greatest f i → i ≤ n → n ≤ i → r ≡ greatest f n
   greatest-all n i e h k = let q : i ≡ n = omega arith in e ∙ ap (greatest f) q
-
-  pub greatest-more : (i : ℕ) {r : ℕ} {w : ℕ} → w ≡ greatest f i → r ≡ max w (f i) → r ≡ greatest f (i + 1)
-  greatest-more i e q = omega (arith, greatest-step i)
 
 pub greatest_flat : (f : ℕ → ℕ) (n k : ℕ) → 0 < n → ((i : ℕ) → f i ≡ k) → greatest f n ≡ k
 greatest_flat f n k h e =

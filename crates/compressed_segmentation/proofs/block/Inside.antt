@@ -1,5 +1,5 @@
 -- How a block lies in the extents: its coordinates from its number, and its voxels.
-use Prim.Native.Nat.{ℕ, ◌+◌, ◌-◌, ◌*◌, ◌/◌, ◌%◌, ◌<◌, ◌≤◌}
+use Prim.Native.Nat.{ℕ, ◌+◌, ◌*◌, ◌/◌, ◌%◌, ◌<◌, ◌≤◌}
 use mathlib.Core.Path.{◌≡◌, ap, ◌∙◌}
 use mathlib.Core.Bool.{false}
 use native.Mathlib.Omega.{arith}
@@ -16,29 +16,10 @@ use Rattle.compressed_segmentation.proofs.Shapes.{some-voxels}
 
 -- ---- the code's numbers
 
-module _ (extent block g : ℕ) {from : ℕ} (e : from ≡ 0 + block * g) where
-  pub span_none : extent ≤ from → 0 ≡ span extent block g
-  unfolding span
-  span_none h = omega arith
-
-  pub span-cut : from < extent → extent - from < block → extent - from ≡ span extent block g
-  unfolding span
-  span-cut h l = omega arith
-
-  pub span-full : from < extent → block ≤ extent - from → block ≡ span extent block g
-  unfolding span
-  span-full h l = omega arith
-
 pub rest_of_fits : (n g : ℕ) → 0 < g → Fits w32 g → Fits w32 (n % g)
 rest_of_fits n g h f = omega (arith, mod-lt n h)
 
 module _ (sh : Shape) (h : no_voxels sh ≡ false) where
-  pub some-rows : {d : ℕ} → d ≡ grid_size sh.extents.y sh.block.y → 0 < d
-  some-rows e =
-      let p = some-voxels sh h in
-      let l = begins-inside-is-cell sh.extents.y sh.block.y p.by 0 (omega arith) in
-      omega arith
-
   -- the layer of a block's number
   layer_below : (n : ℕ) → n < block_count sh → 0 < across sh → 0 < down sh → n / across sh / down sh < deep sh
   unfolding block_count

@@ -10,7 +10,7 @@ use borrow.Author.Tests.{eqb-true}
 use Rattle.refusal.proofs.Tests.{both}
 use Rattle.morton.specs.declared.grid.Extents.{Extents}
 use Rattle.compressed_segmentation.specs.declared.Shape.{Shape}
-use Rattle.compressed_segmentation.specs.declared.LabelAnswer.{LabelAnswer}
+use Rattle.refusal.specs.Answers.{Answer}
 use Rattle.compressed_segmentation.specs.Words.{word, whole}
 use Rattle.compressed_segmentation.specs.Layout.{no_voxels, width_in, table_in}
 use Rattle.compressed_segmentation.specs.Labels.{label_words, value_in}
@@ -89,10 +89,6 @@ module _ (s : List ℕ) (e o first second : ℕ) (b inside : Extents) where
   pub voxels_hit : (w : ℕ) {k : ℕ} → w < inside.z → k ≡ layer_refusal s e o first second b inside w → 0 < k → k ≡ voxels_refusal s e o first second b inside
   unfolding voxels_refusal
   voxels_hit w h q l = mild_hit _ layer_mild _ w h q l
-
-  pub row-all : (w v u : ℕ) → 0 ≡ greatest (place_refusal s e o first second b w v) u → u ≤ inside.x → inside.x ≤ u → 0 ≡ row_refusal s e o first second b inside w v
-  unfolding row_refusal
-  row-all w v u q h l = greatest-all _ _ u q h l
 
   pub layer_all : (w v : ℕ) → 0 ≡ greatest (row_refusal s e o first second b inside w) v → v ≤ inside.y → inside.y ≤ v → 0 ≡ layer_refusal s e o first second b inside w
   unfolding layer_refusal
@@ -178,7 +174,7 @@ module _ (s : List ℕ) (sh : Shape) (o n : ℕ) (some : 0 < n) where
 
 -- at width 0 all voxels of a block are alike
 module _ (s : List ℕ) (sh : Shape) (o n : ℕ) (h : no_voxels sh ≡ false) (l : n < block_count sh) where
-  pub block_flat : {first k : ℕ} {a : LabelAnswer} → first ≡ word s (o + 2 * n) → width_in first ≡ 0 → a ≡ entry_answer s (label_words sh.wide) (o + table_in first) 0 → k ≡ refusal_in a → k ≡ block_refusal s sh o n
+  pub block_flat : {first k : ℕ} {a : Answer ℕ} → first ≡ word s (o + 2 * n) → width_in first ≡ 0 → a ≡ entry_answer s (label_words sh.wide) (o + table_in first) 0 → k ≡ refusal_in a → k ≡ block_refusal s sh o n
   unfolding block_refusal voxels_refusal layer_refusal row_refusal place_refusal
   block_flat {first} {k} {a} f z e q =
       let w = label_words sh.wide in

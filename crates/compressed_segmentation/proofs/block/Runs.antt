@@ -28,7 +28,7 @@ module _ (step high w u : ℕ) (r : Width w) where
   bits-before =
       let p = 32 / w in
       let q = step * (high / p) in
-      let g = regroup p (record { low = u; step = step; high = high }) r.some in
+      let g = regroup p u step high in
       let e : p * q * w ≡ 32 * q = mul_right_comm p q w ∙ ap (λ (x : ℕ). x * q) r.product in
       ap (λ (x : ℕ). x * w) g ∙ add-mul _ _ w ∙ omega arith
 
@@ -130,16 +130,6 @@ module _ (s : List ℕ) (e t v : ℕ) (some : 0 < e) where
       absurd (omega arith))
       (λ l. rw (whole-no s (t + e * v) e l))
       (within-or-past (t + e * v + e) (length s / 4))
-
-pub wide_entries : (s : List ℕ) (wide : Bool) (t : ℕ) {n : ℕ} → n ≡ length s / 4 → wide ≡ true → (n - t) / 2 ≡ whole_entries_of s (label_words wide) t
-wide_entries s wide t e q = rw q (ap (λ (x : ℕ). (x - t) / 2) e)
-
-pub narrow-entries : (s : List ℕ) (wide : Bool) (t : ℕ) {n : ℕ} → n ≡ length s / 4 → wide ≡ false → n - t ≡ whole_entries_of s (label_words wide) t
-narrow-entries s wide t e q = rw q (omega arith)
-
-pub no-entries : (s : List ℕ) (wide : Bool) (t : ℕ) {n : ℕ} → n ≡ length s / 4 → n < t → 0 ≡ whole_entries_of s (label_words wide) t
-no-entries s true t e l = omega arith
-no-entries s false t e l = omega arith
 
 -- ---- the walk over a run
 

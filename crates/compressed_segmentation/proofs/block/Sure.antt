@@ -1,6 +1,6 @@
 -- A block whose last packed word is whole: its runs, and no refused voxel where its table is whole for every value of its width.
-use Prim.Native.Nat.{ℕ, ◌+◌, ◌-◌, ◌*◌, ◌/◌, ◌^◌, ◌<◌, ◌≤◌}
-use mathlib.Core.Path.{◌≡◌, sym, ap, ◌∙◌}
+use Prim.Native.Nat.{ℕ, ◌+◌, ◌-◌, ◌*◌, ◌/◌, ◌^◌, ◌<◌, ◌≤◌, min}
+use mathlib.Core.Path.{◌≡◌, ap, ◌∙◌}
 use mathlib.Core.Bool.{Bool, true, false}
 use mathlib.Core.List.{List}
 use native.Mathlib.Omega.{arith}
@@ -8,15 +8,16 @@ use native.Mathlib.Nat.{mul-le-mul_left, mul-le-mul, mod-lt, le-div_iff_mul-le, 
 use lib.Dec.{eqb, ltb}
 use lib.Pow.{pow_pos}
 use lib.ListN.{length}
+use mir.Syntax.{w64}
+use mir.Val.{Fits}
 use borrow.Author.Tests.{ne_eqb, ltb-true, ltb-false}
 use Rattle.morton.specs.declared.grid.Extents.{Extents}
-use Rattle.compressed_segmentation.specs.Layout.{width_in, table_in, is_width}
+use Rattle.compressed_segmentation.specs.Layout.{width_in, table_in}
 use Rattle.compressed_segmentation.specs.Steps.{value_answer}
 use Rattle.compressed_segmentation.specs.Labels.{label_words, value_in}
 use Rattle.compressed_segmentation.specs.block.Voxels.{refusal_in}
 use Rattle.compressed_segmentation.specs.block.Checks.{greatest, Packed, Reached, whole_entries_of, run_refusal, place_refusal, row_refusal, layer_refusal, voxels_refusal}
 use Rattle.compressed_segmentation.proofs.Shapes.{whole-yes, whole-no}
-use Rattle.compressed_segmentation.proofs.packed_values.Packed.{widths, bits-word}
 use Rattle.compressed_segmentation.proofs.block.Greatest.{greatest-le}
 use Rattle.compressed_segmentation.proofs.block.Mild.{row_hit, layer_hit, voxels_hit}
 use Rattle.compressed_segmentation.proofs.block.Runs.{label-some, entry-within}
@@ -83,25 +84,27 @@ module _ (s : List ℕ) (o first second : ℕ) (b inside : Extents) (r : Reached
 
 -- ---- what is asked of the last voxel
 
-module _ (s : List ℕ) (wide : Bool) (o first second : ℕ) (b inside : Extents) (is : is_width (width_in first) ≡ true) (some : 0 < width_in first)
-    {k q high : ℕ} {r : Bool} (he : high ≡ inside.y - 1 + b.y * (inside.z - 1)) (ke : k ≡ (inside.x - 1 + b.x * high) / (32 / width_in first)) (qe : q ≡ length s / 4)
-    (re : r ≡ ltb (o + second + k) q) where
-  last_word : k ≡ last_place b inside * width_in first / 32
-  last_word =
-      ke ∙ ap (λ (x : ℕ). (inside.x - 1 + b.x * x) / (32 / width_in first)) he
-      ∙ sym (bits-word (width_in first) (last_place b inside) some (widths _ is some))
+module _ (s : List ℕ) (wide : Bool) (o first second : ℕ) (b inside : Extents) (some : 0 < width_in first)
+    {high last bit q : ℕ} (he : high ≡ inside.y - 1 + b.y * (inside.z - 1)) (le : last ≡ inside.x - 1 + b.x * high)
+    (be : bit ≡ min (last * width_in first) (2 ^ 128 - 1)) (qe : q ≡ length s / 4) (qf : Fits w64 q) where
+  bit-is : bit ≡ min (last_place b inside * width_in first) (2 ^ 128 - 1)
+  bit-is = be ∙ ap (λ (x : ℕ). min (x * width_in first) (2 ^ 128 - 1)) (le ∙ ap (λ (x : ℕ). inside.x - 1 + b.x * x) he)
 
-  pub reached : r ≡ true → Reached s o first second b inside
-  reached x = let a : o + second + k < q = ltb-true _ _ (sym re ∙ x) in record { some = some; last = omega (arith, last_word) }
+  pub reached : ltb (o + second + bit / 32) q ≡ true → Reached s o first second b inside
+  reached x =
+      let a : o + second + bit / 32 < q = ltb-true _ _ x in
+      let e = bit-is in
+      record { some = some; last = omega arith }
 
-  last-refused : r ≡ false → 28 ≡ place_refusal s (label_words wide) o first second b (inside.z - 1) (inside.y - 1) (inside.x - 1)
+  last-refused : ltb (o + second + bit / 32) q ≡ false → 28 ≡ place_refusal s (label_words wide) o first second b (inside.z - 1) (inside.y - 1) (inside.x - 1)
   unfolding place_refusal value_answer
   last-refused x =
-      let a : q ≤ o + second + k = ltb-false _ _ (sym re ∙ x) in
+      let a : q ≤ o + second + bit / 32 = ltb-false _ _ x in
+      let e = bit-is in
       let z : eqb (width_in first) 0 ≡ false = ne_eqb (width_in first) 0 (λ y. omega arith) in
-      rw (z, whole-no s (o + second + last_place b inside * width_in first / 32) 1 (omega (arith, last_word)))
+      rw (z, whole-no s (o + second + last_place b inside * width_in first / 32) 1 (omega arith))
 
-  pub not-reached : 0 < inside.x → 0 < inside.y → 0 < inside.z → r ≡ false → 28 ≡ voxels_refusal s (label_words wide) o first second b inside
+  pub not-reached : 0 < inside.x → 0 < inside.y → 0 < inside.z → ltb (o + second + bit / 32) q ≡ false → 28 ≡ voxels_refusal s (label_words wide) o first second b inside
   not-reached hx hy hz x =
       let e = label_words wide in
       let row = row_hit s e o first second b inside (inside.z - 1) (inside.y - 1) (inside.x - 1) (omega arith) (last-refused x) (omega arith) in

@@ -1,5 +1,5 @@
 -- A header like the one before it, and the places that a walk over the channels notes.
-use Prim.Native.Nat.{ℕ, ◌+◌, ◌-◌, ◌*◌, ◌/◌, ◌<◌, ◌≤◌, max}
+use Prim.Native.Nat.{ℕ, ◌+◌, ◌-◌, ◌*◌, ◌/◌, ◌<◌, ◌≤◌}
 use mathlib.Core.Path.{◌≡◌, refl, sym, ap, ◌∙◌}
 use mathlib.Core.Bool.{Bool, true, false, ◌&&◌}
 use mathlib.Core.List.{List}
@@ -13,18 +13,17 @@ use Rattle.refusal.proofs.Tests.{both}
 use Rattle.bitmap.specs.visited.Seen.{Seen, Sees, Blank}
 use Rattle.compressed_segmentation.specs.Words.{word}
 use Rattle.compressed_segmentation.specs.Layout.{width_in}
-use Rattle.compressed_segmentation.specs.block.Checks.{repeats_header, ChannelAt, Visits}
+use Rattle.compressed_segmentation.specs.block.Checks.{repeats_header, ChannelAt}
 
 -- ---- a header like the one before it
 
 module _ (s : List ℕ) (i : ℕ) where
   pub header_flat : {first : ℕ} → first ≡ word s i → first / 16777216 ≡ 0 → false ≡ repeats_header s i
-  unfolding repeats_header width_in
+  unfolding repeats_header
   header_flat e z = rw (← e, z)
 
   module _ {first : ℕ} (e : first ≡ word s i) (z : first / 16777216 ≡ 0 → ⊥) where
     wide : ltb 0 (width_in (word s i)) ≡ true
-    unfolding width_in
     wide = rw (← e) (lt-ltb 0 (first / 16777216) (omega (arith, z)))
 
     pub header-other : {a : ℕ} → a ≡ word s (i - 2) → (a ≡ first → ⊥) → false ≡ repeats_header s i
@@ -72,19 +71,3 @@ visiting_on {s} {c} {o} {map} {later} r e v =
     last j q k =
         let w : word s j ≡ o = ap (word s) q ∙ sym e in
         rw w (v.noted (omega (arith, v.same)))
-
-module _ {s : List ℕ} {c n k : ℕ} {map : List ℕ} (r : Visiting s c map) where
-  pub visits_all : c ≤ n → n ≤ c → Visits s n k map
-  visits_all l h = record { only = λ o a. channel-more (r.only o a) l; all = λ z j b. r.all j (omega arith) }
-
-  -- a refusal before the last
-  pub visits_some : c ≤ n → 0 < k → Visits s n k map
-  visits_some l h = record { only = λ o a. channel-more (r.only o a) l; all = λ z. absurd (omega arith) }
-
--- one that ends the walk
-pub visits_29 : {s : List ℕ} {c n : ℕ} {map : List ℕ} → Visiting s c map → c < n → Visits s n 29 map
-visits_29 r l = visits_some r (omega arith) (omega arith)
-
--- not all offsets are whole
-pub visits_cut : {s : List ℕ} {w n k r : ℕ} {map : List ℕ} → Visits s w k map → w < n → r ≡ max k 28 → Visits s n r map
-visits_cut v l e = record { only = λ o a. channel-more (v.only o a) (omega arith); all = λ z. absurd (omega arith) }

@@ -15,7 +15,7 @@ use Rattle.morton.specs.grid.Grid.{grid_size}
 use Rattle.morton.proofs.grid.Covers.{grid-size_reaches, cell-begins-inside}
 use native.Mathlib.Nat.{mul-zero}
 use Rattle.compressed_segmentation.specs.declared.Shape.{Shape}
-use Rattle.compressed_segmentation.specs.declared.LabelAnswer.{LabelAnswer}
+use Rattle.refusal.specs.Answers.{Answer}
 use Rattle.compressed_segmentation.specs.Words.{word}
 use Rattle.compressed_segmentation.specs.Layout.{no_voxels, across, block_number, place_number, width_in, is_width}
 use Rattle.compressed_segmentation.specs.Labels.{label_words, label_answer}
@@ -98,13 +98,7 @@ module _ (s : List ℕ) (sh : Shape) (c z y : ℕ) (row : Row s sh c z y) where
 
       run_same : (u : ℕ) → u < count → run_voxel s (label_words sh.wide) o first second sh.block.x high u ≡ raw_voxel s sh c z y (sh.block.x * i + u)
       unfolding run_voxel raw_voxel
-      run_same u uh = ap (λ (a : LabelAnswer). le (label_bytes sh) (label_in a)) (sym (run_value u uh))
-
-      pub run_bytes : (at : ℕ) {q : ℕ} → q ≡ at + count * (4 * label_words sh.wide) → q ≡ at + span sh.extents.x sh.block.x i * label_bytes sh
-      run_bytes at e = e ∙ ap (λ (x : ℕ). at + x * label_bytes sh) ce
-
-      pub run_room : (at : ℕ) (d : List ℕ) → at + span sh.extents.x sh.block.x i * label_bytes sh ≤ length d → at + count * (4 * label_words sh.wide) ≤ length d
-      run_room at d e = omega (arith, ap (λ (x : ℕ). x * label_bytes sh) ce)
+      run_same u uh = ap (λ (a : Answer ℕ). le (label_bytes sh) (label_in a)) (sym (run_value u uh))
 
       pub run_written : (at : ℕ) (d : List ℕ) {g : List ℕ} → g ≡ paste at (concat_to (run_voxel s (label_words sh.wide) o first second sh.block.x high) count) d → g ≡ paste at (raw_run s sh c z y i) d
       unfolding raw_run
@@ -205,6 +199,3 @@ module _ (s : List ℕ) (sh : Shape) (c z y : ℕ) where
     pub row_done : e ≡ paste at (raw_row s sh c z y) d
     unfolding raw_row
     row_done = filled_end f reached
-
-  pub row_same : {at i p : ℕ} {d e : List ℕ} → Filled (raw_voxel s sh c z y) (label_bytes sh) sh.extents.x at d i p e → length e ≡ length d
-  row_same f = f.same

@@ -1,7 +1,7 @@
--- Writing labels: one label, and runs of them.
+-- Writing runs of labels.
 use Prim.Native.Nat.{ℕ, suc, ◌+◌, ◌*◌, ◌/◌, ◌%◌, ◌^◌, ◌<◌, ◌≤◌}
 use mathlib.Core.Path.{◌≡◌, refl, sym, ap, ◌∙◌}
-use mathlib.Core.Bool.{Bool, true, false}
+use mathlib.Core.Bool.{true, false}
 use mathlib.Core.List.{List}
 use native.Mathlib.Omega.{arith}
 use mir.Syntax.{w64}
@@ -14,7 +14,7 @@ use Rattle.endian.specs.Place.{paste}
 use Rattle.endian.proofs.Little.{length-le}
 use Rattle.compressed_segmentation.specs.Words.{word}
 use Rattle.compressed_segmentation.specs.Layout.{width_in, table_in, is_width}
-use Rattle.compressed_segmentation.specs.Labels.{label_words, value_in}
+use Rattle.compressed_segmentation.specs.Labels.{value_in}
 use Rattle.compressed_segmentation.specs.Steps.{entry_answer, value_answer}
 use Rattle.compressed_segmentation.specs.block.Voxels.{refusal_in}
 use Rattle.compressed_segmentation.specs.block.Checks.{Packed}
@@ -26,33 +26,6 @@ use Rattle.compressed_segmentation.proofs.block.Greatest.{within-or-past}
 use Rattle.compressed_segmentation.proofs.block.Runs as R
 use mathlib.Core.Logic.{⊎_elim}
 use Rattle.compressed_segmentation.proofs.raw_form.Filled.{Filled, filled_on}
-
--- ---- one label
-
-module _ (wide : Bool) where
-  pub wide_reads : (s : List ℕ) (i : ℕ) → wide ≡ true → i + label_words wide ≤ length s / 4 → 4 * i + 8 ≤ length s
-  wide_reads s i q h = omega (arith, rw q at h)
-
-  pub narrow-reads : (s : List ℕ) (i : ℕ) → wide ≡ false → i + label_words wide ≤ length s / 4 → 4 * i + 4 ≤ length s
-  narrow-reads s i q h = omega (arith, rw q at h)
-
-  pub wide_puts : (d : List ℕ) (at : ℕ) → wide ≡ true → at + 4 * label_words wide ≤ length d → at + 8 ≤ length d
-  wide_puts d at q h = rw q at h
-
-  pub narrow_puts : (d : List ℕ) (at : ℕ) → wide ≡ false → at + 4 * label_words wide ≤ length d → at + 4 ≤ length d
-  narrow_puts d at q h = rw q at h
-
-  pub wide_next : (at : ℕ) → wide ≡ true → at + 8 ≡ at + 4 * label_words wide
-  wide_next at q = rw q
-
-  pub narrow_next : (at : ℕ) → wide ≡ false → at + 4 ≡ at + 4 * label_words wide
-  narrow_next at q = rw q
-
-  pub wide_put : (s : List ℕ) (i at : ℕ) (d : List ℕ) {v : ℕ} {e : List ℕ} → wide ≡ true → v ≡ le_at 8 s (4 * i) → e ≡ paste at (le 8 v) d → e ≡ paste at (le (4 * label_words wide) (le_at (4 * label_words wide) s (4 * i))) d
-  wide_put s i at d q f g = g ∙ ap (λ (x : ℕ). paste at (le 8 x) d) f ∙ rw q
-
-  pub narrow-put : (s : List ℕ) (i at : ℕ) (d : List ℕ) {v : ℕ} {e : List ℕ} → wide ≡ false → v ≡ le_at 4 s (4 * i) → e ≡ paste at (le 4 v) d → e ≡ paste at (le (4 * label_words wide) (le_at (4 * label_words wide) s (4 * i))) d
-  narrow-put s i at d q f g = g ∙ ap (λ (x : ℕ). paste at (le 4 x) d) f ∙ rw q
 
 -- ---- an entry that is read
 

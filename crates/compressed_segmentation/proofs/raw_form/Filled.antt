@@ -4,7 +4,7 @@ use mathlib.Core.Path.{◌≡◌, refl, sym, ap, ◌∙◌}
 use mathlib.Core.List.{List, ◌++◌, append_assoc, append-nil}
 use native.Mathlib.Omega.{arith}
 use native.Mathlib.Numerals.{add-one}
-use native.Mathlib.Nat.{add-mul, one-mul, suc-mul, zero-mul, add-suc, add-zero, zero-add, mul-le-mul_right}
+use native.Mathlib.Nat.{add-mul, one-mul, suc-mul, zero-mul, add-suc, add-zero, mul-le-mul_right}
 use lib.ListN.{length, length-append}
 use Rattle.endian.specs.Place.{paste}
 use Rattle.endian.proofs.Paste.{paste-nil, length-paste, paste-then}
@@ -95,14 +95,8 @@ module _ {f : ℕ → List ℕ} {k n at : ℕ} {d : List ℕ} {i p : ℕ} {e : L
         same = ap length z ∙ length-paste at (concat_to f (i + 1)) d (omega (arith, length_joined f k r.each (i + 1), add-mul i 1 k, one-mul k, r.place, r.same));
       }
 
-  pub filled_same : length e ≡ length d
-  filled_same = r.same
-
   pub filled_place : n ≤ i → p ≡ at + n * k
   filled_place h = let q : i ≡ n = omega (arith, r.within) in r.place ∙ ap (λ (x : ℕ). at + x * k) q
 
   pub filled_end : n ≤ i → e ≡ paste at (concat_to f n) d
   filled_end h = let q : i ≡ n = omega (arith, r.within) in r.done ∙ ap (λ (x : ℕ). paste at (concat_to f x) d) q
-
-pub filled_length : {f : ℕ → List ℕ} {k n : ℕ} {d : List ℕ} {i p : ℕ} {e : List ℕ} → Filled f k n 0 d i p e → n ≤ i → p ≡ n * k
-filled_length r h = filled_place r h ∙ zero-add _

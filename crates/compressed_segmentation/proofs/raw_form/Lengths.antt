@@ -11,7 +11,8 @@ use lib.Dec.{leb}
 use lib.ListN.{length}
 use borrow.Author.Tests.{le-leb, lt-leb, leb-true, leb-false, not-true, not-false}
 use Rattle.refusal.specs.Checks.{first_number}
-use Rattle.refusal.specs.declared.Written.TheVariants.{Length, Refused}
+use Rattle.std.specs.Prelude.{Ok}
+use Rattle.refusal.specs.Answers.{refuse}
 use Rattle.refusal.proofs.Refusing.{by_number, by_none}
 use Rattle.compressed_segmentation.specs.declared.Shape.{Shape}
 use Rattle.compressed_segmentation.specs.Layout.{no_voxels}
@@ -56,9 +57,9 @@ module _ (sh : Shape) where
 
   -- ---- the ways out of `unpacked_length`
 
-  pub length-refused : {k : ℕ} → first_number (unpacked_length_checks sh) ≡ k → 0 < k → Refused k ≡ length_answer sh
+  pub length-refused : (k : ℕ) → 0 < k → first_number (unpacked_length_checks sh) ≡ k → refuse k ≡ length_answer sh
   unfolding length_answer
-  length-refused {k} f h = sym (by_number Refused (unpacked_length_checks sh) _ k f h)
+  length-refused k h f = sym (by_number refuse (unpacked_length_checks sh) _ k f h)
 
   module _ {b : Bool} (e : b ≡ no_voxels sh) where
     pub length_2 : b ≡ true → first_number (unpacked_length_checks sh) ≡ 2
@@ -83,6 +84,6 @@ module _ (sh : Shape) where
           unfolding first_number unpacked_length_checks
           none = rw (length-tested, lt-leb (2 ^ 64) (unpacked_bytes sh) (omega (arith, unpacked_are length-tested, length-few)))
 
-          pub length-told : {q : ℕ} → q ≡ all_bytes sh → Length q ≡ length_answer sh
+          pub length-told : {q : ℕ} → q ≡ all_bytes sh → Ok q ≡ length_answer sh
           unfolding length_answer
-          length-told qe = sym (by_none Refused (unpacked_length_checks sh) _ none ∙ ap Length (unpacked_are length-tested ∙ sym qe))
+          length-told qe = sym (by_none refuse (unpacked_length_checks sh) _ none ∙ ap Ok (unpacked_are length-tested ∙ sym qe))

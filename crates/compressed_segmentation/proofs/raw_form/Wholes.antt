@@ -1,7 +1,7 @@
 -- Layers, channels and the whole: lengths, rooms, and what is answered.
 use Prim.Native.Nat.{ℕ, ◌+◌, ◌*◌, ◌/◌, ◌<◌, ◌≤◌}
 use mathlib.Core.Path.{◌≡◌, sym, ap, ◌∙◌}
-use mathlib.Core.Bool.{Bool, true, false}
+use mathlib.Core.Bool.{false}
 use mathlib.Core.List.{List}
 use mathlib.Core.Logic.{⊎_elim}
 use native.Mathlib.Omega.{arith}
@@ -13,10 +13,8 @@ use Rattle.endian.specs.Place.{paste}
 use Rattle.endian.proofs.Little.{length-le}
 use Rattle.compressed_segmentation.specs.declared.Shape.{Shape}
 use Rattle.compressed_segmentation.specs.Layout.{no_voxels}
-use Rattle.compressed_segmentation.specs.Labels.{label_words}
 use Rattle.compressed_segmentation.specs.raw_form.Raw.{label_bytes, raw_voxel, raw_row, raw_layer, raw_channel, raw_form}
-use Rattle.compressed_segmentation.specs.block.Voxels.{AllReadable}
-use Rattle.compressed_segmentation.specs.raw_form.Writing.{Row, Layer, Channel, row_bytes, layer_bytes, channel_bytes, all_bytes}
+use Rattle.compressed_segmentation.specs.raw_form.Writing.{row_bytes, layer_bytes, channel_bytes, all_bytes}
 use Rattle.compressed_segmentation.proofs.Shapes.{some-voxels}
 use Rattle.compressed_segmentation.proofs.block.Greatest.{within-or-past}
 use Rattle.compressed_segmentation.proofs.raw_form.Filled.{Filled, filled_end, length_joined}
@@ -45,15 +43,6 @@ module _ (s : List ℕ) (sh : Shape) where
   form-length = length_joined _ (channel_bytes sh) channel-length sh.channels
 
   -- ---- loops
-
-  pub row_of_layer : {c z y : ℕ} → Layer s sh c z → y < sh.extents.y → Row s sh c z y
-  row_of_layer r h = record { some = r.some; all = r.all; in_y = h; in_z = r.in_z; in_c = r.in_c }
-
-  pub layer_of_channel : {c z : ℕ} → Channel s sh c → z < sh.extents.z → Layer s sh c z
-  layer_of_channel r h = record { some = r.some; all = r.all; in_z = h; in_c = r.in_c }
-
-  pub channel_of_chunk : {c : ℕ} → no_voxels sh ≡ false → AllReadable s sh → c < sh.channels → Channel s sh c
-  channel_of_chunk n r h = record { some = n; all = r; in_c = h }
 
   module _ {at i p : ℕ} {d e : List ℕ} where
     pub layer_done : (c z : ℕ) → Filled (raw_row s sh c z) (row_bytes sh) sh.extents.y at d i p e → sh.extents.y ≤ i → e ≡ paste at (raw_layer s sh c z) d
@@ -107,9 +96,3 @@ module _ (sh : Shape) (h : no_voxels sh ≡ false) where
       (λ n. n)
       (within-or-past (all_bytes sh) len))))
       (within-or-past b (len / l / a))
-
-pub wide_bytes : (wide : Bool) → wide ≡ true → 8 ≡ 4 * label_words wide
-wide_bytes wide q = rw q
-
-pub narrow-bytes : (wide : Bool) → wide ≡ false → 4 ≡ 4 * label_words wide
-narrow-bytes wide q = rw q

@@ -5,39 +5,16 @@ use mathlib.Core.Bool.{Bool, true, false}
 use mathlib.Core.List.{List}
 use mathlib.Core.Logic.{◌⊎◌, ⊎_elim, inl, inr}
 use native.Mathlib.Omega.{arith}
-use native.Mathlib.Nat.{mul_comm, div-lt_iff_lt-mul, le-div_iff_mul-le, le_antisymm}
+use native.Mathlib.Nat.{le_antisymm}
 use lib.ListN.{length}
-use mir.Syntax.{w64}
-use mir.Val.{Fits}
 use Rattle.refusal.specs.Choice.{pick}
 use Rattle.compressed_segmentation.specs.declared.Shape.{Shape}
 use Rattle.compressed_segmentation.specs.Words.{word}
-use Rattle.compressed_segmentation.specs.Layout.{across, down, deep, width_in, is_width}
+use Rattle.compressed_segmentation.specs.Layout.{width_in, is_width}
 use Rattle.compressed_segmentation.specs.block.Checks.{greatest, block_count, header_refusal, channel_headers, headers_refusal}
 use Rattle.bitmap.specs.visited.Seen.{Seen, Sees, Blank}
 use Rattle.compressed_segmentation.proofs.Shapes.{whole-yes, whole-no}
 use Rattle.compressed_segmentation.proofs.block.Greatest.{within-or-past, greatest-step, le-greatest, greatest-le, greatest-is, greatest-same, greatest-at}
-
--- ---- how many blocks there are
-
-module _ (sh : Shape) (g d p most rows : ℕ) (some : 0 < g) (ge : g ≡ across sh) (de : d ≡ down sh) (pe : p ≡ deep sh) (re : rows ≡ 0 + d * p) where
-  count-is : g * rows ≡ block_count sh
-  unfolding block_count
-  count-is = let z : rows ≡ d * p = omega arith in cc
-
-  pub count_past : most / g < rows → most ≡ min (block_count sh) most
-  count_past h =
-      let l = (div-lt_iff_lt-mul some).0 h in
-      omega (arith, count-is, mul_comm rows g)
-
-  count-within : rows ≤ most / g → g * rows ≤ most
-  count-within h = let l = (le-div_iff_mul-le some).0 h in omega (arith, mul_comm rows g)
-
-  pub count_fits : rows ≤ most / g → Fits w64 most → Fits w64 (g * rows)
-  count_fits h f = omega (arith, count-within h)
-
-  pub count-all : rows ≤ most / g → g * rows ≡ min (block_count sh) most
-  count-all h = omega (arith, count-within h, count-is)
 
 -- ---- one header
 
@@ -215,9 +192,6 @@ module _ {s : List ℕ} {count n c worst : ℕ} {seen : List ℕ} (r : Walked s 
 
 pub walked_known : {s : List ℕ} {count n c worst : ℕ} {seen : List ℕ} → Walked s count n c worst seen → {o : ℕ} → Seen seen o → greatest (header_refusal s o) count ≤ worst
 walked_known r {o} h = r.known o h
-
-pub walked_end : {s : List ℕ} {count n c worst : ℕ} {seen : List ℕ} → Walked s count n c worst seen → n ≤ c → worst ≡ greatest (channel_headers s count) n
-walked_end {s} {count} {n} {c} r h = let q : c ≡ n = omega (arith, r.within) in r.found ∙ ap (greatest (channel_headers s count)) q
 
 -- ---- all channels
 

@@ -1,17 +1,13 @@
 -- What is read of a block is what its definitions say. Each law has the shape of a need.
 use Prim.Native.Nat.{ℕ, ◌+◌, ◌*◌, ◌/◌, ◌%◌}
-use mathlib.Core.Path.{◌≡◌, ap, ◌∙◌}
-use mathlib.Core.Bool.{true}
+use mathlib.Core.Path.{◌≡◌}
 use mathlib.Core.List.{List}
 use Rattle.morton.specs.declared.grid.Extents.{Extents}
 use Rattle.compressed_segmentation.specs.declared.Shape.{Shape}
 use Rattle.compressed_segmentation.specs.Words.{word}
-use Rattle.compressed_segmentation.specs.Layout.{across, down, width_in, is_width}
+use Rattle.compressed_segmentation.specs.Layout.{across, down}
 use Rattle.compressed_segmentation.specs.Labels.{label_words}
 use Rattle.compressed_segmentation.specs.block.Checks.{span, inside_of, voxels_refusal, block_refusal}
-
-pub width_read : {v w : ℕ} → v ≡ w → is_width (width_in w) ≡ true → is_width (width_in v) ≡ true
-width_read e h = ap (λ (x : ℕ). is_width (width_in x)) e ∙ h
 
 module _ (sh : Shape) (n : ℕ) where
   pub inside-read : {a d x y z : ℕ} → x ≡ span sh.extents.x sh.block.x (n % a) → y ≡ span sh.extents.y sh.block.y (n / a % d)

@@ -10,7 +10,7 @@ use borrow.Author.Tests.{eq-eqb, ne_eqb, lt-leb}
 use Rattle.refusal.specs.Choice.{pick}
 use Rattle.endian.proofs.Ranges.{any_hit, any-no}
 use Rattle.compressed_segmentation.specs.declared.Shape.{Shape}
-use Rattle.compressed_segmentation.specs.declared.LabelAnswer.TheVariants.{Refused}
+use Rattle.refusal.specs.Answers.{refuse}
 use Rattle.compressed_segmentation.specs.Words.{word}
 use Rattle.compressed_segmentation.specs.Layout.{no_voxels, outside_shape, across, down, deep, block_number, place_number, width_in, is_width}
 use Rattle.compressed_segmentation.specs.Labels.{label_words, label_answer}
@@ -27,11 +27,11 @@ use Rattle.compressed_segmentation.proofs.block.Inside.{voxel_in, voxel-block, v
 -- ---- one block by its header
 
 module _ (s : List ℕ) (e o n m : ℕ) where
-  block-whole : o + 2 * n + 2 ≤ length s / 4 → block_answer s e o n m ≡ pick (is_width (width_in (word s (o + 2 * n)))) (value_answer s e o (word s (o + 2 * n)) (word s (o + 2 * n + 1)) m) (Refused 29)
+  block-whole : o + 2 * n + 2 ≤ length s / 4 → block_answer s e o n m ≡ pick (is_width (width_in (word s (o + 2 * n)))) (value_answer s e o (word s (o + 2 * n)) (word s (o + 2 * n + 1)) m) (refuse 29)
   unfolding block_answer
   block-whole h = rw (whole-yes s (o + 2 * n) 2 h)
 
-  block-past : length s / 4 < o + 2 * n + 2 → block_answer s e o n m ≡ Refused 28
+  block-past : length s / 4 < o + 2 * n + 2 → block_answer s e o n m ≡ refuse 28
   unfolding block_answer
   block-past h = rw (whole-no s (o + 2 * n) 2 h)
 
@@ -45,7 +45,7 @@ module _ (s : List ℕ) (e o n m : ℕ) where
         where
           go : (t : Bool) → is_width (width_in (word s (o + 2 * n))) ≡ t → refusal_in (block_answer s e o n m) ≡ header_refusal s o n
           go true q = absurd (omega (arith, rw (whole-yes s (o + 2 * n) 2 h, q) at l))
-          go false q = (let g : block_answer s e o n m ≡ Refused 29 = block-whole h ∙ rw q in ap refusal_in g) ∙ rw (whole-yes s (o + 2 * n) 2 h, q)
+          go false q = (let g : block_answer s e o n m ≡ refuse 29 = block-whole h ∙ rw q in ap refusal_in g) ∙ rw (whole-yes s (o + 2 * n) 2 h, q)
 
   -- only a header without a width gives 29
   block-not_29 : header_refusal s o n ≤ 28 → refusal_in (block_answer s e o n m) ≡ 29 → ⊥
@@ -65,7 +65,7 @@ module _ (s : List ℕ) (e o n m : ℕ) where
 -- ---- a channel
 
 module _ (s : List ℕ) (e c n m : ℕ) where
-  channel-cut : length s / 4 ≤ c → channel_answer s e c n m ≡ Refused 28
+  channel-cut : length s / 4 ≤ c → channel_answer s e c n m ≡ refuse 28
   unfolding channel_answer
   channel-cut h = rw (whole-no s c 1 (omega arith))
 
@@ -114,7 +114,7 @@ module _ (s : List ℕ) (e c n m : ℕ) where
               let v : channel_answer s e c n m ≡ value_answer s e (word s c) (word s (word s c + 2 * n)) (word s (word s c + 2 * n + 1)) m = channel-whole h ∙ block-whole s e (word s c) n m l ∙ rw t in
               ⊎_elim (λ x. ap refusal_in v ∙ x) (λ x. absurd (a (ap refusal_in v ∙ x))) (value_mild s e (word s c) (word s (word s c + 2 * n)) (word s (word s c + 2 * n + 1)) m)
           go h l false t =
-              let v : channel_answer s e c n m ≡ Refused 29 = channel-whole h ∙ block-whole s e (word s c) n m l ∙ rw t in
+              let v : channel_answer s e c n m ≡ refuse 29 = channel-whole h ∙ block-whole s e (word s c) n m l ∙ rw t in
               absurd (b (ap refusal_in v))
 
 -- ---- all voxels

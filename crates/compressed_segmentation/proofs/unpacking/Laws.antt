@@ -1,5 +1,5 @@
 -- What an unpacked chunk means: unpacking equals asking for each voxel, and refuses by what voxels are refused with.
-use Prim.Native.Nat.{ℕ, zero, suc, ◌<◌}
+use Prim.Native.Nat.{ℕ, zero, suc, ◌<◌, ◌≤◌}
 use mathlib.Core.Path.{◌≡◌, refl, sym, ap, ◌∙◌}
 use mathlib.Core.Bool.{Bool, true, false, true≢false}
 use mathlib.Core.List.{List, [], ◌++◌}
@@ -9,15 +9,17 @@ use lib.ListN.{length, drop}
 use borrow.Author.Tests.{eqb-true}
 use Rattle.refusal.specs.Choice.{pick}
 use Rattle.refusal.specs.Checks.{first_number, unless}
-use Rattle.refusal.specs.declared.Written.TheVariants.{Length, Refused}
-use Rattle.refusal.proofs.Refusing.{by_number, by_none}
+use Rattle.std.specs.Prelude.{Ok, Err}
+use Rattle.refusal.specs.Answers.{Answer, refuse}
+use Rattle.refusal.specs.Table.{last, InTable, refusal_of}
+use Rattle.refusal.proofs.Table.{number-in, number-refusal, refusal-number, same-number}
+use Rattle.refusal.proofs.Picks.{all_in_lem}
+use Rattle.refusal.proofs.Refusing.{by_number, by_none, first-most}
 use Rattle.endian.specs.Place.{Holds}
 use Rattle.endian.specs.Range.{any_below, first}
 use Rattle.endian.proofs.Holds.{holds-all}
 use Rattle.endian.proofs.Ranges.{first-lt, first_holds}
 use Rattle.compressed_segmentation.specs.declared.Shape.{Shape}
-use Rattle.compressed_segmentation.specs.declared.LabelAnswer.{LabelAnswer}
-use Rattle.compressed_segmentation.specs.declared.LabelAnswer.TheVariants.{Label, Refused as Unlabelled}
 use Rattle.compressed_segmentation.specs.Layout.{no_voxels, block_number, place_number}
 use Rattle.compressed_segmentation.specs.Labels.{label_words, label_at, label_answer}
 use Rattle.compressed_segmentation.specs.block.Voxels.{refusal_in, Within, some_refused, chunk_refusal}
@@ -28,24 +30,24 @@ use Rattle.compressed_segmentation.proofs.unpacking.Places.{label-place}
 
 -- ---- answers turned into numbers
 
-pub length_none : (k a n : ℕ) → unless Refused k (Length a) ≡ Length n → k ≡ 0
+pub length_none : (k a n : ℕ) → unless refuse k (Ok a) ≡ Ok n → k ≡ 0
 unfolding unless
 length_none zero a n e = refl
 length_none (suc k) a n e = let z : ◌≡◌ {A = ℕ} 0 1 = cc in absurd (omega arith)
 
-pub refused-number : (k a n : ℕ) → unless Refused k (Length a) ≡ Refused n → k ≡ n
+pub refused-number : (k a n : ℕ) → k ≤ last → InTable n → unless refuse k (Ok a) ≡ refuse n → k ≡ n
 unfolding unless
-refused-number zero a n e = let z : ◌≡◌ {A = ℕ} 0 1 = cc in absurd (omega arith)
-refused-number (suc k) a n e = cc
+refused-number zero a n l t e = let z : ◌≡◌ {A = ℕ} 0 1 = cc in absurd (omega arith)
+refused-number (suc k) a n l t e = same-number (suc k) n (omega arith, l) t cc
 
-label-none : (k v : ℕ) → refusal_in (unless Unlabelled k (Label v)) ≡ 0 → unless Unlabelled k (Label v) ≡ Label v
+label-none : (k v : ℕ) → refusal_in (unless refuse k (Ok v)) ≡ 0 → unless refuse k (Ok v) ≡ Ok v
 unfolding unless
 label-none zero v e = refl
-label-none (suc k) v e = absurd (omega arith)
+label-none (suc k) v e = let i = number-in (refusal_of (suc k)) in absurd (omega (arith, i.0, e))
 
-label-some : (k : ℕ) (a : LabelAnswer) → 0 < k → refusal_in a ≡ k → a ≡ Unlabelled k
-label-some k (Label v) h e = absurd (omega arith)
-label-some k (Unlabelled j) h e = ap Unlabelled e
+label-some : (k : ℕ) (a : Answer ℕ) → 0 < k → refusal_in a ≡ k → a ≡ refuse k
+label-some k (Ok v) h e = absurd (omega arith)
+label-some k (Err j) h e = ap Err (sym (refusal-number j) ∙ ap refusal_of e)
 
 -- ---- the checks
 
@@ -93,7 +95,7 @@ module _ (s : List ℕ) (sh : Shape) (out : List ℕ) where
   unrefused p q = rw (p, q)
 
   -- ---- unpacking equals asking for each voxel
-  module _ (n : ℕ) (e : unpack_answer s sh out ≡ Length n) where
+  module _ (n : ℕ) (e : unpack_answer s sh out ≡ Ok n) where
     none : first_number (unpack_checks s sh out) ≡ 0
     unfolding unpack_answer
     none = length_none _ _ n e
@@ -109,7 +111,7 @@ module _ (s : List ℕ) (sh : Shape) (out : List ℕ) where
         let f = number-none (no_voxels sh) (some_refused 29 s sh) (some_refused 28 s sh) short (sym checked ∙ none) in
         (all-readable s sh f.0 (unrefused f.1 f.2) (omega arith)).answer x y z c w
 
-    label_is : (x y z c : ℕ) → Within sh x y z c → label_answer s sh x y z c ≡ Label (label_at s (label_words sh.wide) c (block_number sh x y z) (place_number sh x y z))
+    label_is : (x y z c : ℕ) → Within sh x y z c → label_answer s sh x y z c ≡ Ok (label_at s (label_words sh.wide) c (block_number sh x y z) (place_number sh x y z))
     label_is x y z c w = let l = labelled x y z c w in unfold label_answer in label-none _ _ (unfold label_answer in l)
 
   pub equals_asking : EqualsAsking s sh out
@@ -138,28 +140,32 @@ module _ (s : List ℕ) (sh : Shape) (out : List ℕ) where
         refused = label-some k (label_answer s sh x.0 y.0 z.0 c.0) h (eqb-true _ k x.2);
       }
 
-  some : (k : ℕ) → SomeRefused k s sh → some_refused k s sh ≡ true
-  some k r = some-yes s sh k r.x r.y r.z r.c r.within (ap refusal_in r.refused)
+  some : (k : ℕ) → InTable k → SomeRefused k s sh → some_refused k s sh ≡ true
+  some k t r = some-yes s sh k r.x r.y r.z r.c r.within (ap refusal_in r.refused ∙ number-refusal k t)
 
-  refused_by : (k : ℕ) → unpack_answer s sh out ≡ Refused k → first_number (unpack_checks s sh out) ≡ k
-  unfolding unpack_answer
-  refused_by k e = refused-number _ _ k e
+  checks-most : first_number (unpack_checks s sh out) ≤ last
+  unfolding unpack_checks
+  checks-most = first-most (unpack_checks s sh out) (all_in_lem (unpack_checks s sh out) refl)
 
-  by_first : (k : ℕ) → 0 < k → first_number (unpack_checks s sh out) ≡ k → unpack_answer s sh out ≡ Refused k
+  refused_by : (k : ℕ) → InTable k → unpack_answer s sh out ≡ refuse k → first_number (unpack_checks s sh out) ≡ k
   unfolding unpack_answer
-  by_first k h f = by_number Refused (unpack_checks s sh out) _ k f h
+  refused_by k t e = refused-number _ _ k checks-most t e
+
+  by_first : (k : ℕ) → 0 < k → first_number (unpack_checks s sh out) ≡ k → unpack_answer s sh out ≡ refuse k
+  unfolding unpack_answer
+  by_first k h f = by_number refuse (unpack_checks s sh out) _ k f h
 
   pub refuses_by_voxels : RefusesByVoxels s sh out
   refuses_by_voxels =
       record {
         refused_29 = λ n. (
-          λ e. found 29 (omega arith) (number_29 (no_voxels sh) (some_refused 29 s sh) (some_refused 28 s sh) short (sym checked ∙ refused_by 29 e)),
-          λ r. by_first 29 (omega arith) (checked ∙ rw (n, some 29 r)),
+          λ e. found 29 (omega arith) (number_29 (no_voxels sh) (some_refused 29 s sh) (some_refused 28 s sh) short (sym checked ∙ refused_by 29 (omega arith, omega arith) e)),
+          λ r. by_first 29 (omega arith) (checked ∙ rw (n, some 29 (omega arith, omega arith) r)),
         );
         refused_28 = λ n. (
           λ e.
-              let f = number_28 (no_voxels sh) (some_refused 29 s sh) (some_refused 28 s sh) short (sym checked ∙ refused_by 28 e) in
-              (found 28 (omega arith) f.1, λ r. true≢false (sym (some 29 r) ∙ f.0)),
-          λ r. by_first 28 (omega arith) (checked ∙ rw (n, false-or-true (some_refused 29 s sh) (λ t. r.1 (found 29 (omega arith) t)), some 28 r.0)),
+              let f = number_28 (no_voxels sh) (some_refused 29 s sh) (some_refused 28 s sh) short (sym checked ∙ refused_by 28 (omega arith, omega arith) e) in
+              (found 28 (omega arith) f.1, λ r. true≢false (sym (some 29 (omega arith, omega arith) r) ∙ f.0)),
+          λ r. by_first 28 (omega arith) (checked ∙ rw (n, false-or-true (some_refused 29 s sh) (λ t. r.1 (found 29 (omega arith) t)), some 28 (omega arith, omega arith) r.0)),
         );
       }

@@ -1,16 +1,16 @@
 -- What refuses a whole chunk: the refusals of its voxels (RULES E9).
-use Rattle.std.specs.Prelude.{ℕ, ◌<◌, ◌≡◌, Bool, List, eqb}
+use Rattle.std.specs.Prelude.{ℕ, ◌<◌, ◌≡◌, Bool, List, eqb, Ok, Err}
 use Rattle.refusal.specs.Choice.{pick}
 use Rattle.endian.specs.Range.{any_below}
 use Rattle.compressed_segmentation.specs.declared.Shape.{Shape}
-use Rattle.compressed_segmentation.specs.declared.LabelAnswer.{LabelAnswer}
-use Rattle.compressed_segmentation.specs.declared.LabelAnswer.TheVariants.{Label, Refused}
+use Rattle.refusal.specs.Answers.{Answer}
+use Rattle.refusal.specs.Table.{number_of}
 use Rattle.compressed_segmentation.specs.Labels.{label_answer}
 
 -- an answer's refusal number, 0 for a label
-abbrev pub refusal_in : LabelAnswer → ℕ
-refusal_in (Label v) = 0
-refusal_in (Refused k) = k
+abbrev pub refusal_in : Answer ℕ → ℕ
+refusal_in (Ok v) = 0
+refusal_in (Err k) = (number_of k)
 
 -- the voxel and the channel are the chunk's
 pub record Within (sh : Shape) (x y z c : ℕ) : Type 0 where

@@ -1,13 +1,10 @@
 -- A whole chunk unpacked to the raw form of source 000: "labels little-endian, x fastest, then y, z, channel" (RULES E8).
-use Rattle.std.specs.Prelude.{ℕ, zero, suc, ◌*◌, ◌^◌, List, [], ◌∷◌, ◌++◌, leb, length}
+use Rattle.std.specs.Prelude.{ℕ, zero, suc, ◌*◌, ◌^◌, List, [], ◌∷◌, ◌++◌, leb, length, Ok, Err}
 use Rattle.refusal.specs.Checks.{Check, check, answered, left}
 use Rattle.refusal.specs.Buffer.{room, over}
-use Rattle.refusal.specs.declared.Written.{Written}
-use Rattle.refusal.specs.declared.Written.TheVariants.{Length, Refused}
+use Rattle.refusal.specs.Answers.{Answer, refuse}
 use Rattle.endian.specs.Little.{le}
 use Rattle.compressed_segmentation.specs.declared.Shape.{Shape}
-use Rattle.compressed_segmentation.specs.declared.LabelAnswer.{LabelAnswer}
-use Rattle.compressed_segmentation.specs.declared.LabelAnswer.TheVariants.{Label, Refused as Unlabelled}
 use Rattle.compressed_segmentation.specs.Layout.{no_voxels}
 use Rattle.compressed_segmentation.specs.Labels.{label_words, label_answer}
 use Rattle.compressed_segmentation.specs.block.Voxels.{some_refused}
@@ -18,9 +15,9 @@ concat_to f zero = []
 concat_to f (suc n) = concat_to f n ++ f n
 
 -- an answer's label, 0 for a refusal
-abbrev pub label_in : LabelAnswer → ℕ
-label_in (Label v) = v
-label_in (Unlabelled k) = 0
+abbrev pub label_in : Answer ℕ → ℕ
+label_in (Ok v) = v
+label_in (Err k) = 0
 
 abbrev pub label_bytes : Shape → ℕ
 label_bytes sh = 4 * label_words sh.wide
@@ -49,8 +46,8 @@ unfoldable pub unpack_checks : List ℕ → Shape → List ℕ → List Check
 unpack_checks s sh out = check 2 (no_voxels sh) ∷ check 29 (some_refused 29 s sh) ∷ check 28 (some_refused 28 s sh) ∷ room (raw_form s sh) out ∷ []
 
 -- the raw form's length (RULES E9)
-unfoldable pub unpack_answer : List ℕ → Shape → List ℕ → Written
-unpack_answer s sh out = answered Refused (unpack_checks s sh out) (Length (length (raw_form s sh)))
+unfoldable pub unpack_answer : List ℕ → Shape → List ℕ → Answer ℕ
+unpack_answer s sh out = answered refuse (unpack_checks s sh out) (Ok (length (raw_form s sh)))
 
 -- the raw form and, past it, what was there; refused, all that was there
 unfoldable pub unpack_left : List ℕ → Shape → List ℕ → List ℕ
@@ -67,5 +64,5 @@ unfoldable pub unpacked_length_checks : Shape → List Check
 unpacked_length_checks sh = check 2 (no_voxels sh) ∷ check 13 (leb (2 ^ 64) (unpacked_bytes sh)) ∷ []
 
 -- RULES E11
-unfoldable pub length_answer : Shape → Written
-length_answer sh = answered Refused (unpacked_length_checks sh) (Length (unpacked_bytes sh))
+unfoldable pub length_answer : Shape → Answer ℕ
+length_answer sh = answered refuse (unpacked_length_checks sh) (Ok (unpacked_bytes sh))

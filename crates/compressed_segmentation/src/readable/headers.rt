@@ -1,31 +1,26 @@
 // The refusal of a chunk's headers and channel offsets.
 
 ghost use Rattle.std.specs.Prelude.{◌≡◌, true, false, ◌+◌, ◌/◌, ◌<◌, ◌≤◌, ◌^◌, min, max, length};
-ghost use Rattle.compressed_segmentation.specs.Layout.{no_voxels};
 ghost use Rattle.compressed_segmentation.specs.block.Checks.{block_count, header_refusal, channel_headers, headers_refusal, greatest, Visits};
 ghost use Rattle.bitmap.specs.visited.Seen.{Blank};
 
-use crate::Shape;
 use crate::packed_values::{linear, word_at, words};
-use crate::shape_tests::is_width;
+use crate::shape_tests::{VoxelShape, is_width};
 use bitmap::visited::{is_seen, see};
 use morton::grid::inner::grid_size;
 
 // How many blocks a channel has, at most `most`.
-pub fn block_count(shape: Shape, most: u64) -> u64
-    requires { no_voxels shape ≡ false }
-    ensures { result ≡ min (block_count shape) most }
+#[tactic(auto, using(crate::proofs::Shapes::positive), unfolding(crate::specs::block::Checks::block_count))]
+pub fn block_count(voxels: VoxelShape, most: u64) -> u64
+    ensures { result ≡ min (block_count voxels.shape) most }
 {
-    let extents = shape.extents;
-    let block = shape.block;
+    let extents = voxels.shape.extents;
+    let block = voxels.shape.block;
     let across = grid_size(extents.x, block.x);
     let down = grid_size(extents.y, block.y);
     let deep = grid_size(extents.z, block.z);
     let rows = linear(0, down, deep);
-    if most / (across as u64) < rows {
-        return most;
-    }
-    across as u64 * rows
+    u64::from(across).saturating_mul(rows).min(most)
 }
 
 // Header n of the channel at word o.
@@ -48,21 +43,13 @@ fn headers_at(chunk: &[u8], o: u64, count: u64) -> u8
     requires { (o < 2 ^ 32) × (count ≤ length chunk.now / 4 + 1) }
     ensures { result ≡ greatest (header_refusal chunk.now o) count }
 {
-    let mut n = 0u64;
-    while n < count {
+    for n in 0..count {
         let k = header_refusal(chunk, o, n);
         if 0 < k {
             return k;
         }
-        n += 1;
     }
     0
-}
-
-fn greater(a: u8, b: u8) -> u8
-    ensures { result ≡ max a b }
-{
-    if a < b { b } else { a }
 }
 
 // The greatest yet, and that of the channel at word o, unless such a channel was looked at before.
@@ -74,7 +61,7 @@ fn with_channel(chunk: &[u8], worst: u8, known: bool, o: u64, count: u64) -> u8
     if known {
         return worst;
     }
-    greater(worst, headers_at(chunk, o, count))
+    worst.max(headers_at(chunk, o, count))
 }
 
 // The headers of the first n channels, whose offsets are whole. 29 ends the walk; channels at one place are looked at once.
@@ -84,8 +71,7 @@ fn headers_of(chunk: &[u8], count: u64, n: u64, seen: &mut [u64]) -> u8
     ensures visits { Visits chunk.now n result seen.new }
 {
     let mut worst = 0u8;
-    let mut c = 0u64;
-    while c < n {
+    for c in 0..n {
         let o = word_at(chunk, c);
         let known = is_seen(seen, o);
         worst = with_channel(chunk, worst, known, o, count);
@@ -93,20 +79,20 @@ fn headers_of(chunk: &[u8], count: u64, n: u64, seen: &mut [u64]) -> u8
             return 29;
         }
         see(seen, o);
-        c += 1;
     }
     worst
 }
 
-pub fn headers_refusal(chunk: &[u8], shape: Shape, seen: &mut [u64]) -> u8
-    requires { (no_voxels shape ≡ false) × Blank seen.old }
-    ensures value { result ≡ headers_refusal chunk.now shape }
-    ensures visits { Visits chunk.now shape.channels result seen.new }
+pub fn headers_refusal(chunk: &[u8], voxels: VoxelShape, seen: &mut [u64]) -> u8
+    requires { Blank seen.old }
+    ensures value { result ≡ headers_refusal chunk.now voxels.shape }
+    ensures visits { Visits chunk.now voxels.shape.channels result seen.new }
 {
+    let channels = voxels.shape.channels as u64;
     let whole = words(chunk);
-    let count = block_count(shape, whole / 2 + 1);
-    if whole < shape.channels as u64 {
-        return greater(headers_of(chunk, count, whole, seen), 28);
+    let count = block_count(voxels, whole / 2 + 1);
+    if whole < channels {
+        return headers_of(chunk, count, whole, seen).max(28);
     }
-    headers_of(chunk, count, shape.channels as u64, seen)
+    headers_of(chunk, count, channels, seen)
 }

@@ -1,64 +1,67 @@
 // From a voxel to its label: its channel's offset, its block's header, its packed value, its table entry.
 
-ghost use Rattle.std.specs.Prelude.{◌≡◌, false, ◌+◌, ◌*◌, ◌/◌, ◌^◌, ◌<◌, length};
-ghost use Rattle.compressed_segmentation.specs.Layout.{no_voxels};
+ghost use Rattle.std.specs.Prelude.{◌≡◌, ◌+◌, ◌*◌, ◌/◌, ◌^◌, ◌<◌, length};
 ghost use Rattle.compressed_segmentation.specs.Labels.{label_words};
 ghost use Rattle.compressed_segmentation.specs.Steps.{block_answer, channel_answer, voxel_answer};
-ghost use Rattle.compressed_segmentation.specs.packed_values.Far.{number, sum_below};
+ghost use Rattle.compressed_segmentation.specs.packed_values.Far.{sum_below};
 
-use crate::packed_values::{Far, Sum, below, value_label, word_at, words};
-use crate::shape_tests::is_width;
+use crate::block::Block;
+use crate::packed_values::{below, value_label, word_at, words};
+use crate::shape_tests::{VoxelShape, is_width};
 use crate::voxel_place::{block_of, place_of};
-use crate::{LabelAnswer, Shape};
+use refusal::Refusal;
 
 // The word after the first of the header of block n, where that header is whole.
-fn header_end(chunk: &[u8], o: u64, n: Far) -> Sum
-    requires { (o < 2 ^ 32) × (n.low < 2 ^ 32) × (0 < n.step) × (n.step < 2 ^ 32) }
-    ensures { result ≡ sum_below (o + 2 * number n + 1) (length chunk.now / 4) }
+fn header_end(chunk: &[u8], o: u64, n: u128) -> Option<u64>
+    requires { o < 2 ^ 32 }
+    ensures { result ≡ sum_below (o + 2 * n + 1) (length chunk.now / 4) }
 {
-    below(
-        o + 1,
-        Far {
-            low: 2 * n.low,
-            step: 2 * n.step,
-            high: n.high,
-        },
-        words(chunk),
-    )
+    let twice = n.saturating_mul(2);
+    let end = twice.saturating_add((o + 1) as u128);
+    below(end, words(chunk))
 }
 
-fn block_label(chunk: &[u8], wide: bool, o: u64, n: Far, m: Far) -> LabelAnswer
-    requires o_bound { (o < 2 ^ 32) × (n.low < 2 ^ 32) × (0 < n.step) × (n.step < 2 ^ 32) }
-    requires low_bound { (m.low < 2 ^ 32) × (0 < m.step) × (m.step < 2 ^ 32) }
-    ensures { result ≡ block_answer chunk.now (label_words wide) o (number n) (number m) }
+fn block_label(chunk: &[u8], wide: bool, o: u64, n: u128, m: u128) -> Result<u64, Refusal>
+    requires { o < 2 ^ 32 }
+    ensures { result ≡ block_answer chunk.now (label_words wide) o n m }
 {
     let end = header_end(chunk, o, n);
-    let Sum::Below(i) = end else {
-        return LabelAnswer::Refused(28);
+    let Some(i) = end else {
+        return Err(Refusal::LabelsCutOff);
     };
     let first = word_at(chunk, i - 1);
     if !is_width((first / 16777216) as u32) {
-        return LabelAnswer::Refused(29);
+        return Err(Refusal::LabelWidth);
     }
-    value_label(chunk, wide, o, first, word_at(chunk, i), m)
+    let block = Block {
+        wide,
+        start: o,
+        first,
+        second: word_at(chunk, i),
+    };
+    value_label(chunk, block, m)
 }
 
-fn channel_label(chunk: &[u8], wide: bool, c: u32, n: Far, m: Far) -> LabelAnswer
-    requires low_bound { (n.low < 2 ^ 32) × (0 < n.step) × (n.step < 2 ^ 32) }
-    requires low_bound_2 { (m.low < 2 ^ 32) × (0 < m.step) × (m.step < 2 ^ 32) }
-    ensures { result ≡ channel_answer chunk.now (label_words wide) c (number n) (number m) }
+fn channel_label(chunk: &[u8], wide: bool, c: u32, n: u128, m: u128) -> Result<u64, Refusal>
+    ensures { result ≡ channel_answer chunk.now (label_words wide) c n m }
 {
     if words(chunk) <= c as u64 {
-        return LabelAnswer::Refused(28);
+        return Err(Refusal::LabelsCutOff);
     }
     block_label(chunk, wide, word_at(chunk, c as u64), n, m)
 }
 
-pub fn label_in(chunk: &[u8], shape: Shape, x: u32, y: u32, z: u32, c: u32) -> LabelAnswer
-    requires { no_voxels shape ≡ false }
-    ensures { result ≡ voxel_answer chunk.now shape x y z c }
+pub fn label_in(
+    chunk: &[u8],
+    voxels: VoxelShape,
+    x: u32,
+    y: u32,
+    z: u32,
+    c: u32,
+) -> Result<u64, Refusal>
+    ensures { result ≡ voxel_answer chunk.now voxels.shape x y z c }
 {
-    let n = block_of(shape, x, y, z);
-    let m = place_of(shape, x, y, z);
-    channel_label(chunk, shape.wide, c, n, m)
+    let n = block_of(voxels, x, y, z);
+    let m = place_of(voxels, x, y, z);
+    channel_label(chunk, voxels.shape.wide, c, n, m)
 }

@@ -1,7 +1,7 @@
 -- Numbers of the C interface. The answer word: 0 for success, else the refusal's number, with the minishard and the byte position where the rules give them. The wish to drop unlisted bytes.
 use Rattle.std.specs.Prelude.{ℕ, ◌+◌, ◌*◌, ◌^◌, Bool, eqb}
 use Rattle.std.proofs.Math.Option.{Option, none, some}
-use Rattle.refusal.specs.declared.Written.{Written}
+use Rattle.refusal.specs.Answers.{Answer}
 use Rattle.refusal.specs.Result.{Result, written_result}
 
 -- a part of the word: 0 where the rules give none, else one more than it, so that 0 is told from none
@@ -26,7 +26,7 @@ abbrev pub after : {A B : Type 0} → (B → A) → Result B → A → A
 after make r before = or_before make r.values before
 
 -- the lent length after a writer's call
-unfoldable pub length_after : Written → ℕ → ℕ
+unfoldable pub length_after : Answer ℕ → ℕ → ℕ
 length_after a before = after (λ (n : ℕ). n) (written_result a) before
 
 -- the wish of the caller of settling: 1 asks to drop unlisted bytes, and no other number does (RULES U5)

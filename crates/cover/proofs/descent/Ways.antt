@@ -23,7 +23,6 @@ use Rattle.cover.specs.overlap.Marked.{Sized, missed, part_keys, first_cell, las
 use Rattle.cover.specs.halves.Box.{counting, box_keys, BoxCorners, InHalf, SplitAt}
 use Rattle.cover.specs.halves.Halving.{Halvable, Halved, CutBox}
 use Rattle.cover.proofs.halves.Counting.{length-counting}
-use Rattle.cover.proofs.descent.Counts.{count-first, count_next, count-last}
 use Rattle.cover.proofs.halves.Boxes.{one_key, run_keys, keys_split}
 use Rattle.cover.proofs.halves.Missing.{missed-low, met_low, missed-high, met_high}
 use Rattle.cover.proofs.halves.Halving.{within_64, bits_most, no_bits, double, in_lower, in_upper, split_here, lower-part, upper-part}
@@ -214,8 +213,6 @@ module _ (g : Extents) (p : Part) (f : Framed g p) (s : Sized p) {t : Bool} (e :
 
     pub whole-left : {r : List ℕ} → r ≡ paste 0 (box_keys x y z low high) d → r ≡ paste 0 (part_keys p 0) d
     whole-left q = rw keys q
-
-pub ruleset counts = (count-first, count_next, count-last, rules)
 
 pub ruleset searching = (whole-some, whole-none, whole-kept, whole_half, whole_room, whole-count, whole-left, rules)
 

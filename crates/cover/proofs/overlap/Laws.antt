@@ -14,13 +14,13 @@ use lib.Signed.{le_z}
 use borrow.Author.Tests.{ltb-true, lt-ltb, le-ltb, leb-true, le-leb}
 use Rattle.refusal.specs.Checks.{first_number}
 use Rattle.refusal.specs.Buffer.{over}
-use Rattle.refusal.specs.declared.Written.TheVariants.{Length, Refused}
+use Rattle.std.specs.Prelude.{Ok}
+use Rattle.refusal.specs.Answers.{refuse}
 use Rattle.refusal.proofs.Tests.{both}
 use Rattle.refusal.proofs.Refusing.{by_none}
 use Rattle.morton.specs.declared.grid.Cell.{Cell}
 use Rattle.morton.specs.declared.bounds.Point.{Point}
 use Rattle.morton.specs.declared.grid.Volume.{Volume}
-use Rattle.morton.specs.declared.KeyAnswer.TheVariants.{Key}
 use Rattle.morton.specs.grid.Grid.{grid_of, zero_extent, InU32}
 use Rattle.morton.specs.Key.{key_bits_of, too_many_bits, cell_of, is_key}
 use Rattle.morton.specs.Answers.{key_answer}
@@ -165,7 +165,7 @@ module _ (v : Volume) (lower upper : Point) where
   )
 
   -- the same of a cell and its key, as they are answered
-  pub cell-listed : (c : Cell) (k : ℕ) → InU32 v.size → key_answer v c ≡ Key k → Memᴰ k (cover_keys v lower upper) ↔ SharesVoxel v lower upper c
+  pub cell-listed : (c : Cell) (k : ℕ) → InU32 v.size → key_answer v c ≡ Ok k → Memᴰ k (cover_keys v lower upper) ↔ SharesVoxel v lower upper c
   unfolding is_key
   cell-listed c k u e =
       let p = celled v k c (key_back v c k u e) in
@@ -232,6 +232,6 @@ module _ (v : Volume) (lower upper : Point) (out : List ℕ) (z : zero_extent v 
   unfolding first_number cover_checks
   none-holds = rw (z, m, le-ltb _ _ h)
 
-  pub keys-written : (cover_answer v lower upper out ≡ Length (length (cover_keys v lower upper))) × (cover_left v lower upper out ≡ over (cover_keys v lower upper) out)
+  pub keys-written : (cover_answer v lower upper out ≡ Ok (length (cover_keys v lower upper))) × (cover_left v lower upper out ≡ over (cover_keys v lower upper) out)
   unfolding cover_answer cover_left
-  keys-written = (by_none Refused (cover_checks v lower upper out) _ none-holds, by_none (λ j. out) (cover_checks v lower upper out) _ none-holds)
+  keys-written = (by_none refuse (cover_checks v lower upper out) _ none-holds, by_none (λ j. out) (cover_checks v lower upper out) _ none-holds)

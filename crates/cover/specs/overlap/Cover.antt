@@ -1,11 +1,10 @@
 -- Which chunks cover a box (RULES B1 to B4): the keys of the grid's cells that share a voxel with it, and what `cover` answers and leaves.
-use Rattle.std.specs.Prelude.{ℕ, zero, suc, ◌^◌, Bool, true, false, ◌&&◌, List, [], ◌∷◌, ℤ, length}
+use Rattle.std.specs.Prelude.{ℕ, zero, suc, ◌^◌, Bool, true, false, ◌&&◌, List, [], ◌∷◌, ℤ, length, Ok}
 use Rattle.std.specs.Int.Signed.{lt_z}
 use Rattle.refusal.specs.Choice.{pick}
 use Rattle.refusal.specs.Checks.{Check, check, answered, left}
 use Rattle.refusal.specs.Buffer.{room, over}
-use Rattle.refusal.specs.declared.Written.{Written}
-use Rattle.refusal.specs.declared.Written.TheVariants.{Length, Refused}
+use Rattle.refusal.specs.Answers.{Answer, refuse}
 use Rattle.morton.specs.declared.grid.Cell.{Cell}
 use Rattle.morton.specs.declared.bounds.Point.{Point}
 use Rattle.morton.specs.declared.grid.Volume.{Volume}
@@ -59,8 +58,8 @@ cover_checks v lower upper out =
     check 2 (zero_extent v) ∷ check 3 (too_many_bits (grid_of v)) ∷ room (cover_keys v lower upper) out ∷ []
 
 -- "The count returned is the number of keys." (RULES B2)
-unfoldable pub cover_answer : Volume → Point → Point → List ℕ → Written
-cover_answer v lower upper out = answered Refused (cover_checks v lower upper out) (Length (length (cover_keys v lower upper)))
+unfoldable pub cover_answer : Volume → Point → Point → List ℕ → Answer ℕ
+cover_answer v lower upper out = answered refuse (cover_checks v lower upper out) (Ok (length (cover_keys v lower upper)))
 
 -- the keys and, past them, what was there; "the output is untouched in each" refusal (RULES B2)
 unfoldable pub cover_left : Volume → Point → Point → List ℕ → List ℕ

@@ -7,6 +7,7 @@ use crate::overlap::Part;
 use morton::grid::Cell;
 
 // No cell is marked.
+#[tactic(auto, using(crate::proofs::descent::Ways::ways))]
 pub fn misses(part: Part) -> bool
     ensures { result ≡ missed part }
 {
@@ -36,6 +37,7 @@ pub fn first(part: Part) -> Cell
     }
 }
 
+#[tactic(auto, using(crate::proofs::descent::Ways::ways))]
 pub fn last(part: Part) -> Cell
     requires { missed part ≡ false }
     ensures { result ≡ last_cell part }

@@ -4,6 +4,3 @@ use Rattle.duplicate_ids.proofs.+search.Goals as goal
 
 pub returns-then-soon-few : goal.returns-then-soon-few
 returns-then-soon-few t c = twice_soon _ _ _ c.search-soon.ensures c.if-soon-few.true (omega arith)
-
-pub returns-then-found : goal.returns-then-found
-returns-then-found t c = c.sifted-found.ensures.at_value c.if-found.true

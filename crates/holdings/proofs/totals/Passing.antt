@@ -75,20 +75,20 @@ module _ {before rows totals : List ℕ} {i : ℕ} (h : Adding before rows total
   pub adding_long : length totals ≡ length before
   adding_long = h.long
 
-  module _ (l : i < length totals) where
+  module _ (l : i < length before) where
     pub adding_within : i < length rows
-    adding_within = omega (arith, h.size)
+    adding_within = omega (arith, h.size, h.long)
+
+    at_total : i < length totals
+    at_total = omega (arith, h.long)
 
     pub adding_passed : most_total - get_or totals i 0 < get_or rows i 0 → Totals before rows totals true
     unfolding passes
     adding_passed k =
-        let t = made-passes i totals rows l adding_within (lt-ltb most_total (get_or totals i 0 + get_or rows i 0) (omega arith)) in
+        let t = made-passes i totals rows at_total adding_within (lt-ltb most_total (get_or totals i 0 + get_or rows i 0) (omega arith)) in
         record { test = sym (rw h.all at t); exact = λ e. absurd (false≢true (sym e)) }
 
-    module _ (f : (k : ℕ) → Fits w64 (get_or totals k 0)) (k : get_or rows i 0 ≤ most_total - get_or totals i 0) where
-      pub adding_fits : Fits w64 (get_or totals i 0 + get_or rows i 0)
-      adding_fits = omega (arith, f i)
-
+    module _ (f : Fits w64 (get_or totals i 0)) (k : get_or rows i 0 ≤ most_total - get_or totals i 0) where
       pub adding_next : Adding before rows (set totals i (get_or totals i 0 + get_or rows i 0)) (i + 1)
       unfolding passes
       adding_next =
@@ -96,15 +96,16 @@ module _ {before rows totals : List ℕ} {i : ℕ} (h : Adding before rows total
           let n : i + 1 ≡ suc i = omega arith in
           let s = length-set totals i v in
           record {
-            all = ap (λ (j : ℕ). made j (set totals i v) rows) n ∙ made-next i totals rows l adding_within ∙ h.all;
-            none = ap (λ (j : ℕ). any_passes (take j (set totals i v))) n ∙ none-next i totals v h.none (le-ltb most_total v (omega (arith, f i)));
+            all = ap (λ (j : ℕ). made j (set totals i v) rows) n ∙ made-next i totals rows at_total adding_within ∙ h.all;
+            none = ap (λ (j : ℕ). any_passes (take j (set totals i v))) n ∙ none-next i totals v h.none (le-ltb most_total v (omega (arith, f)));
             size = s ∙ h.size;
             long = s ∙ h.long;
           }
 
-  pub adding_done : length totals ≤ i → Totals before rows totals false
+  pub adding_done : length before ≤ i → Totals before rows totals false
   adding_done l =
-      let t : totals ≡ added before rows = sym (made_all i totals rows l h.size) ∙ h.all in
-      record { test = sym (ap any_passes (sym t) ∙ none-all i totals l h.none); exact = λ e. t }
+      let past : length totals ≤ i = omega (arith, h.long) in
+      let t : totals ≡ added before rows = sym (made_all i totals rows past h.size) ∙ h.all in
+      record { test = sym (ap any_passes (sym t) ∙ none-all i totals past h.none); exact = λ e. t }
 
-pub ruleset adding = (adding_first, adding_most, adding_long, adding_within, adding_passed, adding_fits, adding_next, adding_done, rules)
+pub ruleset adding = (adding_first, adding_most, adding_long, adding_within, adding_passed, adding_next, adding_done, rules)

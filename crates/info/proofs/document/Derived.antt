@@ -21,7 +21,7 @@ use Rattle.json_text.proofs.strings.Unescaping.{text-own}
 use Rattle.json_text.proofs.Agree.{word_first, number-first, opens-ws, value-opens, ws-max}
 use Rattle.json_text.proofs.members.Own.{item_places, places, value_place, elements-own, members-own, value-own}
 use Rattle.info.specs.numbers.Numbers.{decimal_on, decimal_at, goes_on_of, in32, digits_from_of, whole_from}
-use Rattle.info.specs.declared.numbers.Number.TheVariants.{Wrong}
+use Rattle.std.specs.Prelude.{None}
 use Rattle.info.specs.document.Document.{Document, whole_by, numeral_says, items_say, list_says, member_says, value_says, document}
 use Rattle.info.specs.document.Document.DocumentOf.{word, string, array, object}
 use Rattle.info.proofs.numbers.Numbering.{decimal-on, decimal_stop}
@@ -93,11 +93,11 @@ module _ (s : List ℕ) where
   int_decimal i j (IntPart.is_zero a) h = decimal-own s i (i + 1) 0 (Digits.last (ap is_digit a ∙ no-digits.4) h) ∙ omega (arith, a)
   int_decimal i j (IntPart.is-digits a r) h = decimal-own s i j 0 r
 
-  whole-form : (i j : ℕ) → is_digit (byte_at s i) ≡ true → digits s i ≡ j → whole_from s i ≡ pick (goes_on_of (byte_at s j)) Wrong (in32 (decimal_at s i))
+  whole-form : (i j : ℕ) → is_digit (byte_at s i) ≡ true → digits s i ≡ j → whole_from s i ≡ pick (goes_on_of (byte_at s j)) None (in32 (decimal_at s i))
   unfolding whole_from digits_from_of
   whole-form i j h e = rw (h, e)
 
-  whole_by_lem : (j k e n : ℕ) (f : FracPart s j k) (x : ExpPart s k e) → pick (goes_on_of (byte_at s j)) Wrong (in32 n) ≡ whole_by f x n
+  whole_by_lem : (j k e n : ℕ) (f : FracPart s j k) (x : ExpPart s k e) → pick (goes_on_of (byte_at s j)) None (in32 n) ≡ whole_by f x n
   unfolding whole_by
   whole_by_lem j k e n (FracPart.none a) (ExpPart.none b) = rw (goes_e (byte_at s j) a ∙ b)
   whole_by_lem j k e n (FracPart.none a) (ExpPart.exp b r) = rw (goes_e (byte_at s j) a ∙ b)

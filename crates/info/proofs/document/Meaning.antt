@@ -8,8 +8,11 @@ use native.Mathlib.Omega.{arith}
 use lib.ListN.{length, take}
 use Rattle.refusal.specs.Choice.{pick}
 use Rattle.refusal.specs.Checks.{first_number, unless}
-use Rattle.refusal.specs.declared.Written.TheVariants.{Length}
-use Rattle.refusal.proofs.Refusing.{Refuses, refuses}
+use Rattle.std.specs.Prelude.{Ok, Result, Err}
+use Rattle.refusal.specs.Answers.{refuse}
+use Rattle.refusal.proofs.Passed.{pass}
+use Rattle.refusal.proofs.Refusing.{RefusesBy, refuses_by}
+use Rattle.refusal.specs.declared.Refusal.TheVariants.{InfoNotJson, InfoSettings}
 use Rattle.json_text.specs.Grammar.{deepest, is_json}
 use Rattle.json_text.specs.Rfc.{JsonText}
 use Rattle.json_text.proofs.Agree.{json_sound, json_complete}
@@ -18,14 +21,13 @@ use Rattle.morton.specs.grid.Grid.{grid_of, zero_extent}
 use Rattle.morton.specs.Key.{too_many_bits}
 use Rattle.sharding.specs.Specification.{volume, allowed}
 use Rattle.card.specs.declared.Card.{Card}
-use Rattle.card.specs.declared.CardAnswer.TheVariants.{Says, Refused}
 use Rattle.card.specs.Layout.{card_bytes, Ranged}
 use Rattle.card.specs.Answers.{record_checks, fault, read_answer, write_answer, write_left}
 use Rattle.endian.proofs.Buffer.{written-fits}
 use Rattle.card.proofs.Judged.{write_written}
 use Rattle.card.proofs.Meaning.{one_meaning_one-card}
-use Rattle.info.specs.declared.scale.Settings.{Settings}
-use Rattle.info.specs.declared.scale.Settings.TheVariants.{Are as SettingsAre, UnknownHash as NoKnownHash, Wrong as NoSettings}
+use Rattle.info.specs.declared.sharding_members.SettingsError.{SettingsError}
+use Rattle.info.specs.declared.sharding_members.SettingsError.TheVariants.{UnknownHash, Wrong}
 use Rattle.info.specs.Settings.{settings_of}
 use Rattle.info.specs.Answers.{no_settings, unknown_hash, record_of, settings_checks, said_answer, info_checks, info_answer}
 use Rattle.info.specs.document.Document.{document}
@@ -41,40 +43,40 @@ use Rattle.info.proofs.document.Held.{SettingsHeld, of_held}
 
 -- ---- what is accepted
 
-judged_by : (f : ℕ) (c d : Card) → unless Refused f (Says d) ≡ Says c → (f ≡ 0) × (d ≡ c)
+judged_by : (f : ℕ) (c d : Card) → unless refuse f (Ok d) ≡ Ok c → (f ≡ 0) × (d ≡ c)
 unfolding unless
 judged_by zero c d e = (refl, cc)
 judged_by (suc f) c d e = let z : ◌≡◌ {A = ℕ} 0 1 = cc in absurd (omega arith)
 
-accepted_by : (t : Bool) (w : Settings) (c : Card) → SettingsHeld w
-    → unless Refused (pick (not t) 19 (pick (no_settings w) 20 (pick (unknown_hash w) 1 (fault (record_of w))))) (Says (record_of w)) ≡ Says c
-    → (t ≡ true) × (w ≡ SettingsAre c) × (Ranged c) × (fault c ≡ 0) × (c.sharding.kind ≡ volume)
+accepted_by : (t : Bool) (w : Result Card SettingsError) (c : Card) → SettingsHeld w
+    → unless refuse (pick (not t) 19 (pick (no_settings w) 20 (pick (unknown_hash w) 1 (fault (record_of w))))) (Ok (record_of w)) ≡ Ok c
+    → (t ≡ true) × (w ≡ Ok c) × (Ranged c) × (fault c ≡ 0) × (c.sharding.kind ≡ volume)
 unfolding unless no_settings unknown_hash record_of
 accepted_by false w c h e = let z : ◌≡◌ {A = ℕ} 0 1 = cc in absurd (omega arith)
-accepted_by true NoKnownHash c h e = let z : ◌≡◌ {A = ℕ} 0 1 = cc in absurd (omega arith)
-accepted_by true NoSettings c h e = let z : ◌≡◌ {A = ℕ} 0 1 = cc in absurd (omega arith)
-accepted_by true (SettingsAre d) c h e =
+accepted_by true (Err UnknownHash) c h e = let z : ◌≡◌ {A = ℕ} 0 1 = cc in absurd (omega arith)
+accepted_by true (Err Wrong) c h e = let z : ◌≡◌ {A = ℕ} 0 1 = cc in absurd (omega arith)
+accepted_by true (Ok d) c h e =
     let q = judged_by (fault d) c d e in
-    (refl, ap SettingsAre q.1, rw q.1 at h.0, ap fault (sym q.1) ∙ q.0, rw q.1 at h.1)
+    (refl, ap Ok q.1, rw q.1 at h.0, ap fault (sym q.1) ∙ q.0, rw q.1 at h.1)
 
 -- an accepted text is JSON, its settings give the record, and the record fits a card, passes the card's own checks and is of a volume
-pub accepted : (s : List ℕ) (k : ℕ) (c : Card) → info_answer s k ≡ Says c → (is_json deepest s ≡ true) × (settings_of s k ≡ SettingsAre c) × (Ranged c) × (fault c ≡ 0) × (c.sharding.kind ≡ volume)
+pub accepted : (s : List ℕ) (k : ℕ) (c : Card) → info_answer s k ≡ Ok c → (is_json deepest s ≡ true) × (settings_of s k ≡ Ok c) × (Ranged c) × (fault c ≡ 0) × (c.sharding.kind ≡ volume)
 unfolding placed_number
 accepted s k c e = accepted_by (is_json deepest s) (settings_of s k) c (of_held s k) (sym (by_places s k) ∙ e)
 
 -- "a card written from its answer reads back to the same record"
-card-reads_back : (s : List ℕ) (k : ℕ) (c : Card) (out : List ℕ) → info_answer s k ≡ Says c → length (card_bytes c) ≤ length out
-    → (write_answer c out ≡ Length (length (card_bytes c))) × (read_answer (take (length (card_bytes c)) (write_left c out)) ≡ Says c)
+card-reads_back : (s : List ℕ) (k : ℕ) (c : Card) (out : List ℕ) → info_answer s k ≡ Ok c → length (card_bytes c) ≤ length out
+    → (write_answer c out ≡ Ok (length (card_bytes c))) × (read_answer (take (length (card_bytes c)) (write_left c out)) ≡ Ok c)
 card-reads_back s k c out e h =
     let a = accepted s k c e in
-    let w = sym (write_written c out (sym a.3) refl (sym (written-fits (card_bytes c) out h))) in
+    let w = sym (write_written c out (pass (fault c) a.3) (sym (written-fits (card_bytes c) out h))) in
     (w, (one_meaning_one-card.written c out (length (card_bytes c)) a.2 w).1)
 
 -- ---- what is refused
 
-info-refuses : (s : List ℕ) (k : ℕ) → Refuses (info_answer s k) Refused (info_checks s k)
+info-refuses : (s : List ℕ) (k : ℕ) → RefusesBy (info_answer s k) (info_checks s k)
 unfolding info_answer info_checks settings_checks record_checks
-info-refuses s k = refuses Refused (λ i j e. cc) (info_checks s k) (Says (record_of (settings_in k (document_found s)))) refl (λ j e. cc)
+info-refuses s k = refuses_by (info_checks s k) (record_of (settings_in k (document_found s))) refl
 
 pick_small : (a b c : Bool) → pick a 1 (pick b 2 (pick c 3 0)) < 19
 pick_small true b c = omega arith
@@ -86,11 +88,11 @@ fault-small : (c : Card) → fault c < 19
 unfolding record_checks first_number
 fault-small c = pick_small (not (allowed c.sharding)) (zero_extent c.volume) (too_many_bits (grid_of c.volume))
 
-first_small : (w : Settings) → pick (unknown_hash w) 1 (fault (record_of w)) < 19
+first_small : (w : Result Card SettingsError) → pick (unknown_hash w) 1 (fault (record_of w)) < 19
 unfolding unknown_hash record_of
-first_small (SettingsAre c) = fault-small c
-first_small NoKnownHash = omega arith
-first_small NoSettings = fault-small (record_of NoSettings)
+first_small (Ok c) = fault-small c
+first_small (Err UnknownHash) = omega arith
+first_small (Err Wrong) = fault-small (record_of (Err Wrong))
 
 number_19 : (t b : Bool) (f : ℕ) → f < 19 → pick (not t) 19 (pick b 20 f) ≡ 19 → t ≡ false
 number_19 false b f h e = refl
@@ -101,12 +103,12 @@ false-not : {t : Bool} → t ≡ false → t ≡ true → ⊥
 false-not p q = let z : ◌≡◌ {A = ℕ} 0 1 = cc in omega arith
 
 -- 19 exactly for texts that are no JSON value of depth at most 32 in UTF-8
-not_json_19 : (s : List ℕ) (k : ℕ) → (info_answer s k ≡ Refused 19) ↔ (JsonText deepest s → ⊥)
+not_json_19 : (s : List ℕ) (k : ℕ) → (info_answer s k ≡ refuse 19) ↔ (JsonText deepest s → ⊥)
 unfolding placed_number
-not_json_19 s k = (λ e j. false-not (no_json e) (json_complete deepest s j), λ n. ((info-refuses s k).decided 19).1 (here n (is_json deepest s) refl, (omega arith, omega arith)))
+not_json_19 s k = (λ e j. false-not (no_json e) (json_complete deepest s j), λ n. ((info-refuses s k).decided InfoNotJson).1 (here n (is_json deepest s) refl))
   where
-    no_json : info_answer s k ≡ Refused 19 → is_json deepest s ≡ false
-    no_json e = number_19 (is_json deepest s) (no_settings (settings_of s k)) (pick (unknown_hash (settings_of s k)) 1 (fault (record_of (settings_of s k)))) (first_small (settings_of s k)) (sym (first-is s k) ∙ (((info-refuses s k).decided 19).0 e).0)
+    no_json : info_answer s k ≡ refuse 19 → is_json deepest s ≡ false
+    no_json e = number_19 (is_json deepest s) (no_settings (settings_of s k)) (pick (unknown_hash (settings_of s k)) 1 (fault (record_of (settings_of s k)))) (first_small (settings_of s k)) (sym (first-is s k) ∙ ((info-refuses s k).decided InfoNotJson).0 e)
 
     here : (JsonText deepest s → ⊥) → (t : Bool) → is_json deepest s ≡ t → first_number (info_checks s k) ≡ 19
     here n true e = absurd (n (json_sound deepest s e))
@@ -121,40 +123,40 @@ by_document s k j = rw (json_complete deepest s j, document-said s j)
 settings_by_document : (s : List ℕ) (k : ℕ) (j : JsonText deepest s) → settings_of s k ≡ settings_in k (document j)
 settings_by_document s k j = settings_by_places s k ∙ ap (settings_in k) (document-said s j)
 
-number_20 : (w : Settings) → pick (no_settings w) 20 (pick (unknown_hash w) 1 (fault (record_of w))) ≡ 20 → w ≡ NoSettings
+number_20 : (w : Result Card SettingsError) → pick (no_settings w) 20 (pick (unknown_hash w) 1 (fault (record_of w))) ≡ 20 → w ≡ Err Wrong
 unfolding no_settings unknown_hash record_of
-number_20 (SettingsAre c) e = absurd (omega (arith, fault-small c))
-number_20 NoKnownHash e = absurd (omega arith)
-number_20 NoSettings e = refl
+number_20 (Ok c) e = absurd (omega (arith, fault-small c))
+number_20 (Err UnknownHash) e = absurd (omega arith)
+number_20 (Err Wrong) e = refl
 
-unsaid_20 : (s : List ℕ) (k : ℕ) (j : JsonText deepest s) → (info_answer s k ≡ Refused 20) ↔ (settings_in k (document j) ≡ NoSettings)
+unsaid_20 : (s : List ℕ) (k : ℕ) (j : JsonText deepest s) → (info_answer s k ≡ refuse 20) ↔ (settings_in k (document j) ≡ Err Wrong)
 unfolding placed_number
-unsaid_20 s k j = (λ e. sym (settings_by_document s k j) ∙ none e, λ e. ((info-refuses s k).decided 20).1 (here (settings_by_document s k j ∙ e), (omega arith, omega arith)))
+unsaid_20 s k j = (λ e. sym (settings_by_document s k j) ∙ none e, λ e. ((info-refuses s k).decided InfoSettings).1 (here (settings_by_document s k j ∙ e)))
   where
     unfolded : first_number (info_checks s k) ≡ pick (no_settings (settings_of s k)) 20 (pick (unknown_hash (settings_of s k)) 1 (fault (record_of (settings_of s k))))
     unfolded = first-is s k ∙ rw (json_complete deepest s j)
 
-    none : info_answer s k ≡ Refused 20 → settings_of s k ≡ NoSettings
-    none e = number_20 (settings_of s k) (sym unfolded ∙ (((info-refuses s k).decided 20).0 e).0)
+    none : info_answer s k ≡ refuse 20 → settings_of s k ≡ Err Wrong
+    none e = number_20 (settings_of s k) (sym unfolded ∙ ((info-refuses s k).decided InfoSettings).0 e)
 
-    wrong : settings_of s k ≡ NoSettings → pick (no_settings (settings_of s k)) 20 (pick (unknown_hash (settings_of s k)) 1 (fault (record_of (settings_of s k)))) ≡ 20
+    wrong : settings_of s k ≡ Err Wrong → pick (no_settings (settings_of s k)) 20 (pick (unknown_hash (settings_of s k)) 1 (fault (record_of (settings_of s k)))) ≡ 20
     wrong e = rw e (unfold no_settings in refl)
 
-    here : settings_of s k ≡ NoSettings → first_number (info_checks s k) ≡ 20
+    here : settings_of s k ≡ Err Wrong → first_number (info_checks s k) ≡ 20
     here e = unfolded ∙ wrong e
 
-said-given : (w : Settings) (c : Card) → w ≡ SettingsAre c → fault c ≡ 0 → unless Refused (pick (no_settings w) 20 (pick (unknown_hash w) 1 (fault (record_of w)))) (Says (record_of w)) ≡ Says c
+said-given : (w : Result Card SettingsError) (c : Card) → w ≡ Ok c → fault c ≡ 0 → unless refuse (pick (no_settings w) 20 (pick (unknown_hash w) 1 (fault (record_of w)))) (Ok (record_of w)) ≡ Ok c
 unfolding unless no_settings unknown_hash record_of
 said-given w c e z = rw (e, z)
 
-given-said : (s : List ℕ) (k : ℕ) (c : Card) → (info_answer s k ≡ Says c) ↔ ((j : JsonText deepest s) × (settings_in k (document j) ≡ SettingsAre c) × (first_number (record_checks c) ≡ 0))
+given-said : (s : List ℕ) (k : ℕ) (c : Card) → (info_answer s k ≡ Ok c) ↔ ((j : JsonText deepest s) × (settings_in k (document j) ≡ Ok c) × (first_number (record_checks c) ≡ 0))
 unfolding said_answer settings_checks
 given-said s k c = (λ e. let a = accepted s k c e in let j = json_sound deepest s a.0 in (j, sym (settings_by_document s k j) ∙ a.1, a.3), λ h. by_document s k h.0 ∙ said h.0 h.1 h.2)
   where
-    said : (j : JsonText deepest s) → settings_in k (document j) ≡ SettingsAre c → first_number (record_checks c) ≡ 0 → said_answer k (document j) ≡ Says c
+    said : (j : JsonText deepest s) → settings_in k (document j) ≡ Ok c → first_number (record_checks c) ≡ 0 → said_answer k (document j) ≡ Ok c
     said j p q = unfold first_number in said-given (settings_in k (document j)) c p q
 
-unknown_1 : (s : List ℕ) (k : ℕ) (j : JsonText deepest s) → settings_in k (document j) ≡ NoKnownHash → info_answer s k ≡ Refused 1
+unknown_1 : (s : List ℕ) (k : ℕ) (j : JsonText deepest s) → settings_in k (document j) ≡ Err UnknownHash → info_answer s k ≡ refuse 1
 unknown_1 s k j e = sym (info_1 s k (sym (json_complete deepest s j)) refl (sym (settings_by_document s k j)) e)
 
 -- ---- one document, one answer

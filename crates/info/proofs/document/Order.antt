@@ -9,8 +9,8 @@ use Rattle.refusal.specs.Choice.{pick}
 use Rattle.json_text.specs.tokens.Bytes.{choose, same}
 use Rattle.json_text.specs.strings.Names.{eq_list}
 use Rattle.json_text.proofs.tokens.Laws.{if_yes, if_no, is_same}
-use Rattle.info.specs.declared.sharding_members.ShardingIn.TheVariants.{Wrong as NoSharding}
-use Rattle.info.specs.declared.scale.Settings.TheVariants.{Wrong as NoSettings}
+use Rattle.std.specs.Prelude.{Err}
+use Rattle.info.specs.declared.sharding_members.SettingsError.TheVariants.{Wrong}
 use Rattle.info.specs.sharding_members.Words.{scales_name, sharding_name, type_name}
 use Rattle.info.specs.document.Document.{Entry, DocumentOf, Times, times, values_named, member_of, elements_of, when_once, nth}
 use Rattle.info.specs.document.Document.DocumentOf.{array, object}
@@ -100,13 +100,13 @@ sharding-same u v h = rw (h.type, h.preshift, h.hash, h.minishard, h.shard, h.in
 
 scale_same : {D : Type 0} (u v : DocumentOf (DocumentOf (DocumentOf (DocumentOf D)))) → SameScale u v → settings_on u ≡ settings_on v
 unfolding settings_on volume_of said_size chunk_of
-scale_same u v h = rw (h.size, h.chunks, h.offset, both-same NoSharding sharding_on sharding-same (member_of sharding_name u) (member_of sharding_name v) h.sharding)
+scale_same u v h = rw (h.size, h.chunks, h.offset, both-same (Err Wrong) sharding_on sharding-same (member_of sharding_name u) (member_of sharding_name v) h.sharding)
 
 pub used-same : {D : Type 0} (k : ℕ) (u v : DocumentOf (DocumentOf (DocumentOf (DocumentOf (DocumentOf (DocumentOf D)))))) → SameUsed k u v → settings_in k u ≡ settings_in k v
 unfolding settings_in
 used-same k u v h =
-    both-same NoSettings (λ a. when_once (nth k (elements_of a)) NoSettings settings_on)
-    (λ a b r. both-same NoSettings settings_on scale_same (nth k (elements_of a)) (nth k (elements_of b)) r) (member_of scales_name u) (member_of scales_name v) h
+    both-same (Err Wrong) (λ a. when_once (nth k (elements_of a)) (Err Wrong) settings_on)
+    (λ a b r. both-same (Err Wrong) settings_on scale_same (nth k (elements_of a)) (nth k (elements_of b)) r) (member_of scales_name u) (member_of scales_name v) h
 
 -- ---- a document agrees with itself
 

@@ -10,20 +10,13 @@ use lib.ListN.{get_or}
 use Rattle.refusal.specs.Choice.{pick}
 use Rattle.json_text.specs.tokens.Bytes.{is_digit, inside}
 use Rattle.json_text.specs.tokens.Parts.{ws}
-use Rattle.json_text.specs.declared.tokens.Found.{Found}
-use Rattle.json_text.specs.declared.tokens.Found.TheVariants.{At, Nothing}
+use Rattle.std.specs.Prelude.{Option, Some, None, Err}
 use Rattle.json_text.specs.strings.Names.{text_at, eq_list}
 use Rattle.json_text.specs.members.Places.{value_of, first_in, items_by, elements, members, is_text, keep, is_name, named, only, member, once_of, needed, pick_nth, element, three_of, lone_of}
-use Rattle.info.specs.numbers.Numbers.{when_is, whole_from, natural_at, above_of, below_of, coordinate_at}
-use Rattle.info.specs.declared.numbers.Number.{Number}
-use Rattle.info.specs.declared.numbers.Number.TheVariants.{Is, Wrong}
-use Rattle.info.specs.declared.scale.ExtentsIn.TheVariants.{Wrong as NoExtents}
-use Rattle.info.specs.declared.scale.OffsetIn.TheVariants.{Wrong as NoOffset}
-use Rattle.info.specs.declared.sharding_members.HashIn.TheVariants.{Wrong as NoHash}
-use Rattle.info.specs.declared.sharding_members.ShardingIn.TheVariants.{Wrong as NoSharding}
-use Rattle.info.specs.declared.scale.Settings.TheVariants.{Wrong as NoSettings}
+use Rattle.info.specs.numbers.Numbers.{when_some, whole_from, natural_at, above_of, below_of, coordinate_at}
+use Rattle.info.specs.declared.sharding_members.SettingsError.TheVariants.{Wrong}
 use Rattle.info.specs.sharding_members.Words.{scales_name, size_name, chunks_name, offset_name, sharding_name, type_name, preshift_name, hash_name, minishard_bits_name, shard_bits_name, index_name, data_name, type_text, raw_text}
-use Rattle.info.specs.scale.Scale.{when_at, when_three, extents_of, extents_at, offset_of, offset_at_of, size_in, chunk_in, offset_by, offset_in, volume_in, typed, formed, hash_in, number_in, numbers_in, sharding_at, sharding_in, settings_at}
+use Rattle.info.specs.scale.Scale.{extents_of, extents_at, offset_of, offset_at_of, size_in, chunk_in, offset_by, offset_in, volume_in, typed, formed, hash_in, number_in, numbers_in, sharding_at, sharding_in, settings_at}
 use Rattle.info.specs.sharding_members.Values.{raw_by, hash_at}
 use Rattle.info.specs.Settings.{scale_at, settings_of}
 use Rattle.info.specs.document.Document.{Entry, DocumentOf, Document, times, values_named, member_of, elements_of, says_text, when_once, when_triple, nth}
@@ -71,7 +64,7 @@ module _ (d : ℕ) (s : List ℕ) (p : ℕ) where
 
 -- a number has no members and elements and says no text
 module _ {D : Type 0} (s : List ℕ) (p : ℕ) where
-  number-case : (C : DocumentOf D → Type 0) → ((m : Bool) (n : Number) → C (number m n)) → C word → C (said_number_at s p)
+  number-case : (C : DocumentOf D → Type 0) → ((m : Bool) (n : Option ℕ) → C (number m n)) → C word → C (said_number_at s p)
   unfolding said_number_at
   number-case C f w = go (eqb (get_or s p 0) 0x2D) (is_digit (get_or s p 0))
     where
@@ -80,7 +73,7 @@ module _ {D : Type 0} (s : List ℕ) (p : ℕ) where
       go false true = f false (whole_from s p)
       go false false = w
 
-no_items : (opening closing : ℕ) (s : List ℕ) (p : ℕ) → (get_or s p 0 ≡ opening → ⊥) → first_in opening closing s p ≡ Nothing
+no_items : (opening closing : ℕ) (s : List ℕ) (p : ℕ) → (get_or s p 0 ≡ opening → ⊥) → first_in opening closing s p ≡ None
 unfolding first_in
 no_items opening closing s p n = rw (ne_eqb (get_or s p 0) opening n)
 
@@ -134,37 +127,37 @@ members-said d name s p = go (first (get_or s p 0))
     go (plain x y z) = rw (at_plain d s p x y z) (number-case s p (λ v. member_of name v ≡ times (map (valued d s) (keep (is_name name s) (members s p)))) (λ m n. none z) (none z))
 
 -- a member that is asked for once
-once-of : {A : Type 0} (d : ℕ) (s : List ℕ) (none : A) (f : Document d → A) (l : List ℕ) → when_once (times (map (valued d s) l)) none f ≡ when_at (once_of (only s l)) none (λ v. f (document_at d s v))
+once-of : {A : Type 0} (d : ℕ) (s : List ℕ) (none : A) (f : Document d → A) (l : List ℕ) → when_once (times (map (valued d s) l)) none f ≡ when_some (once_of (only s l)) none (λ v. f (document_at d s v))
 unfolding times only once_of valued
 once-of d s none f [] = refl
 once-of d s none f (m ∷ []) = refl
 once-of d s none f (m ∷ n ∷ l) = refl
 
 pub needed-said : {A : Type 0} (d : ℕ) (name s : List ℕ) (p : ℕ) (none : A) (f : Document d → A)
-    → when_once (member_of name (document_at (suc d) s p)) none f ≡ when_at (needed name s p) none (λ v. f (document_at d s v))
+    → when_once (member_of name (document_at (suc d) s p)) none f ≡ when_some (needed name s p) none (λ v. f (document_at d s v))
 unfolding needed member
 needed-said d name s p none f = rw (members-said d name s p) (once-of d s none f (named name s p))
 
 -- the same with equal continuations
-when_same : {A : Type 0} (q : Found) (none : A) (f g : ℕ → A) → ((v : ℕ) → f v ≡ g v) → when_at q none f ≡ when_at q none g
-when_same (At v) none f g h = h v
-when_same Nothing none f g h = refl
+when_same : {A : Type 0} (q : Option ℕ) (none : A) (f g : ℕ → A) → ((v : ℕ) → f v ≡ g v) → when_some q none f ≡ when_some q none g
+when_same (Some v) none f g h = h v
+when_same None none f g h = refl
 
 -- ---- leaves
 
 pub digit_no : (b c : ℕ) → b ≡ c → is_digit c ≡ false → is_digit b ≡ false
 digit_no b c e t = rw e t
 
-whole-no : (s : List ℕ) (p : ℕ) → is_digit (get_or s p 0) ≡ false → whole_from s p ≡ Wrong
+whole-no : (s : List ℕ) (p : ℕ) → is_digit (get_or s p 0) ≡ false → whole_from s p ≡ None
 unfolding whole_from
 whole-no s p e = rw e
 
 module _ (s : List ℕ) (p : ℕ) where
-  natural-no : (get_or s p 0 ≡ 0x2D → ⊥) → is_digit (get_or s p 0) ≡ false → Wrong ≡ natural_at s p
+  natural-no : (get_or s p 0 ≡ 0x2D → ⊥) → is_digit (get_or s p 0) ≡ false → None ≡ natural_at s p
   unfolding natural_at
   natural-no n t = sym (rw (ne_eqb (get_or s p 0) 0x2D n, whole-no s p t))
 
-  coordinate_no : (get_or s p 0 ≡ 0x2D → ⊥) → is_digit (get_or s p 0) ≡ false → Wrong ≡ coordinate_at s p
+  coordinate_no : (get_or s p 0 ≡ 0x2D → ⊥) → is_digit (get_or s p 0) ≡ false → None ≡ coordinate_at s p
   unfolding coordinate_at above_of
   coordinate_no n t = sym (rw (ne_eqb (get_or s p 0) 0x2D n, whole-no s p t))
 
@@ -174,7 +167,7 @@ module _ (s : List ℕ) (p : ℕ) where
     where
       go : (x y : Bool) → is_digit (get_or s p 0) ≡ y
           → natural_of {D = D} (pick x (number true (whole_from s (p + 1))) (pick y (number false (whole_from s p)) word))
-          ≡ pick x (when_is (whole_from s (p + 1)) Wrong (λ n. pick (eqb n 0) (Is 0) Wrong)) (whole_from s p)
+          ≡ pick x (when_some (whole_from s (p + 1)) None (λ n. pick (eqb n 0) (Some 0) None)) (whole_from s p)
       go true y e = refl
       go false true e = refl
       go false false e = sym (whole-no s p e)
@@ -227,7 +220,7 @@ hash-said : (d : ℕ) (s : List ℕ) (p : ℕ) → hash_of (document_at (suc d) 
 unfolding hash_of hash_at is_text
 hash-said d s p = go (first (get_or s p 0))
   where
-    none : (get_or s p 0 ≡ 0x22 → ⊥) → NoHash ≡ hash_at s p
+    none : (get_or s p 0 ≡ 0x22 → ⊥) → Err Wrong ≡ hash_at s p
     none n = rw (ne_eqb (get_or s p 0) 0x22 n)
 
     go : First (get_or s p 0) → hash_of (document_at (suc d) s p) ≡ hash_at s p
@@ -243,8 +236,8 @@ module _ (d : ℕ) (s : List ℕ) where
   unfolding extents_on extents_at three_of
   extents-said p = rw (elements-said (suc d) s p) (go (elements s p))
     where
-      go : (l : List ℕ) → when_triple (map (document_at (suc d) s) l) NoExtents (λ a b c. extents_of (natural_of a) (natural_of b) (natural_of c))
-          ≡ when_three (three_of l) NoExtents (λ t. extents_of (natural_at s t.x) (natural_at s t.y) (natural_at s t.z))
+      go : (l : List ℕ) → when_triple (map (document_at (suc d) s) l) None (λ a b c. extents_of (natural_of a) (natural_of b) (natural_of c))
+          ≡ when_some (three_of l) None (λ t. extents_of (natural_at s t.x) (natural_at s t.y) (natural_at s t.z))
       go [] = refl
       go (a ∷ []) = refl
       go (a ∷ b ∷ []) = refl
@@ -255,8 +248,8 @@ module _ (d : ℕ) (s : List ℕ) where
   unfolding offset_on offset_at_of three_of
   offset-said p = rw (elements-said (suc d) s p) (go (elements s p))
     where
-      go : (l : List ℕ) → when_triple (map (document_at (suc d) s) l) NoOffset (λ a b c. offset_of (coordinate_of a) (coordinate_of b) (coordinate_of c))
-          ≡ when_three (three_of l) NoOffset (λ t. offset_of (coordinate_at s t.x) (coordinate_at s t.y) (coordinate_at s t.z))
+      go : (l : List ℕ) → when_triple (map (document_at (suc d) s) l) None (λ a b c. offset_of (coordinate_of a) (coordinate_of b) (coordinate_of c))
+          ≡ when_some (three_of l) None (λ t. offset_of (coordinate_at s t.x) (coordinate_at s t.y) (coordinate_at s t.z))
       go [] = refl
       go (a ∷ []) = refl
       go (a ∷ b ∷ []) = refl
@@ -265,9 +258,9 @@ module _ (d : ℕ) (s : List ℕ) where
 
   size-said : (p : ℕ) → said_size (document_at (suc (suc (suc d))) s p) ≡ size_in s p
   unfolding said_size size_in
-  size-said p = needed-said (suc (suc d)) size_name s p NoExtents extents_on ∙ when_same (needed size_name s p) NoExtents _ _ extents-said
+  size-said p = needed-said (suc (suc d)) size_name s p None extents_on ∙ when_same (needed size_name s p) None _ _ extents-said
 
-  lone_said : (l : List ℕ) → when_once (times (map (document_at (suc (suc d)) s) l)) NoExtents extents_on ≡ when_at (lone_of l) NoExtents (extents_at s)
+  lone_said : (l : List ℕ) → when_once (times (map (document_at (suc (suc d)) s) l)) None extents_on ≡ when_some (lone_of l) None (extents_at s)
   unfolding times lone_of
   lone_said [] = refl
   lone_said (a ∷ []) = extents-said a
@@ -276,8 +269,8 @@ module _ (d : ℕ) (s : List ℕ) where
   chunk-said : (p : ℕ) → chunk_of (document_at (suc (suc (suc (suc d)))) s p) ≡ chunk_in s p
   unfolding chunk_of chunk_in
   chunk-said p =
-      needed-said (suc (suc (suc d))) chunks_name s p NoExtents (λ v. when_once (times (elements_of v)) NoExtents extents_on)
-      ∙ when_same (needed chunks_name s p) NoExtents _ _ (λ v. rw (elements-said (suc (suc d)) s v) (lone_said (elements s v)))
+      needed-said (suc (suc (suc d))) chunks_name s p None (λ v. when_once (times (elements_of v)) None extents_on)
+      ∙ when_same (needed chunks_name s p) None _ _ (λ v. rw (elements-said (suc (suc d)) s v) (lone_said (elements s v)))
 
   offset-given : (p : ℕ) → offset_given (member_of offset_name (document_at (suc (suc (suc d))) s p)) ≡ offset_in s p
   unfolding offset_in member offset_given times offset_by only valued
@@ -308,13 +301,13 @@ module _ (d : ℕ) (s : List ℕ) where
       go (m ∷ []) = text-said d raw_text s (value_of s m)
       go (m ∷ n ∷ l) = refl
 
-  hashed_said : (p : ℕ) → when_once (member_of hash_name (document_at (suc (suc d)) s p)) NoHash hash_of ≡ hash_in s p
+  hashed_said : (p : ℕ) → when_once (member_of hash_name (document_at (suc (suc d)) s p)) (Err Wrong) hash_of ≡ hash_in s p
   unfolding hash_in
-  hashed_said p = needed-said (suc d) hash_name s p NoHash hash_of ∙ when_same (needed hash_name s p) NoHash _ _ (hash-said d s)
+  hashed_said p = needed-said (suc d) hash_name s p (Err Wrong) hash_of ∙ when_same (needed hash_name s p) (Err Wrong) _ _ (hash-said d s)
 
   number-said : (name : List ℕ) (p : ℕ) → number_of name (document_at (suc (suc d)) s p) ≡ number_in name s p
   unfolding number_of number_in
-  number-said name p = needed-said (suc d) name s p Wrong natural_of ∙ when_same (needed name s p) Wrong _ _ (natural-said d s)
+  number-said name p = needed-said (suc d) name s p None natural_of ∙ when_same (needed name s p) None _ _ (natural-said d s)
 
   sharding-said : (p : ℕ) → sharding_on (document_at (suc (suc d)) s p) ≡ sharding_at s p
   unfolding sharding_on sharding_at formed numbers_in
@@ -329,27 +322,27 @@ module _ (d : ℕ) (s : List ℕ) where
   settings_said p =
       rw (
         volume-said d s p,
-        needed-said (suc (suc (suc d))) sharding_name s p NoSharding sharding_on
-            ∙ when_same (needed sharding_name s p) NoSharding _ _ (sharding-said (suc d) s),
+        needed-said (suc (suc (suc d))) sharding_name s p (Err Wrong) sharding_on
+            ∙ when_same (needed sharding_name s p) (Err Wrong) _ _ (sharding-said (suc d) s),
       )
 
-  nth-said : (k : ℕ) (l : List ℕ) → when_once (nth k (map (document_at (suc (suc (suc (suc d)))) s) l)) NoSettings settings_on ≡ when_at (pick_nth k l) NoSettings (settings_at s)
+  nth-said : (k : ℕ) (l : List ℕ) → when_once (nth k (map (document_at (suc (suc (suc (suc d)))) s) l)) (Err Wrong) settings_on ≡ when_some (pick_nth k l) (Err Wrong) (settings_at s)
   unfolding pick_nth nth
   nth-said zero [] = refl
   nth-said (suc k) [] = refl
   nth-said zero (x ∷ l) = settings_said x
   nth-said (suc k) (x ∷ l) = nth-said k l
 
-  scale-said : (k p : ℕ) → settings_in k (document_at (suc (suc (suc (suc (suc (suc d)))))) s p) ≡ when_at (needed scales_name s p) NoSettings (λ v. when_at (pick_nth k (elements s v)) NoSettings (settings_at s))
+  scale-said : (k p : ℕ) → settings_in k (document_at (suc (suc (suc (suc (suc (suc d)))))) s p) ≡ when_some (needed scales_name s p) (Err Wrong) (λ v. when_some (pick_nth k (elements s v)) (Err Wrong) (settings_at s))
   unfolding settings_in
   scale-said k p =
-      needed-said (suc (suc (suc (suc (suc d))))) scales_name s p NoSettings (λ v. when_once (nth k (elements_of v)) NoSettings settings_on)
-      ∙ when_same (needed scales_name s p) NoSettings _ _ (λ v. rw (elements-said (suc (suc (suc (suc d)))) s v) (nth-said k (elements s v)))
+      needed-said (suc (suc (suc (suc (suc d))))) scales_name s p (Err Wrong) (λ v. when_once (nth k (elements_of v)) (Err Wrong) settings_on)
+      ∙ when_same (needed scales_name s p) (Err Wrong) _ _ (λ v. rw (elements-said (suc (suc (suc (suc d)))) s v) (nth-said k (elements s v)))
 
-when_twice : {A : Type 0} (q : Found) (none : A) (g : ℕ → Found) (f : ℕ → A) → when_at (when_at q Nothing g) none f ≡ when_at q none (λ v. when_at (g v) none f)
-when_twice (At v) none g f = refl
-when_twice Nothing none g f = refl
+when_twice : {A : Type 0} (q : Option ℕ) (none : A) (g : ℕ → Option ℕ) (f : ℕ → A) → when_some (when_some q None g) none f ≡ when_some q none (λ v. when_some (g v) none f)
+when_twice (Some v) none g f = refl
+when_twice None none g f = refl
 
 pub settings_by_places : (s : List ℕ) (k : ℕ) → settings_of s k ≡ settings_in k (document_found s)
 unfolding settings_of scale_at element document_found
-settings_by_places s k = when_twice (needed scales_name s (ws s 0)) NoSettings (λ v. pick_nth k (elements s v)) (settings_at s) ∙ sym (scale-said 26 s k (ws s 0))
+settings_by_places s k = when_twice (needed scales_name s (ws s 0)) (Err Wrong) (λ v. pick_nth k (elements s v)) (settings_at s) ∙ sym (scale-said 26 s k (ws s 0))

@@ -17,8 +17,9 @@ use Rattle.morton.specs.Key.{step, steps, key_bits_of, too_many_bits}
 use Rattle.sharding.specs.Specification.{allowed}
 use Rattle.card.specs.fields.Twos.{bits32, signed32}
 use Rattle.card.specs.Answers.{record_checks}
-use Rattle.card.specs.declared.CardAnswer.{CardAnswer}
-use Rattle.card.specs.declared.CardAnswer.TheVariants.{Says, Refused}
+use Rattle.std.specs.Prelude.{Ok}
+use Rattle.card.specs.declared.Card.{Card}
+use Rattle.refusal.specs.Answers.{Answer, refuse}
 use Rattle.info.specs.scale.Scale.{extents_of, extents_at, offset_of, offset_at_of, size_in, chunk_in, offset_by, offset_in, volume_in, typed, formed, hash_in, number_in, numbers_of, numbers_in, sharding_at, sharding_in, settings_by, settings_at}
 use Rattle.info.specs.sharding_members.Values.{raw_by, hash_at, hashed_by, sharding_of}
 use Rattle.info.specs.Settings.{scale_at, settings_of}
@@ -27,8 +28,8 @@ use Rattle.info.proofs.Ways.{placed_number, by_places}
 use Rattle.info.specs.document.Worked.{Case, cases}
 
 -- the answer by places, which is computed
-unfoldable placed_answer : Case → CardAnswer
-placed_answer c = unless Refused (placed_number c.text c.scale) (Says (record_of (settings_of c.text c.scale)))
+unfoldable placed_answer : Case → Answer Card
+placed_answer c = unless refuse (placed_number c.text c.scale) (Ok (record_of (settings_of c.text c.scale)))
 
 all_placed : (l : List Case) → map (λ (c : Case). info_answer c.text c.scale) l ≡ map placed_answer l
 unfolding placed_answer

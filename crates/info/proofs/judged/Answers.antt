@@ -1,11 +1,10 @@
-use Rattle.info.proofs.Ways.{answers}
+use Rattle.std.proofs.Common.{◌∙◌}
+use Rattle.refusal.proofs.Passed.{handed}
+use Rattle.info.proofs.Ways.{judged-refused, judged_says}
 use Rattle.info.proofs.judged.Goals as goal
 
-pub judge-number-requires : goal.judge-number-requires
-judge-number-requires c = search answers
-
-pub returns-then-number-ne0 : goal.returns-then-number-ne0
-returns-then-number-ne0 c = search answers
+pub returns-in_err-judge : goal.returns-in_err-judge
+returns-in_err-judge c = handed c.from_residual.ensures ∙ judged-refused _ c.in_err-judge.ensures
 
 pub returns : goal.returns
-returns c = search answers
+returns c = judged_says _ c.in_ok-judge.ensures

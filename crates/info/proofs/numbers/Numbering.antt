@@ -1,27 +1,21 @@
 -- Numbers: what the functions that read them need.
-use Prim.Native.Nat.{ℕ, zero, suc, ◌+◌, ◌-◌, ◌*◌, ◌^◌, ◌≤◌, ◌<◌}
+use Prim.Native.Nat.{ℕ, ◌+◌, ◌-◌, ◌*◌, ◌^◌, ◌≤◌, ◌<◌}
 use mathlib.Core.Path.{◌≡◌, refl, sym, ap, ◌∙◌}
-use mathlib.Core.Bool.{Bool, true, false, not}
+use mathlib.Core.Bool.{Bool, true, false}
 use mathlib.Core.List.{List, [], ◌∷◌}
 use native.Mathlib.Omega.{arith}
 use native.Mathlib.Numerals.{add-one}
-use borrow.Author.Rules.{rules}
-use borrow.Author.Tests.{eq-eqb, ne_eqb, lt-ltb, le-ltb, ltb-true, ltb-false, not-true, not-false, leb-true}
+use borrow.Author.Tests.{lt-ltb, le-ltb, ltb-true, ltb-false, leb-true}
 use lib.Dec.{ltb, leb}
-use lib.ListN.{length, get_or, drop, drop_of_length-le}
+use lib.ListN.{length, get_or, get_or-eq_default, drop, drop_of_length-le}
 use lib.Seq.{drop-cons}
-use mir.Syntax.{w32, w64}
-use mir.Val.{Fits}
 use Rattle.refusal.specs.Choice.{pick}
 use Rattle.refusal.proofs.Tests.{both}
 use Rattle.json_text.specs.tokens.Bytes.{is_digit, inside}
 use Rattle.json_text.specs.tokens.Parts.{digits}
 use Rattle.json_text.proofs.tokens.Laws.{in_text, digit_zero, span-on, span_stop}
-use Rattle.json_text.proofs.tokens.Steps.{mark_room}
-use Rattle.card.specs.fields.Twos.{bits32}
-use Rattle.info.specs.declared.numbers.Number.{Number}
-use Rattle.info.specs.declared.numbers.Number.TheVariants.{Is, Wrong}
-use Rattle.info.specs.numbers.Numbers.{decimal_on, decimal_at, goes_on_of, in32, digits_from_of, whole_from, natural_at, negative, above_of, below_of, coordinate_at}
+use Rattle.std.specs.Prelude.{Option, Some, None}
+use Rattle.info.specs.numbers.Numbers.{decimal_on, decimal_at, goes_on_of, in32, digits_from_of}
 
 -- ---- digits
 
@@ -64,144 +58,64 @@ pub read-start : (s : List ℕ) (p : ℕ) → Reading s p 0 p
 unfolding decimal_at
 read-start s p = record { small = omega arith; number = refl; ending = refl }
 
-module _ {s : List ℕ} {p v i : ℕ} (k : Reading s p v i) {b : ℕ} (eb : b ≡ get_or s i 0) {t : Bool} (et : t ≡ is_digit b) where
-  here-is : is_digit (get_or s i 0) ≡ t
-  here-is = sym (et ∙ ap is_digit eb)
+either_none : (x : Bool) → ◌≡◌ {A = Option ℕ} (pick x None None) None
+either_none true = refl
+either_none false = refl
 
-  module _ (n : not t ≡ true) where
-    stop : is_digit (get_or s i 0) ≡ false
-    stop = here-is ∙ not-true t n
+module _ {s : List ℕ} {p v i : ℕ} (k : Reading s p v i) where
+  -- a byte that is no digit ends the number
+  module _ (stop : is_digit (get_or s i 0) ≡ false) where
+    byte_there : get_or s (digits s p) 0 ≡ get_or s i 0
+    byte_there = ap (λ (j : ℕ). get_or s j 0) (k.ending ∙ span_stop is_digit s i stop)
 
-    byte_there : get_or s (digits s p) 0 ≡ b
-    byte_there = ap (λ (j : ℕ). get_or s j 0) (k.ending ∙ span_stop is_digit s i stop) ∙ sym eb
+    stops : {g : Bool} → g ≡ goes_on_of (get_or s i 0) → pick g None (Some v) ≡ digits_from_of s p
+    unfolding digits_from_of in32
+    stops eg = rw (byte_there, ← eg, k.number ∙ decimal_stop s i v stop, lt-ltb v (2 ^ 32) k.small)
 
-    module _ {g : Bool} (eg : g ≡ goes_on_of b) where
-      pub read_goes : g ≡ true → Wrong ≡ digits_from_of s p
-      unfolding digits_from_of
-      read_goes e = rw (byte_there, sym eg ∙ e)
+  -- the text ends
+  pub read-past : length s ≤ i → Some v ≡ digits_from_of s p
+  unfolding is_digit inside goes_on_of
+  read-past h = let z : get_or s i 0 ≡ 0 = get_or-eq_default s 0 h in stops (rw z) {g = false} (rw z)
 
-      pub read-ends : g ≡ false → Is v ≡ digits_from_of s p
+  module _ {t : Bool} (et : t ≡ is_digit (get_or s i 0)) where
+    module _ (n : t ≡ false) {g : Bool} (eg : g ≡ goes_on_of (get_or s i 0)) where
+      ended : pick g None (Some v) ≡ digits_from_of s p
+      ended = stops (sym et ∙ n) eg
+
+      pub read_goes : g ≡ true → None ≡ digits_from_of s p
+      read_goes e = rw e at ended
+
+      pub read-ends : g ≡ false → Some v ≡ digits_from_of s p
+      read-ends e = rw e at ended
+
+    module _ (n : t ≡ true) where
+      on : is_digit (get_or s i 0) ≡ true
+      on = sym et ∙ n
+
+      pub is_digit_b : is_digit (get_or s i 0) ≡ true
+      is_digit_b = on
+
+      number-on : {w : ℕ} → w ≡ v * 10 + (get_or s i 0 - 48) → decimal_at s p ≡ decimal_on w (drop (i + 1) s)
+      number-on e = k.number ∙ decimal-on s i v on ∙ rw e
+
+      wide : 2 ^ 32 ≤ v * 10 + (get_or s i 0 - 48) → None ≡ digits_from_of s p
       unfolding digits_from_of in32
-      read-ends e = rw (byte_there, sym eg ∙ e, k.number ∙ decimal_stop s i v stop, lt-ltb v (2 ^ 32) k.small)
+      wide h =
+          let l : 2 ^ 32 ≤ decimal_at s p = rw (number-on refl) (let z = decimal-least (drop (i + 1) s) (v * 10 + (get_or s i 0 - 48)) in omega arith) in
+          sym (rw (le-ltb (decimal_at s p) (2 ^ 32) l) (either_none (goes_on_of (get_or s (digits s p) 0))))
 
-  module _ (n : not t ≡ false) where
-    on : is_digit (get_or s i 0) ≡ true
-    on = here-is ∙ not-false t n
+      pub product-wide : {r : Option ℕ} → r ≡ None → (v * 10 < 2 ^ 32 → ⊥) → r ≡ digits_from_of s p
+      product-wide e h = e ∙ wide (omega (arith, h))
 
-    pub is_digit_b : is_digit b ≡ true
-    is_digit_b = sym et ∙ not-false t n
+      module _ {m d : ℕ} (em : m ≡ v * 10) (ed : d ≡ get_or s i 0 - 48) where
+        pub sum-wide : {r : Option ℕ} → r ≡ None → (m + d < 2 ^ 32 → ⊥) → r ≡ digits_from_of s p
+        sum-wide e h = e ∙ wide (omega (arith, h, em, ed))
 
-    pub read-room : Fits w64 (length s) → Fits w64 (i + 1)
-    read-room f = omega (arith, digit_here s i on, f)
-
-    pub times-fits : Fits w64 (v * 10)
-    times-fits = omega (arith, k.small)
-
-    pub read_less : length s - (i + 1) < length s - i
-    read_less = omega (arith, digit_here s i on)
-
-    module _ {d : ℕ} (ed : d ≡ b - 48) (ld : d < 10) where
-      pub sum_fits : Fits w64 (v * 10 + d)
-      sum_fits = omega (arith, k.small)
-
-      number-on : decimal_at s p ≡ decimal_on (v * 10 + d) (drop (i + 1) s)
-      number-on = k.number ∙ decimal-on s i v on ∙ rw (ed, eb)
-
-      pub read_large : 4294967296 ≤ v * 10 + d → Wrong ≡ digits_from_of s p
-      unfolding digits_from_of in32
-      read_large h =
-          let l : 2 ^ 32 ≤ decimal_at s p = rw number-on (let z = decimal-least (drop (i + 1) s) (v * 10 + d) in omega arith) in
-          sym (rw (le-ltb (decimal_at s p) (2 ^ 32) l) (either_wrong (goes_on_of (get_or s (digits s p) 0))))
-        where
-          either_wrong : (x : Bool) → pick x Wrong Wrong ≡ Wrong
-          either_wrong true = refl
-          either_wrong false = refl
-
-      pub read-on : v * 10 + d < 4294967296 → Reading s p (v * 10 + d) (i + 1)
-      read-on h = record { small = omega arith; number = number-on; ending = k.ending ∙ span-on is_digit s i digit_zero on }
+        pub read-on : {w : ℕ} → w ≡ m + d → w < 2 ^ 32 → Reading s p w (i + 1)
+        read-on e h = record { small = h; number = number-on (omega (arith, e, em, ed)); ending = k.ending ∙ span-on is_digit s i digit_zero on }
 
 pub digit_sub : (b : ℕ) → is_digit b ≡ true → 48 ≤ b
 digit_sub b e = (digit_range b e).0
 
 pub digit_small : (b : ℕ) → is_digit b ≡ true → b - 48 < 10
 digit_small b e = let q = digit_range b e in omega (arith, q.0, q.1)
-
-pub small-fits : {s : List ℕ} {p v i : ℕ} → Reading s p v i → Fits w32 v
-small-fits k = omega (arith, k.small)
-
--- ---- whole numbers, by sign
-
-module _ (s : List ℕ) (p : ℕ) {b : ℕ} (eb : b ≡ get_or s p 0) where
-  module _ {t : Bool} (et : t ≡ is_digit b) where
-    pub whole-none : not t ≡ true → Wrong ≡ whole_from s p
-    unfolding whole_from
-    whole-none n = rw (← eb, ← et, not-true t n)
-
-    pub whole-some : {r : Number} → not t ≡ false → r ≡ digits_from_of s p → r ≡ whole_from s p
-    unfolding whole_from
-    whole-some n e = rw (← eb, ← et, not-false t n) e
-
-  module _ {r : Number} where
-    pub natural-plain : (b ≡ 0x2D → ⊥) → r ≡ whole_from s p → r ≡ natural_at s p
-    unfolding natural_at
-    natural-plain n e = rw (← eb, ne_eqb b 0x2D n) e
-
-    pub coordinate_plain : (b ≡ 0x2D → ⊥) → r ≡ above_of (whole_from s p) → r ≡ coordinate_at s p
-    unfolding coordinate_at
-    coordinate_plain n e = rw (← eb, ne_eqb b 0x2D n) e
-
-    pub coordinate_minus : b ≡ 0x2D → r ≡ below_of (whole_from s (p + 1)) → r ≡ coordinate_at s p
-    unfolding coordinate_at
-    coordinate_minus n e = rw (← eb, eq-eqb b 0x2D n) e
-
-  module _ (m : b ≡ 0x2D) {w : Number} (ew : w ≡ whole_from s (p + 1)) where
-    pub natural_wrong : w ≡ Wrong → Wrong ≡ natural_at s p
-    unfolding natural_at
-    natural_wrong e = rw (← eb, eq-eqb b 0x2D m, sym ew ∙ e)
-
-    pub natural-below : {n : ℕ} → w ≡ Is n → (n ≡ 0 → ⊥) → Wrong ≡ natural_at s p
-    unfolding natural_at
-    natural-below {n} e h = rw (← eb, eq-eqb b 0x2D m, sym ew ∙ e, ne_eqb n 0 h)
-
-    pub natural-zero : {n : ℕ} → w ≡ Is n → n ≡ 0 → Is 0 ≡ natural_at s p
-    unfolding natural_at
-    natural-zero {n} e h = rw (← eb, eq-eqb b 0x2D m, sym ew ∙ e, eq-eqb n 0 h)
-
-bits_of : (n : ℕ) → (n ≡ 0 → ⊥) → n ≤ 2 ^ 31 → 4294967295 - (n - 1) ≡ bits32 (negative n)
-unfolding bits32 negative
-bits_of zero h l = absurd (h refl)
-bits_of (suc n) h l = omega arith
-
-module _ (w : Number) {r : Number} (er : r ≡ w) where
-  pub above_wrong : r ≡ Wrong → Wrong ≡ above_of w
-  unfolding above_of
-  above_wrong e = rw (sym er ∙ e)
-
-  pub below_wrong : r ≡ Wrong → Wrong ≡ below_of w
-  unfolding below_of
-  below_wrong e = rw (sym er ∙ e)
-
-  module _ {n : ℕ} (e : r ≡ Is n) where
-    pub above-is : n < 2147483648 → Is n ≡ above_of w
-    unfolding above_of
-    above-is h = rw (sym er ∙ e, lt-ltb n (2 ^ 31) h)
-
-    pub above_large : 2147483648 ≤ n → Wrong ≡ above_of w
-    unfolding above_of
-    above_large h = rw (sym er ∙ e, le-ltb n (2 ^ 31) h)
-
-    pub below_large : 2147483648 < n → Wrong ≡ below_of w
-    unfolding below_of
-    below_large h = rw (sym er ∙ e, lt-ltb (2 ^ 31) n h)
-
-    pub below-zero : n ≤ 2147483648 → n ≡ 0 → Is 0 ≡ below_of w
-    unfolding below_of
-    below-zero h z = rw (sym er ∙ e, z) (unfold bits32 negative in refl)
-
-    pub below-is : n ≤ 2147483648 → (n ≡ 0 → ⊥) → Is (4294967295 - (n - 1)) ≡ below_of w
-    unfolding below_of
-    below-is h z = rw (sym er ∙ e, le-ltb (2 ^ 31) n h) (ap Is (bits_of n z h))
-
-pub ruleset numbering = (digit_sub, digit_small, mark_room, whole-none, whole-some, natural-plain, coordinate_plain, coordinate_minus, natural_wrong, natural-below, natural-zero, above_wrong, below_wrong, above-is, above_large, below_large, below-zero, below-is, rules)
-
-pub ruleset decimals = (read-start, read_goes, read-ends, is_digit_b, read-room, times-fits, read_less, sum_fits, read_large, read-on, small-fits, rules)

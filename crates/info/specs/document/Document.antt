@@ -1,5 +1,5 @@
 -- What a JSON text says, apart from how it is written: no white space, escapes undone, and a number as far as the settings use it.
-use Rattle.std.specs.Prelude.{ℕ, zero, suc, Bool, true, false, List, [], ◌∷◌}
+use Rattle.std.specs.Prelude.{ℕ, zero, suc, Bool, true, false, List, [], ◌∷◌, Option, None}
 use Rattle.refusal.specs.Choice.{pick}
 use Rattle.json_text.specs.tokens.Numbers.{FracPart, ExpPart, Numeral, int_value}
 use Rattle.json_text.specs.strings.Names.{eq_list}
@@ -7,8 +7,6 @@ use Rattle.json_text.specs.strings.Unescaped.{string_text}
 use Rattle.json_text.specs.Grammar.{deepest}
 use Rattle.json_text.specs.Rfc.{Items, Listed, Member, ValueOf, Value, JsonText}
 use Rattle.info.specs.numbers.Numbers.{in32}
-use Rattle.info.specs.declared.numbers.Number.{Number}
-use Rattle.info.specs.declared.numbers.Number.TheVariants.{Wrong}
 
 -- a member
 pub record Entry (D : Type 0) : Type 0 where
@@ -18,7 +16,7 @@ pub record Entry (D : Type 0) : Type 0 where
 -- a value, where D is what a value inside it is: true, false or null; a number, by its minus and its digits, or as none that settings can use: with a fraction, an exponent, or past 32 bits; a string's text; elements; members
 pub data DocumentOf (D : Type 0) : Type 0 where
   word : DocumentOf D
-  number : Bool → Number → DocumentOf D
+  number : Bool → Option ℕ → DocumentOf D
   string : List ℕ → DocumentOf D
   array : List D → DocumentOf D
   object : List (Entry D) → DocumentOf D
@@ -30,10 +28,10 @@ Document (suc d) = DocumentOf (Document d)
 -- ---- what a text says, by the rules of RFC 8259 that derive it
 
 -- a number written without fraction and exponent (RULES I6)
-unfoldable pub whole_by : {s : List ℕ} {j k e : ℕ} → FracPart s j k → ExpPart s k e → ℕ → Number
+unfoldable pub whole_by : {s : List ℕ} {j k e : ℕ} → FracPart s j k → ExpPart s k e → ℕ → Option ℕ
 whole_by (FracPart.none a) (ExpPart.none b) n = in32 n
-whole_by (FracPart.none a) (ExpPart.exp b r) n = Wrong
-whole_by (FracPart.frac a r) x n = Wrong
+whole_by (FracPart.none a) (ExpPart.exp b r) n = None
+whole_by (FracPart.frac a r) x n = None
 
 unfoldable pub numeral_says : {D : Type 0} {s : List ℕ} {i e : ℕ} → Numeral s i e → DocumentOf D
 numeral_says (Numeral.plain a n f x) = number false (whole_by f x (int_value n))

@@ -1,8 +1,8 @@
 -- Worked cases of the info file, as one table.
-use Rattle.std.specs.Prelude.{ℕ, zero, suc, List, [], ◌∷◌, ◌++◌, ℤ, pos, negsuc}
+use Rattle.std.specs.Prelude.{ℕ, zero, suc, List, [], ◌∷◌, ◌++◌, ℤ, pos, negsuc, Ok}
 use Rattle.sharding.specs.Specification.{volume}
-use Rattle.card.specs.declared.CardAnswer.{CardAnswer}
-use Rattle.card.specs.declared.CardAnswer.TheVariants.{Says, Refused}
+use Rattle.card.specs.declared.Card.{Card}
+use Rattle.refusal.specs.Answers.{Answer, refuse}
 use Rattle.info.specs.sharding_members.Words.{scales_name, size_name, chunks_name, offset_name, sharding_name, type_name, preshift_name, hash_name, minishard_bits_name, shard_bits_name, index_name, data_name, type_text, raw_text, identity_text}
 
 -- ---- writing JSON: strings, objects and arrays of what is given as text
@@ -74,15 +74,15 @@ abbrev pub plain : List ℕ
 plain = file (object (size_text d1 ∷ chunks ∷ sharding ∷ []) ∷ [])
 
 -- the record of size 1,1,1 and chunk size 1,1,1, of this preshift and hash, with this offset along x
-abbrev pub said_hashed : ℕ → ℕ → ℤ → CardAnswer
+abbrev pub said_hashed : ℕ → ℕ → ℤ → Answer Card
 said_hashed preshift hash x =
-    Says (record {
+    Ok (record {
       sharding = record { preshift = preshift; hash = hash; minishard_bits = 0; shard_bits = 0; kind = volume };
       volume = record { size = record { x = 1; y = 1; z = 1 }; chunk = record { x = 1; y = 1; z = 1 }; offset = record { x = x; y = pos 0; z = pos 0 } };
     })
 
 -- under the identity hash
-abbrev pub said : ℕ → ℤ → CardAnswer
+abbrev pub said : ℕ → ℤ → Answer Card
 said preshift x = said_hashed preshift 0 x
 
 -- all numbers different, so that none stands for another: size 7,11,13, chunk size 2,3,5, offset -1,2,-3, preshift 1, minishard bits 2, shard bits 3
@@ -96,9 +96,9 @@ different =
     ∷ []
     ) ∷ [])
 
-abbrev pub said_different : CardAnswer
+abbrev pub said_different : Answer Card
 said_different =
-    Says (record {
+    Ok (record {
       sharding = record { preshift = 1; hash = 0; minishard_bits = 2; shard_bits = 3; kind = volume };
       volume = record { size = record { x = 7; y = 11; z = 13 }; chunk = record { x = 2; y = 3; z = 5 }; offset = record { x = negsuc 0; y = pos 2; z = negsuc 2 } };
     })
@@ -108,9 +108,9 @@ said_different =
 pub record Case : Type 0 where
   pub text : List ℕ
   pub scale : ℕ
-  pub answer : CardAnswer
+  pub answer : Answer Card
 
-abbrev pub case : List ℕ → ℕ → CardAnswer → Case
+abbrev pub case : List ℕ → ℕ → Answer Card → Case
 case text scale answer = record { text = text; scale = scale; answer = answer }
 
 -- si\u007ae, which says size
@@ -141,46 +141,46 @@ cases =
     case plain 0 (said 0 (pos 0))
     ∷ case different 0 said_different
     -- there is no scale 1
-    ∷ case plain 1 (Refused 20)
+    ∷ case plain 1 (refuse 20)
     -- scale 1 is the second
     ∷ case (file (object (size_text d2 ∷ chunks ∷ sharding ∷ []) ∷ object (size_text d1 ∷ chunks ∷ sharding_text d1 identity_text [] ∷ []) ∷ [])) 1 (said 1 (pos 0))
     -- a byte behind the text
-    ∷ case (plain ++ d0) 0 (Refused 19)
+    ∷ case (plain ++ d0) 0 (refuse 19)
     -- strings compare unescaped
     ∷ case (file (object (pair escaped (array (d1 ∷ d1 ∷ d1 ∷ [])) ∷ chunks ∷ sharding ∷ []) ∷ [])) 0 (said 0 (pos 0))
     -- a used member twice
-    ∷ case (file (object (size_text d1 ∷ chunks ∷ size_text d1 ∷ sharding ∷ []) ∷ [])) 0 (Refused 20)
+    ∷ case (file (object (size_text d1 ∷ chunks ∷ size_text d1 ∷ sharding ∷ []) ∷ [])) 0 (refuse 20)
     -- 1.0 is no whole number
-    ∷ case (file (object (size_text (49 ∷ 46 ∷ 48 ∷ []) ∷ chunks ∷ sharding ∷ []) ∷ [])) 0 (Refused 20)
+    ∷ case (file (object (size_text (49 ∷ 46 ∷ 48 ∷ []) ∷ chunks ∷ sharding ∷ []) ∷ [])) 0 (refuse 20)
     -- an encoding other than raw, and raw
-    ∷ case (file (object (size_text d1 ∷ chunks ∷ sharding_text d0 identity_text (pair data_name (quoted gzip) ∷ []) ∷ []) ∷ [])) 0 (Refused 20)
+    ∷ case (file (object (size_text d1 ∷ chunks ∷ sharding_text d0 identity_text (pair data_name (quoted gzip) ∷ []) ∷ []) ∷ [])) 0 (refuse 20)
     ∷ case (file (object (size_text d1 ∷ chunks ∷ sharding_text d0 identity_text (pair data_name (quoted raw_text) ∷ []) ∷ []) ∷ [])) 0 (said 0 (pos 0))
     -- an unknown hash name
-    ∷ case (file (object (size_text d1 ∷ chunks ∷ sharding_text d0 raw_text [] ∷ []) ∷ [])) 0 (Refused 1)
+    ∷ case (file (object (size_text d1 ∷ chunks ∷ sharding_text d0 raw_text [] ∷ []) ∷ [])) 0 (refuse 1)
     -- a size of 0
-    ∷ case (file (object (size_text d0 ∷ chunks ∷ sharding ∷ []) ∷ [])) 0 (Refused 2)
+    ∷ case (file (object (size_text d0 ∷ chunks ∷ sharding ∷ []) ∷ [])) 0 (refuse 2)
     -- another order, a space, a member that is not used, an offset of -1,0,0
     ∷ case (32 ∷ file (object (sharding ∷ chunks ∷ pair gzip (nested 2 (object (pair size_name d0 ∷ []))) ∷ size_text d1 ∷ pair offset_name (array ((45 ∷ d1) ∷ d0 ∷ d0 ∷ [])) ∷ []) ∷ [])) 0 (said 0 (negsuc 0))
     -- a number at depth 32 is JSON, at depth 33 it is none
-    ∷ case (nested 31 d0) 0 (Refused 20)
-    ∷ case (nested 32 d0) 0 (Refused 19)
+    ∷ case (nested 31 d0) 0 (refuse 20)
+    ∷ case (nested 32 d0) 0 (refuse 19)
     -- all names and texts, spelt out
     ∷ case spelt 0 (said_hashed 1 1 (negsuc 0))
     -- a preshift of 64 fits its field and is 1, one of 256 does not and is 20
-    ∷ case (sharded (sharding_text (54 ∷ 52 ∷ []) identity_text [])) 0 (Refused 1)
-    ∷ case (sharded (sharding_text (50 ∷ 53 ∷ 54 ∷ []) identity_text [])) 0 (Refused 20)
+    ∷ case (sharded (sharding_text (54 ∷ 52 ∷ []) identity_text [])) 0 (refuse 1)
+    ∷ case (sharded (sharding_text (50 ∷ 53 ∷ 54 ∷ []) identity_text [])) 0 (refuse 20)
     -- a hash that is no string, another @type, none
-    ∷ case (sharded (sharding_by (pair type_name (quoted type_text) ∷ []) d0 d0 [])) 0 (Refused 20)
-    ∷ case (sharded (sharding_by (pair type_name (quoted raw_text) ∷ []) d0 (quoted identity_text) [])) 0 (Refused 20)
-    ∷ case (sharded (sharding_by [] d0 (quoted identity_text) [])) 0 (Refused 20)
+    ∷ case (sharded (sharding_by (pair type_name (quoted type_text) ∷ []) d0 d0 [])) 0 (refuse 20)
+    ∷ case (sharded (sharding_by (pair type_name (quoted raw_text) ∷ []) d0 (quoted identity_text) [])) 0 (refuse 20)
+    ∷ case (sharded (sharding_by [] d0 (quoted identity_text) [])) 0 (refuse 20)
     -- minishard indexes in another encoding than raw
-    ∷ case (sharded (sharding_text d0 identity_text (pair index_name (quoted gzip) ∷ []))) 0 (Refused 20)
+    ∷ case (sharded (sharding_text d0 identity_text (pair index_name (quoted gzip) ∷ []))) 0 (refuse 20)
     -- two chunk sizes
-    ∷ case (file (object (size_text d1 ∷ pair chunks_name (array (array (d1 ∷ d1 ∷ d1 ∷ []) ∷ array (d1 ∷ d1 ∷ d1 ∷ []) ∷ [])) ∷ sharding ∷ []) ∷ [])) 0 (Refused 20)
+    ∷ case (file (object (size_text d1 ∷ pair chunks_name (array (array (d1 ∷ d1 ∷ d1 ∷ []) ∷ array (d1 ∷ d1 ∷ d1 ∷ []) ∷ [])) ∷ sharding ∷ []) ∷ [])) 0 (refuse 20)
     -- offsets of -0, of -2^31, and of 2^31, which no field holds
     ∷ case (shifted (45 ∷ d0)) 0 (said 0 (pos 0))
     ∷ case (shifted (45 ∷ 50 ∷ 49 ∷ 52 ∷ 55 ∷ 52 ∷ 56 ∷ 51 ∷ 54 ∷ 52 ∷ 56 ∷ [])) 0 (said 0 (negsuc 2147483647))
-    ∷ case (shifted (50 ∷ 49 ∷ 52 ∷ 55 ∷ 52 ∷ 56 ∷ 51 ∷ 54 ∷ 52 ∷ 56 ∷ [])) 0 (Refused 20)
+    ∷ case (shifted (50 ∷ 49 ∷ 52 ∷ 55 ∷ 52 ∷ 56 ∷ 51 ∷ 54 ∷ 52 ∷ 56 ∷ [])) 0 (refuse 20)
     -- 4294967295 cells along each axis need 96 key bits
-    ∷ case (file (object (size_text (52 ∷ 50 ∷ 57 ∷ 52 ∷ 57 ∷ 54 ∷ 55 ∷ 50 ∷ 57 ∷ 53 ∷ []) ∷ chunks ∷ sharding ∷ []) ∷ [])) 0 (Refused 3)
+    ∷ case (file (object (size_text (52 ∷ 50 ∷ 57 ∷ 52 ∷ 57 ∷ 54 ∷ 55 ∷ 50 ∷ 57 ∷ 53 ∷ []) ∷ chunks ∷ sharding ∷ []) ∷ [])) 0 (refuse 3)
     ∷ []

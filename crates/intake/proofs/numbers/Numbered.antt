@@ -12,7 +12,7 @@ use Rattle.sharding.proofs.Allowed.{allowed-within}
 use Rattle.intake.specs.declared.state.Intake.{Intake}
 use Rattle.intake.proofs.call_tests.Passing.{unusable-parts}
 use Rattle.intake.proofs.admission.Passing.{hands}
-use Rattle.intake.specs.declared.IntakeAnswer.TheVariants.{Next}
+use Rattle.std.specs.Prelude.{Ok}
 use Rattle.intake.specs.steps.Steps.{taken}
 use Rattle.intake.specs.Calls.{part_answer}
 use Rattle.intake.specs.numbers.Numbers.{narrow, numbers_of, spec_of, state_of}
@@ -107,7 +107,7 @@ module _ (xs : List ℕ) where
     unfolding state_of
     changed p n = numbers-set n preshift-fits hash-fits minishards-fit shards-fit kind_fits (as_narrow (get_or xs 14 0) (omega (arith, p)))
 
-  pub part-numbers : length xs ≡ 15 → (d o w : List ℕ) {t : Intake} → part_answer (state_of xs) d o w ≡ Next t → set (set xs 12 t.next) 13 t.owed ≡ numbers_of t
+  pub part-numbers : length xs ≡ 15 → (d o w : List ℕ) {t : Intake} → part_answer (state_of xs) d o w ≡ Ok t → set (set xs 12 t.next) 13 t.owed ≡ numbers_of t
   part-numbers l d o w {t} q =
       let u = part-told (state_of xs) d o w q in
       let h = hands (state_of xs) (length d) (length o) w u.0 in

@@ -8,7 +8,6 @@ use lib.Dec.{ltb, eqb}
 use lib.ListN.{length}
 use mir.Val.{Fits}
 use mir.Syntax.{w64}
-use borrow.Author.Count.{falls}
 use borrow.Author.Rules.{rules}
 use borrow.Author.Tests.{eq-eqb, ne_eqb, eqb-true, eqb-false}
 use Rattle.endian.specs.Range.{sum_to, every}
@@ -72,9 +71,6 @@ module _ (s : Intake) (w : List ℕ) (q : sane s w ≡ true) where
       pub shares_plus : Fits w64 (16 * i + 8)
       shares_plus = record { fits = omega (arith, passed.held) }
 
-      pub shares-on : Fits w64 (i + 1)
-      shares-on = record { fits = omega (arith, passed.held) }
-
 module _ {s : Intake} {w : List ℕ} {i left : ℕ} (h : Shares s w i left) where
   pub shares-next : i < s.count → {r : Bool} → r ≡ follows s w i → not r ≡ false → {size : ℕ} → size ≡ size_held w i → size ≤ left → Shares s w (i + 1) (left - size)
   shares-next l p t e k = record {
@@ -116,11 +112,9 @@ pub ruleset sharing = (
   shares-size,
   shares-times,
   shares_plus,
-  shares-on,
   shares-next,
   shares_out_of_turn,
   shares_too_long,
   shares-done,
-  falls,
   rules,
 )

@@ -5,7 +5,6 @@ use mathlib.Core.List.{List, [], ◌∷◌, ◌++◌, append_assoc, append-nil}
 use native.Mathlib.Omega.{arith}
 use native.Mathlib.Numerals.{add-one}
 use native.Mathlib.Nat.{add-zero, sub-zero}
-use borrow.Author.Count.{falls}
 use borrow.Author.Rules.{rules}
 use lib.ListN.{length, replicate, replicate-append-replicate, length-append, length-replicate}
 use Rattle.endian.specs.Little.{le, row}
@@ -152,4 +151,4 @@ index-put w n p at o h l u₁ u₂ u₃ =
     let g = paste-then at (at + 8 * n) A B o u₁ u₂ (omega arith) (omega arith) in
     paste-then at (at + 16 * n) (A ++ B) C o g u₃ (omega arith) (omega arith) ∙ ap (λ (x : List ℕ). paste at x o) (append_assoc A B C)
 
-pub ruleset writing = (steps_first, steps_next, steps-last, sizes-first, sizes-next, sizes-last, starts-put, index-put, pair_put, falls, rules)
+pub ruleset writing = (steps_first, steps_next, steps-last, sizes-first, sizes-next, sizes-last, starts-put, index-put, pair_put, rules)

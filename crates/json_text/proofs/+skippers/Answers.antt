@@ -17,8 +17,8 @@ skip_array-loop-j-smaller t c = search (list_less, rules)
 pub skip_array-loop-j-preserved : goal.skip_array-loop-j-preserved
 skip_array-loop-j-preserved t c = search (list_on, rules)
 
-pub skip_array-returns-in-End : goal.skip_array-returns-in-End
-skip_array-returns-in-End t c = search (list-end, rules)
+pub skip_array-returns-in-Break : goal.skip_array-returns-in-Break
+skip_array-returns-in-Break t c = search (list-end, rules)
 
 -- ---- a member of an object
 
@@ -45,8 +45,8 @@ skip_object-loop-j-smaller t c = search (list_less, rules)
 pub skip_object-loop-j-preserved : goal.skip_object-loop-j-preserved
 skip_object-loop-j-preserved t c = search (list_on, rules)
 
-pub skip_object-returns-in-End : goal.skip_object-returns-in-End
-skip_object-returns-in-End t c = search (list-end, rules)
+pub skip_object-returns-in-Break : goal.skip_object-returns-in-Break
+skip_object-returns-in-Break t c = search (list-end, rules)
 
 -- ---- a value
 

@@ -7,8 +7,7 @@ use native.Mathlib.Omega.{arith}
 use lib.ListN.{length, get_or}
 use Rattle.json_text.specs.tokens.Bytes.{byte_at}
 use Rattle.json_text.specs.tokens.Parts.{ws, mark_at}
-use Rattle.json_text.specs.declared.tokens.Found.{Found}
-use Rattle.json_text.specs.declared.tokens.Found.TheVariants.{At, Nothing}
+use Rattle.std.specs.Prelude.{Option, Some, None}
 use Rattle.json_text.proofs.tokens.Laws.{then_at}
 use Rattle.json_text.proofs.strings.Characters.{string_complete}
 use Rattle.json_text.specs.Grammar.{deepest, end_of}
@@ -32,35 +31,35 @@ places (Listed.some w r) = item_places r
 unfoldable pub value_place : {s : List ℕ} {Inner : ℕ → ℕ → Type 0} {i e : ℕ} → Member s Inner i e → ℕ
 value_place (Member.member {m = m} t w b x v) = m
 
-none_from : (next : ℕ → Found) (s : List ℕ) → items_from next s Nothing ≡ []
+none_from : (next : ℕ → Option ℕ) (s : List ℕ) → items_from next s None ≡ []
 unfolding items_by
 none_from next s = refl
 
-module _ (s : List ℕ) (Item : ℕ → ℕ → Type 0) (opening close : ℕ) (cl : Closes close) (next : ℕ → Found) (on : (i : ℕ) → Onward (length s) i (next i))
+module _ (s : List ℕ) (Item : ℕ → ℕ → Type 0) (opening close : ℕ) (cl : Closes close) (next : ℕ → Option ℕ) (on : (i : ℕ) → Onward (length s) i (next i))
     (first : (i e : ℕ) → Item i e → opens (byte_at s i) ≡ true) (step : (i j : ℕ) → Item i j → next i ≡ mark_at 0x2C s j) where
   items_open : (i e : ℕ) → Items s Item close i e → opens (byte_at s i) ≡ true
   items_open i e (Items.last {j = j} v w b) = first i j v
   items_open i e (Items.next {j = j} v w b x r) = first i j v
 
-  items_own : (i e : ℕ) → i ≤ length s → (r : Items s Item close i e) → items_from next s (At i) ≡ item_places r
+  items_own : (i e : ℕ) → i ≤ length s → (r : Items s Item close i e) → items_from next s (Some i) ≡ item_places r
   unfolding item_places
   items_own i e h (Items.last {j = j} {k = k} v w b) = items_last next s on h (step i j v ∙ mark_other 0x2C s j k close cl.solid cl.apart w b)
   items_own i e h (Items.next {j = j} {k = k} {m = m} v w b x r) =
-      let n : next i ≡ At m = step i j v ∙ mark_complete 0x2C s j k m comma_solid w b x (items_open m e r) in
-      let o : Onward (length s) i (At m) = rw n at (on i) in
+      let n : next i ≡ Some m = step i j v ∙ mark_complete 0x2C s j k m comma_solid w b x (items_open m e r) in
+      let o : Onward (length s) i (Some m) = rw n at (on i) in
       items_cons next s on i h ∙ ap (λ (l : List ℕ). i ∷ l) (ap (items_from next s) n ∙ items_own m e o.1 r)
 
   listed-own : (p e : ℕ) → 0 < opening → byte_at s p ≡ opening → (r : Listed s Item close (p + 1) e) → items_from next s (first_in opening close s p) ≡ places r
   unfolding places
   listed-own p e h q (Listed.empty {k = k} w b) =
       let z : ws s (p + 1) ≡ k = ws-max s (p + 1) k (no-ws _ _ b cl.solid) w in
-      let g : first_in opening close s p ≡ Nothing = sym (first-empty opening close s p refl q (sym z) refl b) in
+      let g : first_in opening close s p ≡ None = sym (first-empty opening close s p refl q (sym z) refl b) in
       ap (items_from next s) g ∙ none_from next s
   listed-own p e h q (Listed.some {k = k} w r) =
       let a = items_open k e r in
       let z : ws s (p + 1) ≡ k = ws-max s (p + 1) k (opens-ws _ a) w in
-      let g : first_in opening close s p ≡ At k = sym (first_some opening close s p refl q (sym z) refl (opens_not (get_or s k 0) close cl.shut a)) in
-      let o : Onward (length s) p (At k) = rw g at (first_onward opening close s p h) in
+      let g : first_in opening close s p ≡ Some k = sym (first_some opening close s p refl q (sym z) refl (opens_not (get_or s k 0) close cl.shut a)) in
+      let o : Onward (length s) p (Some k) = rw g at (first_onward opening close s p h) in
       ap (items_from next s) g ∙ items_own k e o.1 r
 
 -- the elements of an array

@@ -7,26 +7,25 @@ use native.Mathlib.Omega.{arith}
 use lib.ListN.{length, get_or}
 use Rattle.refusal.proofs.Tests.{both}
 use Rattle.json_text.specs.tokens.Bytes.{choose, same, under, byte_at}
-use Rattle.json_text.specs.declared.tokens.Found.{Found}
-use Rattle.json_text.specs.declared.tokens.Found.TheVariants.{At, Nothing}
+use Rattle.std.specs.Prelude.{Option, Some, None}
 use Rattle.json_text.proofs.tokens.Laws.{if_yes, if_no, if-eq, if_ne, if-case, nowhere, is_same, not_same, to_same, at_byte}
 use Rattle.json_text.specs.characters.Chars.{is_hex, is_short, escape_len, utf8_at, char_len}
 use Rattle.json_text.specs.strings.Chars.{chars_at, string_at, Char, Chars, String}
 use Rattle.json_text.specs.strings.Chars.Chars.{none, more}
 use Rattle.json_text.proofs.characters.Laws.{not-under, to-not-under, char_here}
 
-pub chars_end : (s : List ℕ) (n i : ℕ) → length s < n + i → get_or s i 0 ≡ 0x22 → chars_at s n i ≡ At (i + 1)
+pub chars_end : (s : List ℕ) (n i : ℕ) → length s < n + i → get_or s i 0 ≡ 0x22 → chars_at s n i ≡ Some (i + 1)
 unfolding chars_at
 chars_end s zero i h e = absurd (omega (arith, at_byte s i 0x22 (omega arith) e))
 chars_end s (suc n) i h e = if-eq _ _ _ _ e
 
-pub chars_bad : (s : List ℕ) (n i : ℕ) → (get_or s i 0 ≡ 0x22 → ⊥) → char_len s i ≡ 0 → chars_at s n i ≡ Nothing
+pub chars_bad : (s : List ℕ) (n i : ℕ) → (get_or s i 0 ≡ 0x22 → ⊥) → char_len s i ≡ 0 → chars_at s n i ≡ None
 unfolding chars_at
 chars_bad s zero i e z = refl
 chars_bad s (suc n) i e z = if_ne _ _ _ _ e ∙ if-eq _ _ _ _ z
 
 -- the answer a is that of n more characters from i on, so behind a character of k bytes it is that of fewer
-pub chars_on : (s : List ℕ) (n i k : ℕ) (a : Found) → length s < n + i → a ≡ chars_at s n i → k ≡ char_len s i → (get_or s i 0 ≡ 0x22 → ⊥) → (k ≡ 0 → ⊥)
+pub chars_on : (s : List ℕ) (n i k : ℕ) (a : Option ℕ) → length s < n + i → a ≡ chars_at s n i → k ≡ char_len s i → (get_or s i 0 ≡ 0x22 → ⊥) → (k ≡ 0 → ⊥)
     → (m : ℕ) × (length s < m + (i + k)) × (a ≡ chars_at s m (i + k))
 unfolding chars_at
 chars_on s zero i k a h e q t z = absurd (omega (arith, char_here s i k q z))
@@ -85,7 +84,7 @@ char_sound s i n q z =
 
 -- ---- sound: what is found is derived
 
-chars_sound : (s : List ℕ) (n i e : ℕ) → chars_at s n i ≡ At e → (j : ℕ) × (Chars s i j) × (byte_at s j ≡ 0x22) × (e ≡ j + 1)
+chars_sound : (s : List ℕ) (n i e : ℕ) → chars_at s n i ≡ Some e → (j : ℕ) × (Chars s i j) × (byte_at s j ≡ 0x22) × (e ≡ j + 1)
 unfolding chars_at
 chars_sound s zero i e q = nowhere _ e q
 chars_sound s (suc n) i e q =
@@ -94,7 +93,7 @@ chars_sound s (suc n) i e q =
     (λ t p. if-case _ _ _ _ _ p (λ u w. nowhere _ e w)
     (λ u w. let r = chars_sound s n (i + char_len s i) e w in (r.0, more (char_sound s i (char_len s i) refl (not_same _ _ u)) r.1, r.2, r.3)))
 
-pub string-sound : (s : List ℕ) (i e : ℕ) → string_at s i ≡ At e → String s i e
+pub string-sound : (s : List ℕ) (i e : ℕ) → string_at s i ≡ Some e → String s i e
 unfolding string_at
 string-sound s i e q =
     if-case _ _ _ _ _ q
@@ -112,14 +111,14 @@ quote_none s i q = go (under (byte_at s i) 0x20) refl
     go true u = if_yes _ _ _ u
     go false u = if_no _ _ _ u ∙ if-eq _ _ _ _ q
 
-chars_complete : (s : List ℕ) (n i j : ℕ) → length s < n + i → byte_at s j ≡ 0x22 → Chars s i j → chars_at s n i ≡ At (j + 1)
+chars_complete : (s : List ℕ) (n i j : ℕ) → length s < n + i → byte_at s j ≡ 0x22 → Chars s i j → chars_at s n i ≡ Some (j + 1)
 chars_complete s n i j h b none = chars_end s n i h b
 chars_complete s n i j h b (more {j = k} c r) =
     let z = char_found s i k c in
     let x = chars_on s n i (char_len s i) (chars_at s n i) h refl refl (λ y. z.0 (quote_none s i y)) z.0 in
     x.2 ∙ rw z.1 (chars_complete s x.0 k j (rw z.1 at x.1) b r)
 
-pub string_complete : (s : List ℕ) (i e : ℕ) → String s i e → string_at s i ≡ At e
+pub string_complete : (s : List ℕ) (i e : ℕ) → String s i e → string_at s i ≡ Some e
 unfolding string_at
 string_complete s i e (String.string {j = j} a r b) = if-eq _ _ _ _ a ∙ chars_complete s (length s) (i + 1) j (omega arith) b r
 

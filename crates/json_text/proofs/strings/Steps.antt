@@ -1,22 +1,22 @@
 -- What the functions of this module need: each way out as a case of its definition. b, n, t, r are what was read or what calls gave.
 use Prim.Native.Nat.{ℕ, zero, suc, ◌+◌, ◌-◌, ◌*◌, ◌^◌, ◌<◌, ◌≤◌}
-use mathlib.Core.Path.{◌≡◌, refl, sym, ap, ◌∙◌}
+use mathlib.Core.Path.{◌≡◌, refl, sym, ◌∙◌}
 use mathlib.Core.List.{List, [], ◌∷◌}
 use mathlib.Core.Bool.{Bool, true, false, not, ◌&&◌}
 use native.Mathlib.Omega.{arith}
-use borrow.Author.Tests.{eqb-true, eqb-false, ltb-true, ltb-false, leb-true, not-true, not-false}
+use borrow.Author.Tests.{eqb-true, eqb-false, eq-eqb, ne_eqb, ltb-true, leb-true, not-true}
 use lib.ListN.{length, get_or, drop}
 use lib.Dec.{ltb, leb, eqb}
 use mir.Syntax.{w64}
 use mir.Val.{Fits}
 use Rattle.refusal.proofs.Tests.{both}
 use Rattle.json_text.specs.tokens.Bytes.{inside, is_digit, span}
-use Rattle.json_text.specs.declared.tokens.Found.TheVariants.{At, Nothing}
-use Rattle.json_text.proofs.tokens.Laws.{if_yes, if_no, if-eq, if_ne, in_text, span-on, span_stop, le-span}
-use Rattle.json_text.proofs.characters.Steps.{if-lt, if_ge, plain-zero, plain-low, plain_mark, plain_slash, plain-one}
+use Rattle.std.specs.Prelude.{Some, None}
+use Rattle.json_text.proofs.tokens.Laws.{if-eq, if_ne, in_text, span-on, span_stop, le-span}
+use Rattle.json_text.proofs.characters.Steps.{if-lt, plain-zero, plain-low, plain_mark, plain_slash, plain-one}
 use Rattle.json_text.specs.characters.Chars.{is_plain, char_len}
 use Rattle.json_text.specs.strings.Chars.{chars_at, string_at}
-use Rattle.json_text.specs.strings.Names.{hex_value, unit_of, unit_at, short_byte, unescaped, eq_list, ascii, ascii_of, ascii_at, differs, agrees}
+use Rattle.json_text.specs.strings.Names.{unescaped, eq_list, ascii, ascii_of, ascii_at, differs}
 use Rattle.json_text.proofs.characters.Laws.{char_here, char_le}
 use Rattle.json_text.proofs.strings.Characters.{chars_end, chars_bad, chars_on}
 use Rattle.json_text.proofs.strings.Naming.{name-end, name-no, name-long, name-on}
@@ -28,7 +28,7 @@ pub record Passing (s : List ℕ) (at i : ℕ) : Type 0 where
   pub enough : length s < fuel + i
   pub left : string_at s at ≡ chars_at s fuel i
 
-pub pass_none : (s : List ℕ) (at : ℕ) {b : ℕ} → b ≡ get_or s at 0 → (b ≡ 34 → ⊥) → Nothing ≡ string_at s at
+pub pass_none : (s : List ℕ) (at : ℕ) {b : ℕ} → b ≡ get_or s at 0 → (b ≡ 34 → ⊥) → None ≡ string_at s at
 unfolding string_at
 pass_none s at eb n = sym (if_ne _ _ _ _ (λ q. n (eb ∙ q)))
 
@@ -55,11 +55,11 @@ module _ {s : List ℕ} {at i : ℕ} (k : Passing s at i) {e : ℕ} (ee : e ≡ 
   there : Passing s at e
   there = rw ee (pass_plain s at (length s) i (omega arith) k)
 
-  pub pass_end : b ≡ 34 → At (e + 1) ≡ string_at s at
+  pub pass_end : b ≡ 34 → Some (e + 1) ≡ string_at s at
   pass_end t = sym (there.left ∙ chars_end s there.fuel e there.enough (sym eb ∙ t))
 
   module _ (n : b ≡ 34 → ⊥) {c : ℕ} (ec : c ≡ char_len s e) where
-    pub pass_bad : c ≡ 0 → Nothing ≡ string_at s at
+    pub pass_bad : c ≡ 0 → None ≡ string_at s at
     pass_bad z = sym (there.left ∙ chars_bad s there.fuel e (λ q. n (eb ∙ q)) (sym ec ∙ z))
 
     module _ (z : c ≡ 0 → ⊥) where
@@ -76,9 +76,6 @@ module _ (s : List ℕ) (i : ℕ) {c : ℕ} (ec : c ≡ char_len s i) (z : c ≡
   pub char_room : length s * 1 < 2 ^ 63 → Fits w64 (i + c)
   char_room h = omega (arith, char_here s i c ec z, char_le s i)
 
-  pub char_less : length s - (i + c) < length s - i
-  char_less = omega (arith, char_here s i c ec z, z)
-
 -- ---- what a character stands for
 
 module _ (b : ℕ) {t : Bool} (et : t ≡ is_digit b) where
@@ -87,81 +84,8 @@ module _ (b : ℕ) {t : Bool} (et : t ≡ is_digit b) where
     unfolding is_digit inside
     digit_least = leb-true 0x30 b (both (leb 0x30 b) (leb b 0x39) (sym et ∙ e)).0
 
-    pub hex_digit : b - 48 ≡ hex_value b
-    unfolding hex_value
-    hex_digit = sym (if_yes _ _ _ (sym et ∙ e))
-
-  module _ (e : t ≡ false) where
-    pub hex_upper : (leb 65 b && leb b 70) ≡ true → b - 55 ≡ hex_value b
-    unfolding hex_value inside
-    hex_upper u = sym (if_no _ _ _ (sym et ∙ e) ∙ if_yes _ _ _ u)
-
-    module _ (u : (leb 65 b && leb b 70) ≡ false) where
-      pub hex_lower : b - 87 ≡ hex_value b
-      unfolding hex_value inside
-      hex_lower = sym (if_no _ _ _ (sym et ∙ e) ∙ if_no _ _ _ u)
-
-      pub hex_low : b < 87 → 0 ≡ hex_value b
-      hex_low h = let z : 0 ≡ b - 87 = omega arith in z ∙ hex_lower
-
 pub upper-least : (b : ℕ) → (leb 65 b && leb b 70) ≡ true → 55 ≤ b
 upper-least b u = omega (arith, leb-true 65 b (both (leb 65 b) (leb b 70) u).0)
-
-module _ (b : ℕ) where
-  pub short_8 : b ≡ 98 → 8 ≡ short_byte b
-  unfolding short_byte
-  short_8 e = sym (if-eq _ _ _ _ e)
-
-  module _ (n : b ≡ 98 → ⊥) where
-    pub short_12 : b ≡ 102 → 12 ≡ short_byte b
-    unfolding short_byte
-    short_12 e = sym (if_ne _ _ _ _ n ∙ if-eq _ _ _ _ e)
-
-    module _ (m : b ≡ 102 → ⊥) where
-      pub short_10 : b ≡ 110 → 10 ≡ short_byte b
-      unfolding short_byte
-      short_10 e = sym (if_ne _ _ _ _ n ∙ if_ne _ _ _ _ m ∙ if-eq _ _ _ _ e)
-
-      module _ (l : b ≡ 110 → ⊥) where
-        pub short_13 : b ≡ 114 → 13 ≡ short_byte b
-        unfolding short_byte
-        short_13 e = sym (if_ne _ _ _ _ n ∙ if_ne _ _ _ _ m ∙ if_ne _ _ _ _ l ∙ if-eq _ _ _ _ e)
-
-        module _ (k : b ≡ 114 → ⊥) where
-          pub short_9 : b ≡ 116 → 9 ≡ short_byte b
-          unfolding short_byte
-          short_9 e = sym (if_ne _ _ _ _ n ∙ if_ne _ _ _ _ m ∙ if_ne _ _ _ _ l ∙ if_ne _ _ _ _ k ∙ if-eq _ _ _ _ e)
-
-          pub short_self : (b ≡ 116 → ⊥) → b ≡ short_byte b
-          unfolding short_byte
-          short_self e = sym (if_ne _ _ _ _ n ∙ if_ne _ _ _ _ m ∙ if_ne _ _ _ _ l ∙ if_ne _ _ _ _ k ∙ if_ne _ _ _ _ e)
-
-pub ascii-low : (u : ℕ) → u < 128 → u ≡ ascii_of u
-unfolding ascii_of
-ascii-low u h = sym (if-lt _ _ _ _ h)
-
-pub ascii-high : (u : ℕ) → 128 ≤ u → 128 ≡ ascii_of u
-unfolding ascii_of
-ascii-high u h = sym (if_ge _ _ _ _ h)
-
-pub unit-read : (s : List ℕ) (i : ℕ) {a b c d r : ℕ} → r ≡ unit_of a b c d → a ≡ get_or s i 0 → b ≡ get_or s (i + 1) 0 → c ≡ get_or s (i + 2) 0 → d ≡ get_or s (i + 3) 0 → r ≡ unit_at s i
-unfolding unit_at
-unit-read s i er ea eb ec ed = er ∙ rw (ea, eb, ec, ed)
-
-module _ (s : List ℕ) (i : ℕ) {b : ℕ} (eb : b ≡ get_or s i 0) {r w : ℕ} where
-  pub ascii-plain : (b ≡ 92 → ⊥) → r ≡ ascii_of w → w ≡ b → r ≡ ascii_at s i
-  unfolding ascii_at
-  ascii-plain n er ew = er ∙ ap ascii_of (ew ∙ eb) ∙ sym (if_ne _ _ _ _ (λ q. n (eb ∙ q)))
-
-  module _ (e : b ≡ 92) {c : ℕ} (ec : c ≡ get_or s (i + 1) 0) where
-    pub ascii-unit : c ≡ 117 → r ≡ ascii_of w → w ≡ unit_at s (i + 2) → r ≡ ascii_at s i
-    unfolding ascii_at
-    ascii-unit t er ew = er ∙ ap ascii_of ew ∙ sym (if-eq _ _ _ _ (sym eb ∙ e) ∙ if-eq _ _ _ _ (sym ec ∙ t))
-
-    pub ascii-short : {x : ℕ} → (c ≡ 117 → ⊥) → r ≡ ascii_of w → w ≡ x → x ≡ short_byte c → r ≡ ascii_at s i
-    unfolding ascii_at
-    ascii-short n er ew ex =
-        er ∙ ap ascii_of (ew ∙ ex ∙ ap short_byte ec) ∙ sym (if-eq _ _ _ _ (sym eb ∙ e) ∙ if_ne _ _ _ _ (λ q. n (ec ∙ q)))
 
 -- ---- the characters from `at` on agree with the name up to i and k
 
@@ -179,42 +103,30 @@ pub record Agreeing (s name : List ℕ) (at i k : ℕ) : Type 0 where
 pub agree_start : (s name : List ℕ) (at : ℕ) → Agreeing s name at at 0
 agree_start s name at = record { fuel = length s + 1; enough = omega arith; part = omega arith; left = refl }
 
-pub agrees-is : (s : List ℕ) (i : ℕ) (name : List ℕ) (k : ℕ) {a b : ℕ} → a ≡ ascii_at s i → b ≡ get_or name k 0 → (ltb k (length name) && eqb a b) ≡ agrees s i name k
-unfolding agrees
-agrees-is s i name k ea eb = rw (ea, eb)
-
 module _ {s name : List ℕ} {at i k : ℕ} (g : Agreeing s name at i k) {c : ℕ} (ec : c ≡ char_len s i) where
-  pub agree_end : c ≡ 0 → eqb k (length name) ≡ eq_list (unescaped s (length s + 1) at) name
-  agree_end z = sym (g.left ∙ name-end s name g.fuel i k g.part (sym ec ∙ z))
+  no_end : (c ≡ 0 → ⊥) → char_len s i ≡ 0 → ⊥
+  no_end z q = z (ec ∙ q)
 
-  module _ (z : c ≡ 0 → ⊥) (small : ascii name ≡ true) {t : Bool} (et : t ≡ agrees s i name k) where
-    no_end : char_len s i ≡ 0 → ⊥
-    no_end q = z (ec ∙ q)
+  -- the string ends within the name
+  pub agree_short : c ≡ 0 → k < length name → false ≡ eq_list (unescaped s (length s + 1) at) name
+  agree_short z h = sym (g.left ∙ name-end s name g.fuel i k g.part (sym ec ∙ z) ∙ ne_eqb k (length name) (omega arith))
 
-    pub agree_no : not t ≡ true → false ≡ eq_list (unescaped s (length s + 1) at) name
-    unfolding agrees
-    agree_no e = sym (g.left ∙ go (ltb k (length name)) (eqb (ascii_at s i) (get_or name k 0)) refl refl (sym et ∙ not-true t e))
-      where
-        go : (x y : Bool) → ltb k (length name) ≡ x → eqb (ascii_at s i) (get_or name k 0) ≡ y → (x && y) ≡ false → eq_list (unescaped s g.fuel i) (drop k name) ≡ false
-        go false y p q r = name-long s name g.fuel i k g.enough no_end (ltb-false k (length name) p)
-        go true true p q r = let w : ◌≡◌ {A = ℕ} 0 1 = cc in absurd (omega arith)
-        go true false p q r = name-no s name g.fuel i k g.enough no_end (ascii-below name small) (eqb-false (ascii_at s i) (get_or name k 0) q)
+  -- the name has ended
+  pub agree_end : length name ≤ k → eqb c 0 ≡ eq_list (unescaped s (length s + 1) at) name
+  agree_end h = go (eqb c 0) refl
+    where
+      go : (t : Bool) → eqb c 0 ≡ t → t ≡ eq_list (unescaped s (length s + 1) at) name
+      go true e = sym (g.left ∙ name-end s name g.fuel i k g.part (sym ec ∙ eqb-true c 0 e) ∙ eq-eqb k (length name) (omega (arith, g.part)))
+      go false e = sym (g.left ∙ name-long s name g.fuel i k g.enough (no_end (eqb-false c 0 e)) h)
 
-    module _ (e : not t ≡ false) where
-      parts : (ltb k (length name) ≡ true) × (eqb (ascii_at s i) (get_or name k 0) ≡ true)
-      unfolding agrees
-      parts = both (ltb k (length name)) (eqb (ascii_at s i) (get_or name k 0)) (sym et ∙ not-false t e)
+  module _ (z : c ≡ 0 → ⊥) (small : ascii name ≡ true) {a : ℕ} (ea : a ≡ ascii_at s i) where
+    pub agree_no : (a ≡ get_or name k 0 → ⊥) → false ≡ eq_list (unescaped s (length s + 1) at) name
+    agree_no n = sym (g.left ∙ name-no s name g.fuel i k g.enough (no_end z) (ascii-below name small) (λ q. n (ea ∙ q)))
 
-      short : k < length name
-      short = ltb-true k (length name) parts.0
-
-      pub agree_room : Fits w64 (length name) → Fits w64 (k + 1)
-      agree_room f = omega (arith, short, f)
-
-      pub agree_on : Agreeing s name at (i + c) (k + 1)
-      agree_on =
-          let x = name-on s name g.fuel i k c (eq_list (unescaped s (length s + 1) at) name) g.enough g.left ec z short (ascii-below name small) (eqb-true (ascii_at s i) (get_or name k 0) parts.1) in
-          record { fuel = x.0; enough = x.1; part = omega (arith, short); left = x.2 }
+    pub agree_on : k < length name → a ≡ get_or name k 0 → Agreeing s name at (i + c) (k + 1)
+    agree_on h e =
+        let x = name-on s name g.fuel i k c (eq_list (unescaped s (length s + 1) at) name) g.enough g.left ec z h (ascii-below name small) (sym ea ∙ e) in
+        record { fuel = x.0; enough = x.1; part = omega (arith, h); left = x.2 }
 
 -- ---- the first byte
 
@@ -222,10 +134,6 @@ module _ (s : List ℕ) (i : ℕ) (e : is_plain (get_or s i 0) ≡ true) where
   pub plain-itself : ascii_at s i ≡ get_or s i 0
   unfolding ascii_at ascii_of
   plain-itself = if_ne _ _ _ _ (plain_slash s i e) ∙ if-lt _ _ _ _ (omega (arith, (plain-low s i e).1))
-
-pub differs-is : (s : List ℕ) (i : ℕ) (name : List ℕ) {a b : ℕ} {t : Bool} → b ≡ get_or s i 0 → a ≡ get_or name 0 0 → t ≡ is_plain b → (t && not (eqb b a)) ≡ differs s i name
-unfolding differs
-differs-is s i name eb ea et = rw (et, ea, eb)
 
 pub name-differs : (s : List ℕ) (i : ℕ) (name : List ℕ) {t : Bool} → ascii name ≡ true → t ≡ differs s i name → t ≡ true → false ≡ eq_list (unescaped s (length s + 1) i) name
 unfolding differs

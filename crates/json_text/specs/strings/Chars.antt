@@ -1,20 +1,18 @@
 -- Strings as RFC 8259 writes them (section 7).
-use Rattle.std.specs.Prelude.{ℕ, zero, suc, ◌+◌, ◌≤◌, ◌≡◌, true, List, length}
+use Rattle.std.specs.Prelude.{ℕ, zero, suc, ◌+◌, ◌≤◌, ◌≡◌, true, List, length, Option, Some, None}
 use Rattle.json_text.specs.tokens.Bytes.{choose, byte_at, same}
-use Rattle.json_text.specs.declared.tokens.Found.{Found}
-use Rattle.json_text.specs.declared.tokens.Found.TheVariants.{At, Nothing}
 use Rattle.json_text.specs.characters.Chars.{is_hex, is_short, utf8_at, char_len}
 
 -- *char quotation-mark, of at most n characters
-unfoldable pub chars_at : List ℕ → ℕ → ℕ → Found
-chars_at s zero i = Nothing
+unfoldable pub chars_at : List ℕ → ℕ → ℕ → Option ℕ
+chars_at s zero i = None
 chars_at s (suc n) i =
-    choose (same (byte_at s i) 0x22) (At (i + 1))
-    (choose (same (char_len s i) 0) Nothing (chars_at s n (i + char_len s i)))
+    choose (same (byte_at s i) 0x22) (Some (i + 1))
+    (choose (same (char_len s i) 0) None (chars_at s n (i + char_len s i)))
 
 -- string = quotation-mark *char quotation-mark. A text of n bytes has at most n characters
-unfoldable pub string_at : List ℕ → ℕ → Found
-string_at s i = choose (same (byte_at s i) 0x22) (chars_at s (length s) (i + 1)) Nothing
+unfoldable pub string_at : List ℕ → ℕ → Option ℕ
+string_at s i = choose (same (byte_at s i) 0x22) (chars_at s (length s) (i + 1)) None
 
 -- ---- the same by the rules: the bytes from i up to e are ..
 

@@ -87,7 +87,3 @@ ascii_at s i =
 -- the first byte tells that the text from i on is not the name
 unfoldable pub differs : List ℕ → ℕ → List ℕ → Bool
 differs s i name = is_plain (byte_at s i) && not (eqb (byte_at s i) (get_or name 0 0))
-
--- the name goes on at k with the byte that the character at i stands for
-unfoldable pub agrees : List ℕ → ℕ → List ℕ → ℕ → Bool
-agrees s i name k = ltb k (length name) && eqb (ascii_at s i) (get_or name k 0)

@@ -1,21 +1,19 @@
 -- Numbers as RFC 8259 writes them (section 6).
-use Rattle.std.specs.Prelude.{ℕ, ◌+◌, ◌-◌, ◌*◌, ◌≡◌, List, Bool, true, false, ◌||◌}
+use Rattle.std.specs.Prelude.{ℕ, ◌+◌, ◌-◌, ◌*◌, ◌≡◌, List, Bool, true, false, ◌||◌, Option, Some, None}
 use Rattle.json_text.specs.tokens.Bytes.{choose, byte_at, same, is_digit}
 use Rattle.json_text.specs.tokens.Parts.{and_then, digits}
-use Rattle.json_text.specs.declared.tokens.Found.{Found}
-use Rattle.json_text.specs.declared.tokens.Found.TheVariants.{At, Nothing}
 
 -- 1*DIGIT
-unfoldable pub some_digits : List ℕ → ℕ → Found
-some_digits s i = choose (is_digit (byte_at s i)) (At (digits s i)) Nothing
+unfoldable pub some_digits : List ℕ → ℕ → Option ℕ
+some_digits s i = choose (is_digit (byte_at s i)) (Some (digits s i)) None
 
 -- int = zero / ( digit1-9 *DIGIT )
-unfoldable pub int_at : List ℕ → ℕ → Found
-int_at s i = choose (same (byte_at s i) 0x30) (At (i + 1)) (some_digits s i)
+unfoldable pub int_at : List ℕ → ℕ → Option ℕ
+int_at s i = choose (same (byte_at s i) 0x30) (Some (i + 1)) (some_digits s i)
 
 -- [ frac ], frac = decimal-point 1*DIGIT
-unfoldable pub frac_at : List ℕ → ℕ → Found
-frac_at s i = choose (same (byte_at s i) 0x2E) (some_digits s (i + 1)) (At i)
+unfoldable pub frac_at : List ℕ → ℕ → Option ℕ
+frac_at s i = choose (same (byte_at s i) 0x2E) (some_digits s (i + 1)) (Some i)
 
 -- minus / plus
 unfoldable pub is_sign : ℕ → Bool
@@ -30,15 +28,15 @@ unfoldable pub sign_at : List ℕ → ℕ → ℕ
 sign_at s i = choose (is_sign (byte_at s i)) (i + 1) i
 
 -- [ exp ], exp = e [ minus / plus ] 1*DIGIT
-unfoldable pub exp_at : List ℕ → ℕ → Found
-exp_at s i = choose (is_e (byte_at s i)) (some_digits s (sign_at s (i + 1))) (At i)
+unfoldable pub exp_at : List ℕ → ℕ → Option ℕ
+exp_at s i = choose (is_e (byte_at s i)) (some_digits s (sign_at s (i + 1))) (Some i)
 
 -- int [ frac ] [ exp ]
-unfoldable pub unsigned_at : List ℕ → ℕ → Found
+unfoldable pub unsigned_at : List ℕ → ℕ → Option ℕ
 unsigned_at s i = and_then (int_at s i) (λ j. and_then (frac_at s j) (λ k. exp_at s k))
 
 -- number = [ minus ] int [ frac ] [ exp ]
-unfoldable pub number_at : List ℕ → ℕ → Found
+unfoldable pub number_at : List ℕ → ℕ → Option ℕ
 number_at s i = choose (same (byte_at s i) 0x2D) (unsigned_at s (i + 1)) (unsigned_at s i)
 
 -- ---- the same by the rules: the bytes from i up to e are .., read as far as it goes

@@ -15,8 +15,8 @@ use Rattle.endian.specs.Little.{le_at}
 use Rattle.endian.proofs.Little.{le_at-drop, le_at-take}
 use Rattle.morton.specs.declared.grid.Cell.{Cell}
 use Rattle.card.specs.declared.Card.{Card}
-use Rattle.card.specs.declared.CardAnswer.{CardAnswer}
-use Rattle.card.specs.declared.CardAnswer.TheVariants.{Says, Refused}
+use Rattle.std.specs.Prelude.{Ok, Err}
+use Rattle.refusal.specs.Answers.{Answer, refuse}
 use Rattle.card.specs.Answers.{read_answer}
 use Rattle.card.proofs.Meaning.{never_14}
 use Rattle.locate.specs.lines.Lines.{line_of}
@@ -82,7 +82,7 @@ blocks_join c a b k e = text_join a b (line_of c) k e
 -- ---- the card's length first
 
 -- bytes that a card can't have as many of
-no-card : (t : List ℕ) → is_card_length (length t) ≡ false → read_answer t ≡ Refused 14
+no-card : (t : List ℕ) → is_card_length (length t) ≡ false → read_answer t ≡ refuse 14
 unfolding is_card_length
 no-card t e =
     let n = length t in
@@ -91,20 +91,20 @@ no-card t e =
     let c = neither (eqb n 50) (eqb n 65) b.1 in
     never_14 t (eqb-false n 46 a.0) (eqb-false n 61 b.0) (eqb-false n 50 c.0) (eqb-false n 65 c.1)
 
-framed_by : (b : Bool) (t : List ℕ) → (b ≡ true → is_card_length (length t) ≡ false) → pick b (read_answer t) (Refused 14) ≡ Refused 14
+framed_by : (b : Bool) (t : List ℕ) → (b ≡ true → is_card_length (length t) ≡ false) → pick b (read_answer t) (refuse 14) ≡ refuse 14
 framed_by true t f = no-card t (f refl)
 framed_by false t f = refl
 
-framed-never : (n : ℕ) (t : List ℕ) → is_card_length n ≡ false → framed n t ≡ Refused 14
+framed-never : (n : ℕ) (t : List ℕ) → is_card_length n ≡ false → framed n t ≡ refuse 14
 unfolding framed
 framed-never n t f = framed_by (eqb (length t) n) t (λ e. ap is_card_length (eqb-true (length t) n e) ∙ f)
 
-framed-empty : (n : ℕ) → framed n [] ≡ Refused 14
+framed-empty : (n : ℕ) → framed n [] ≡ refuse 14
 unfolding framed is_card_length
 framed-empty n = framed_by (eqb 0 n) [] (λ e. refl)
 
 -- a refused card prints one line, whatever follows
-printed_14 : {r : CardAnswer} → r ≡ Refused 14 → (s t : List ℕ) → printed r s ≡ printed (Refused 14) t
+printed_14 : {r : Answer Card} → r ≡ refuse 14 → (s t : List ℕ) → printed r s ≡ printed (refuse 14) t
 unfolding printed
 printed_14 e s t = rw e
 
@@ -117,8 +117,8 @@ module _ (s : List ℕ) where
   short h =
       let d : drop 2 s ≡ [] = drop_of_length-le s {i = 2} (omega arith) in
       let n = le_at 2 s 0 in
-      let p : framed n (take n (drop 2 s)) ≡ Refused 14 = rw (d, take-nil n) (framed-empty n) in
-      let q : framed 0 (take 0 (drop 2 s)) ≡ Refused 14 = framed-empty 0 in
+      let p : framed n (take n (drop 2 s)) ≡ refuse 14 = rw (d, take-nil n) (framed-empty n) in
+      let q : framed 0 (take 0 (drop 2 s)) ≡ refuse 14 = framed-empty 0 in
       printed_14 p (drop (2 + n) s) s ∙ sym (printed_14 q (drop 2 s) s)
 
   long : (b : Bool) → is_card_length (le_at 2 s 0) ≡ b → output s ≡ read_by (pick b (le_at 2 s 0) 0)
@@ -159,10 +159,10 @@ module _ (c : Card) where
       (blocks_text n (drop block_bytes s) (rw length-drop (omega arith)))
       ∙ sym (blocks_join c (take block_bytes s) (drop block_bytes s) 1000 l) ∙ ap (cells_text c) (split s)
 
-printed-blocks : (r : CardAnswer) (s : List ℕ) → printed_blocks r (blocks_of s) ≡ printed r s
+printed-blocks : (r : Answer Card) (s : List ℕ) → printed_blocks r (blocks_of s) ≡ printed r s
 unfolding printed_blocks printed blocks_of
-printed-blocks (Says c) s = blocks_text c (length s / block_bytes) s (omega arith)
-printed-blocks (Refused n) s = refl
+printed-blocks (Ok c) s = blocks_text c (length s / block_bytes) s (omega arith)
+printed-blocks (Err n) s = refl
 
 blocks_whole : (n : ℕ) (s : List ℕ) → flat_map (λ b. b) (cut_into n s) ≡ s
 unfolding flat_map cut_into

@@ -7,10 +7,7 @@ use native.Mathlib.Omega.{arith}
 use borrow.Author.Rules.{rules}
 use borrow.Author.Tests.{eqb-true, lt-ltb, le-ltb, eq-eqb, ne_eqb}
 use lib.Dec.{eqb}
-use lib.IntN.{ℤ, pos, negsuc}
 use lib.ListN.{length, length-append}
-use mir.Syntax.{w64}
-use mir.Val.{SFits, of_z}
 use Rattle.refusal.specs.Choice.{pick}
 use Rattle.refusal.proofs.Tests.{told-no, told-yes}
 use Rattle.endian.specs.Little.{le, le_at}
@@ -21,22 +18,21 @@ use Rattle.morton.specs.Key.{key_bits_of, key_of}
 use Rattle.morton.specs.grid.Answers.{no_cell}
 use Rattle.morton.specs.declared.grid.Cell.{Cell}
 use Rattle.morton.specs.declared.grid.Extents.{Extents}
-use Rattle.morton.specs.declared.KeyAnswer.TheVariants.{Key, Refused as KeyRefused}
+use Rattle.std.specs.Prelude.{Ok}
+use Rattle.refusal.specs.Answers.{Answer, refuse}
 use Rattle.morton.proofs.Answered.{key_by_picks}
 use Rattle.morton.proofs.Laws.{few_bits}
 use Rattle.sharding.specs.placement.Place.{place_of}
 use Rattle.sharding.specs.Specification.{allowed}
 use Rattle.sharding.specs.declared.Sharding.{Sharding}
 use Rattle.card.specs.declared.Card.{Card}
-use Rattle.card.specs.declared.CardAnswer.{CardAnswer}
-use Rattle.card.specs.declared.CardAnswer.TheVariants.{Refused}
 use Rattle.card.specs.Answers.{fault, read_answer}
 use Rattle.card.proofs.Judged.{faultless}
 use Rattle.locate.specs.lines.Lines.{refused_line, keyed, line_for, line_of, line_in, line_room}
 use Rattle.locate.specs.lines.Cells.{cell_at, lines_by}
 use Rattle.locate.specs.text.Output.{cut_line, cut_after, text_by, cells_text, framed}
 use Rattle.locate.specs.text.Blocks.{is_card_length, card_length}
-use Rattle.locate.specs.text.Ends.{is_none, told_bytes}
+use Rattle.locate.specs.text.Ends.{told_bytes}
 
 -- ---- a card's length, and a card of that length
 pub is-length : (n : ℕ) → (eqb n 46 || (eqb n 61 || (eqb n 50 || eqb n 65))) ≡ is_card_length n
@@ -69,22 +65,17 @@ module _ (s : List ℕ) where
       unfolding card_length
       length_none t = rw (le-ltb (length s) 2 h, ← e, told-no eb t)
 
-  pub framed_14 : {n : ℕ} → (length s ≡ n → ⊥) → Refused 14 ≡ framed n s
+  pub framed_14 : {n : ℕ} → (length s ≡ n → ⊥) → refuse 14 ≡ framed n s
   unfolding framed
   framed_14 {n} f = rw (ne_eqb (length s) n f)
 
-  pub framed-read : {n : ℕ} → length s ≡ n → {r : CardAnswer} → r ≡ read_answer s → r ≡ framed n s
+  pub framed-read : {n : ℕ} → length s ≡ n → {r : Answer Card} → r ≡ read_answer s → r ≡ framed n s
   unfolding framed
   framed-read {n} e p = rw (eq-eqb (length s) n e) p
 
 pub ruleset framing = (is-length, length-short, length-said, length_most, length_none, framed_14, framed-read, rules)
 
--- ---- the end of the input
-pub none_is : (z : ℤ) → SFits w64 z → eqb (of_z w64 z) 0 ≡ is_none z
-unfolding is_none
-none_is (pos n) f = refl
-none_is (negsuc n) f = ne_eqb (18446744073709551616 - suc n) 0 (λ e. omega (arith, f.sfits))
-
+-- ---- an input that could not be read on
 module _ (got : ℕ) {r : Bool} where
   pub told-all : r ≡ true → got ≡ told_bytes got r
   unfolding told_bytes
@@ -94,7 +85,7 @@ module _ (got : ℕ) {r : Bool} where
   unfolding told_bytes
   told-whole e = rw e
 
-pub ruleset ending = (none_is, told-all, told-whole, rules)
+pub ruleset ending = (told-all, told-whole, rules)
 
 -- ---- the cut
 pub cut-put : (at : ℕ) (d : List ℕ) {e : List ℕ} → e ≡ paste at (le 4 0x0a747563) d → e ≡ paste at cut_line d
@@ -136,7 +127,7 @@ pub ruleset cutting = (cut-put, whole_length_lem, cut-length, whole-most, cut_mo
 
 -- ---- as the definitions over a card say, of one that was judged
 picked_line : (spec : Sharding) (k : ℕ) (b : Bool)
-    → pick b (keyed spec k (place_of spec k)) (refused_line 2) ≡ line_for spec (pick (not b) (KeyRefused 2) (Key k))
+    → pick b (keyed spec k (place_of spec k)) (refused_line 2) ≡ line_for spec (pick (not b) (refuse 2) (Ok k))
 unfolding line_for
 picked_line spec k true = refl
 picked_line spec k false = refl

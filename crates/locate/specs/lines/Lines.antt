@@ -1,13 +1,13 @@
 -- The line that `locate` prints for a cell (RULES C7).
-use Rattle.std.specs.Prelude.{ℕ, List, [], ◌∷◌, ◌++◌}
+use Rattle.std.specs.Prelude.{ℕ, List, [], ◌∷◌, ◌++◌, Ok, Err}
 use Rattle.refusal.specs.Choice.{pick}
 use Rattle.morton.specs.Answers.{key_answer}
 use Rattle.morton.specs.grid.Grid.{in_grid}
 use Rattle.morton.specs.Key.{key_of}
 use Rattle.morton.specs.declared.grid.Cell.{Cell}
 use Rattle.morton.specs.declared.grid.Extents.{Extents}
-use Rattle.morton.specs.declared.KeyAnswer.{KeyAnswer}
-use Rattle.morton.specs.declared.KeyAnswer.TheVariants.{Key, Refused as KeyRefused}
+use Rattle.refusal.specs.Answers.{Answer}
+use Rattle.refusal.specs.Table.{number_of}
 use Rattle.names.specs.digits.Digits.{decimal}
 use Rattle.names.specs.Shards.{shard_name}
 use Rattle.sharding.specs.placement.Place.{place_of}
@@ -34,9 +34,9 @@ unfoldable pub keyed : Sharding → ℕ → Place → List ℕ
 keyed spec key p = decimal key ++ (32 ∷ filed spec p)
 
 -- "or `refused N`"
-unfoldable pub line_for : Sharding → KeyAnswer → List ℕ
-line_for spec (Key key) = keyed spec key (place_of spec key)
-line_for spec (KeyRefused n) = refused_line n
+unfoldable pub line_for : Sharding → Answer ℕ → List ℕ
+line_for spec (Ok key) = keyed spec key (place_of spec key)
+line_for spec (Err n) = refused_line (number_of n)
 
 unfoldable pub line_of : Card → Cell → List ℕ
 line_of card cell = line_for card.sharding (key_answer card.volume cell)

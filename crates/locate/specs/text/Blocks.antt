@@ -1,10 +1,11 @@
 -- The same, part by part as the program reads it: the card's length, the card, then blocks of cells.
-use Rattle.std.specs.Prelude.{ℕ, zero, suc, ◌+◌, ◌/◌, ◌<◌, ◌≡◌, Bool, ◌||◌, ltb, eqb, length, take, drop}
+use Rattle.std.specs.Prelude.{ℕ, zero, suc, ◌+◌, ◌/◌, ◌<◌, ◌≡◌, Bool, ◌||◌, ltb, eqb, length, take, drop, Ok, Err}
 use mathlib.Core.List.{List, [], ◌∷◌, flat_map}
+use Rattle.card.specs.declared.Card.{Card}
 use Rattle.refusal.specs.Choice.{pick}
 use Rattle.endian.specs.Little.{le_at}
-use Rattle.card.specs.declared.CardAnswer.{CardAnswer}
-use Rattle.card.specs.declared.CardAnswer.TheVariants.{Says, Refused}
+use Rattle.refusal.specs.Answers.{Answer}
+use Rattle.refusal.specs.Table.{number_of}
 use Rattle.locate.specs.lines.Lines.{refused_line}
 use Rattle.locate.specs.text.Output.{cells_text, framed, output}
 
@@ -36,9 +37,9 @@ LastIsShort (b ∷ []) = length b < block_bytes
 LastIsShort (b ∷ (c ∷ bs)) = (length b ≡ block_bytes) × LastIsShort (c ∷ bs)
 
 -- the blocks' texts one after the other, or the line of the card's refusal
-unfoldable pub printed_blocks : CardAnswer → List (List ℕ) → List ℕ
-printed_blocks (Says card) blocks = flat_map (cells_text card) blocks
-printed_blocks (Refused n) blocks = refused_line n
+unfoldable pub printed_blocks : Answer Card → List (List ℕ) → List ℕ
+printed_blocks (Ok card) blocks = flat_map (cells_text card) blocks
+printed_blocks (Err n) blocks = refused_line (number_of n)
 
 -- the input cut into the card's length, the card and blocks, and what is printed for these
 unfoldable pub printed_parts : List ℕ → List ℕ

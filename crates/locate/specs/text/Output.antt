@@ -1,11 +1,11 @@
 -- What the program `locate` prints for its whole input (RULES C7).
-use Rattle.std.specs.Prelude.{ℕ, ◌+◌, ◌/◌, ◌%◌, List, [], ◌∷◌, ◌++◌, eqb, length, take, drop}
+use Rattle.std.specs.Prelude.{ℕ, ◌+◌, ◌/◌, ◌%◌, List, [], ◌∷◌, ◌++◌, eqb, length, take, drop, Ok, Err}
 use Rattle.refusal.specs.Choice.{pick}
 use Rattle.endian.specs.Little.{le_at}
 use Rattle.morton.specs.declared.grid.Cell.{Cell}
 use Rattle.card.specs.declared.Card.{Card}
-use Rattle.card.specs.declared.CardAnswer.{CardAnswer}
-use Rattle.card.specs.declared.CardAnswer.TheVariants.{Says, Refused}
+use Rattle.refusal.specs.Answers.{Answer, refuse}
+use Rattle.refusal.specs.Table.{number_of}
 use Rattle.card.specs.Answers.{read_answer}
 use Rattle.locate.specs.lines.Lines.{refused_line, line_of}
 use Rattle.locate.specs.lines.Cells.{lines_by}
@@ -26,13 +26,13 @@ unfoldable pub cells_text : Card → List ℕ → List ℕ
 cells_text card s = text_by (line_of card) s
 
 -- the card of n bytes, n as the input gives it: "a card [..] cut short counts as 14"
-unfoldable pub framed : ℕ → List ℕ → CardAnswer
-framed n s = pick (eqb (length s) n) (read_answer s) (Refused 14)
+unfoldable pub framed : ℕ → List ℕ → Answer Card
+framed n s = pick (eqb (length s) n) (read_answer s) (refuse 14)
 
 -- "A refused card prints one such line and ends"
-unfoldable pub printed : CardAnswer → List ℕ → List ℕ
-printed (Says card) rest = cells_text card rest
-printed (Refused n) rest = refused_line n
+unfoldable pub printed : Answer Card → List ℕ → List ℕ
+printed (Ok card) rest = cells_text card rest
+printed (Err n) rest = refused_line (number_of n)
 
 -- what the program prints for its whole input: "a two-byte little-endian card length, the card, then cells"; where the
 -- length is cut short, no byte of a card is left (RULES C7)

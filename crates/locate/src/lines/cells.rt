@@ -39,11 +39,9 @@ fn put_planned(
     ensures value { (result ≡ length (lines_by (line_in spec plan.grid) n cells.now 0)) × (result ≤ line_room * n) }
     ensures out_after { out.new ≡ paste 0 (lines_by (line_in spec plan.grid) n cells.now 0) out.old }
 {
-    let mut i: usize = 0;
     let mut at: usize = 0;
-    while i < n {
+    for i in 0..n {
         at = line::put_line(out, at, spec, plan, table, cell_at(cells, 12 * i));
-        i += 1;
     }
     at
 }

@@ -1,11 +1,12 @@
-// What stands before the cells: a card's length and the card; and the end of the input.
+// What stands before the cells: a card's length and the card; and what is told where a read failed.
 
 ghost use Rattle.std.specs.Prelude.{◌≡◌, ◌≤◌};
 ghost use Rattle.locate.specs.text.Output.{framed};
 ghost use Rattle.locate.specs.text.Blocks.{is_card_length, card_length};
-ghost use Rattle.locate.specs.text.Ends.{is_none, told_bytes};
+ghost use Rattle.locate.specs.text.Ends.{told_bytes};
 
-use card::CardAnswer;
+use card::Card;
+use refusal::Refusal;
 
 // A card of a volume can have 46 or 61 bytes, of a mesh 50 or 65.
 fn is_card_length(n: u16) -> bool
@@ -29,23 +30,16 @@ pub fn card_length(head: &[u8]) -> usize
 }
 
 // What a card of n bytes says: 14 where it is cut short.
-pub fn framed_card(n: usize, bytes: &[u8]) -> CardAnswer
+pub fn framed_card(n: usize, bytes: &[u8]) -> Result<Card, Refusal>
     ensures { result ≡ framed n bytes.now }
 {
     if bytes.len() != n {
-        return CardAnswer::Refused(14);
+        return Err(Refusal::CardMalformed);
     }
     card::read_card(bytes)
 }
 
-// ---- where the input ends
-
-// Whether a read answered that no byte is left. A failed one answers -1.
-pub fn is_none(answer: isize) -> bool
-    ensures { result ≡ is_none answer }
-{
-    answer == 0
-}
+// ---- where a read failed
 
 // How many bytes of a block are told: all that came, or whole cells alone where a read failed.
 pub fn told_bytes(got: usize, readable: bool) -> usize

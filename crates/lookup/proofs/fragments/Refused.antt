@@ -22,4 +22,4 @@ module _ (spec : Sharding) (shard : ℕ) (file : List ℕ) (id level node : ℕ)
 
   pub fragment_decided : DecidedBy (fragment_checks spec shard file id level node) (lookup_result (fragment_answer spec shard file id level node))
   unfolding fragment_answer fragment_before
-  fragment_decided = decided_at lookup_result Refused (λ k. refl) Faulty (λ k p. (refl, refl, refl)) (fragment_checks spec shard file id level node) _ refl all_in_fragment
+  fragment_decided = decided_at lookup_result Refused (λ k t. refl) Faulty (λ k p. (refl, refl, refl)) (fragment_checks spec shard file id level node) _ refl all_in_fragment

@@ -33,7 +33,7 @@ module _ (spec : Sharding) (shard : ℕ) (file : List ℕ) (m : ℕ) where
 
   pub count_decided : DecidedBy (count_checks spec shard file m) (count_result (count_answer spec shard file m))
   unfolding count_answer
-  count_decided = decided_at count_result Refused (λ k. refl) Faulty (λ k p. (refl, refl, refl)) (count_checks spec shard file m) _ refl count-in
+  count_decided = decided_at count_result Refused (λ k t. refl) Faulty (λ k p. (refl, refl, refl)) (count_checks spec shard file m) _ refl count-in
 
   module _ (out : List ℕ) where
     -- the refusals of the count, then 13
@@ -63,7 +63,7 @@ module _ (spec : Sharding) (shard : ℕ) (file : List ℕ) (m : ℕ) where
 
     pub listing_decided : DecidedBy (listing_checks spec shard file m out) (count_result (listing_answer spec shard file m out))
     unfolding listing_answer
-    listing_decided = decided_at count_result Refused (λ k. refl) Faulty (λ k p. (refl, refl, refl)) (listing_checks spec shard file m out) _ refl listing-in
+    listing_decided = decided_at count_result Refused (λ k t. refl) Faulty (λ k p. (refl, refl, refl)) (listing_checks spec shard file m out) _ refl listing-in
 
     pub listing-kept : (k : ℕ) (p : Option ℕ) → listing_answer spec shard file m out ≡ refusal Refused Faulty k p → listing_left spec shard file m out ≡ out
     unfolding listing_answer listing_left

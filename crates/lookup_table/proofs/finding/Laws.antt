@@ -1,5 +1,5 @@
 -- The search: each law has the shape of a need.
-use Rattle.std.proofs.Common.{◌≡◌, ℕ, ◌+◌, ◌-◌, ◌*◌, ◌/◌, ◌<◌, ◌≤◌, Bool, true, false, not, ltb, ◌⊎◌, List, [], ◌∷◌, length, get_or, sym, refl, inl, inr, arith, w64, Fits, rules, ltb-false, ltb-true, le-ltb, lt-ltb, eq-eqb, ne_eqb}
+use Rattle.std.proofs.Common.{◌≡◌, ℕ, ◌+◌, ◌-◌, ◌*◌, ◌/◌, ◌<◌, ◌≤◌, Bool, true, false, not, ltb, ◌⊎◌, min, List, [], ◌∷◌, length, get_or, sym, refl, inl, inr, arith, w64, Fits, rules, ltb-false, ltb-true, le-ltb, lt-ltb, eq-eqb, ne_eqb}
 use Rattle.refusal.specs.Choice.{pick}
 use Rattle.refusal.specs.Checks.{check}
 use Rattle.refusal.proofs.Picks.{by_picks}
@@ -13,32 +13,17 @@ use Rattle.lookup_table.specs.finding.Halving.{Between}
 
 -- ---- how many are searched
 
-module _ (t : List ℕ) (n : ℕ) where
-  pub all-searched : length t / 3 < n → length t / 3 ≡ searched t n
-  unfolding searched
-  all-searched l = rw (lt-ltb (length t / 3) n l)
+pub counted : (t : List ℕ) (n : ℕ) {r : ℕ} → r ≡ min n (length t / 3) → (r ≡ searched t n) × (3 * r ≤ length t)
+unfolding searched
+counted t n {r} e = (go (below (length t / 3) n), omega arith)
+  where
+    go : (length t / 3 < n) ⊎ (n ≤ length t / 3) → r ≡ pick (ltb (length t / 3) n) (length t / 3) n
+    go (inl l) = rw (lt-ltb (length t / 3) n l) (omega arith)
+    go (inr l) = rw (le-ltb (length t / 3) n l) (omega arith)
 
-  pub all-within : 3 * (length t / 3) ≤ length t
-  all-within = omega arith
-
-  pub n_searched : n ≤ length t / 3 → n ≡ searched t n
-  unfolding searched
-  n_searched l = rw (le-ltb (length t / 3) n l)
-
-  pub n_within : n ≤ length t / 3 → 3 * n ≤ length t
-  n_within l = omega arith
-
-pub ruleset counting = (all-searched, all-within, n_searched, n_within, rules)
-
--- ---- the step
-
-pub goes : (t : List ℕ) (i half id : ℕ) → get_or t (3 * i) 0 < id → half ≡ pick (ltb (id_in t i) id) half 0
-goes t i half id l = rw (lt-ltb (id_in t i) id l)
-
-pub stays : (t : List ℕ) (i half id : ℕ) → id ≤ get_or t (3 * i) 0 → 0 ≡ pick (ltb (id_in t i) id) half 0
-stays t i half id l = rw (le-ltb (id_in t i) id l)
-
-pub ruleset stepping = (goes, stays, rules)
+pub n_searched : (t : List ℕ) (n : ℕ) → n ≤ length t / 3 → n ≡ searched t n
+unfolding searched
+n_searched t n l = rw (le-ltb (length t / 3) n l)
 
 -- ---- the halving
 

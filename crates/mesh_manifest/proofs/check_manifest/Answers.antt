@@ -1,12 +1,6 @@
--- The check, by what the judge gave.
+-- The check is the judge's answer.
 use Rattle.mesh_manifest.proofs.Asked.{asked}
 use Rattle.mesh_manifest.proofs.check_manifest.Goals as goal
-
-pub judge-verdict-requires : goal.judge-verdict-requires
-judge-verdict-requires c = search asked
-
-pub returns-then-verdict-ne0 : goal.returns-then-verdict-ne0
-returns-then-verdict-ne0 c = search asked
 
 pub returns : goal.returns
 returns c = search asked

@@ -24,8 +24,10 @@ use Rattle.mesh_manifest.specs.reals.Reals.{finite, near_of, far_of}
 use Rattle.mesh_manifest.specs.corners.Boxes.{placed, finite_corner, near_corner, far_corner, box_of, box_checks, box_answer, corners_checks, corners_answer}
 use Rattle.mesh_manifest.specs.declared.corners.Corner.{Corner}
 use Rattle.mesh_manifest.specs.declared.corners.Corners.{Corners}
-use Rattle.mesh_manifest.specs.declared.corners.CornersAnswer.{CornersAnswer}
-use Rattle.mesh_manifest.specs.declared.corners.CornersAnswer.TheVariants as C
+use Rattle.std.specs.Prelude.{Ok, Err}
+use Rattle.refusal.specs.Answers.{Answer, refuse}
+use Rattle.refusal.specs.declared.Refusal.{Refusal}
+use Rattle.refusal.specs.Answers.{judged}
 use Rattle.mesh_manifest.proofs.reals.Computed.{finite_number}
 
 module _ (n : Node) where
@@ -90,91 +92,91 @@ unfolding far_corner
 far-made h l c p q r = λ i. record { x = p i; y = q i; z = r i }
 
 module _ (h : Header) (l : ℕ) (n : Node) {p : Bool} (e : p ≡ placed n) where
-  abbrev given : CornersAnswer
-  given = C.Corners (box_of h l n)
+  abbrev given : Answer Corners
+  given = Ok (box_of h l n)
 
-  pub box_placed : not p ≡ true → C.Refused 18 ≡ box_answer h l n
+  pub box_placed : not p ≡ true → refuse 18 ≡ box_answer h l n
   unfolding box_answer box_checks
-  box_placed t = fails C.Refused given 17 (not (placed n)) _ (ap not (told-no e t))
+  box_placed t = fails refuse given 17 (not (placed n)) _ (ap not (told-no e t))
 
   module _ (k : not p ≡ false) {x : Corner} (f : x ≡ near_corner h l n) {q : Bool} (g : q ≡ finite_corner x) where
     abbrev near : Bool
     near = not (finite_corner (near_corner h l n))
 
-    pub box_near : not q ≡ true → C.Refused 18 ≡ box_answer h l n
+    pub box_near : not q ≡ true → refuse 18 ≡ box_answer h l n
     unfolding box_answer box_checks
     box_near t =
         let m : finite_corner (near_corner h l n) ≡ false = sym (ap finite_corner f) ∙ told-no g t in
-        fails C.Refused given 17 near _ (ap not m) ∙ passes C.Refused given 18 (not (placed n)) _ (ap not (told-yes e k))
+        fails refuse given 17 near _ (ap not m) ∙ passes refuse given 18 (not (placed n)) _ (ap not (told-yes e k))
 
     module _ (u : not q ≡ false) {y : Corner} (i : y ≡ far_corner h l x) {r : Bool} (j : r ≡ finite_corner y) where
       abbrev far : Bool
       far = not (finite_corner (far_corner h l (near_corner h l n)))
 
-      before : answered C.Refused (check 18 far ∷ []) given ≡ box_answer h l n
+      before : answered refuse (check 18 far ∷ []) given ≡ box_answer h l n
       unfolding box_answer box_checks
       before =
           let m : finite_corner (near_corner h l n) ≡ true = sym (ap finite_corner f) ∙ told-yes g u in
-          passes C.Refused given 18 near _ (ap not m) ∙ passes C.Refused given 18 (not (placed n)) _ (ap not (told-yes e k))
+          passes refuse given 18 near _ (ap not m) ∙ passes refuse given 18 (not (placed n)) _ (ap not (told-yes e k))
 
-      pub box_far : not r ≡ true → C.Refused 18 ≡ box_answer h l n
+      pub box_far : not r ≡ true → refuse 18 ≡ box_answer h l n
       box_far t =
           let w : finite_corner (far_corner h l (near_corner h l n)) ≡ false = cc (told-no j t) in
-          fails C.Refused given 17 far [] (ap not w) ∙ before
+          fails refuse given 17 far [] (ap not w) ∙ before
 
-      pub box_given : not r ≡ false → C.Corners (record { near = x; far = y }) ≡ box_answer h l n
+      pub box_given : not r ≡ false → Ok (record { near = x; far = y }) ≡ box_answer h l n
       unfolding box_of
       box_given t =
           let w : finite_corner (far_corner h l (near_corner h l n)) ≡ true = cc (told-yes j t) in
-          let b : C.Corners (record { near = x; far = y }) ≡ C.Corners (record { near = near_corner h l n; far = far_corner h l (near_corner h l n) }) = cc in
-          b ∙ passed C.Refused given ∙ passes C.Refused given 18 far [] (ap not w) ∙ before
+          let b : Ok (record { near = x; far = y }) ≡ Ok (record { near = near_corner h l n; far = far_corner h l (near_corner h l n) }) = cc in
+          b ∙ passed refuse given ∙ passes refuse given 18 far [] (ap not w) ∙ before
 
 node_in_table : (s : List ℕ) (l i : ℕ) → AllIn (node_checks s l i)
 unfolding node_checks
 node_in_table s l i = all_in_both (manifest_checks s) (check 18 (not (has_node s l i)) ∷ []) (in_table s) (all_in_lem (check 18 (not (has_node s l i)) ∷ []) refl)
 
--- of a manifest's node: v is what the judge gave, p whether there is such a node
-module _ (s : List ℕ) {v : ℕ} (e : v ≡ manifest_verdict s) (l i : ℕ) where
+-- of a manifest's node: p is whether there is such a node
+module _ (s : List ℕ) (l i : ℕ) where
   abbrev boxed : List Check
   boxed = box_checks (header_at s) l (node_at s l i)
 
-  abbrev last : CornersAnswer
-  last = C.Corners (box_of (header_at s) l (node_at s l i))
+  abbrev last : Answer Corners
+  last = Ok (box_of (header_at s) l (node_at s l i))
 
   abbrev own : List Check
   own = check 18 (not (has_node s l i)) ∷ []
 
-  in_turn : answered C.Refused (manifest_checks s ++ own) (answered C.Refused boxed last) ≡ corners_answer s l i
+  in_turn : answered refuse (manifest_checks s ++ own) (answered refuse boxed last) ≡ corners_answer s l i
   unfolding corners_answer corners_checks node_checks
-  in_turn = sym (answered-both C.Refused (manifest_checks s ++ own) boxed last (node_in_table s l i))
+  in_turn = sym (answered-both refuse (manifest_checks s ++ own) boxed last (node_in_table s l i))
 
-  pub corners-refused : (v ≡ 0 → ⊥) → C.Refused v ≡ corners_answer s l i
-  corners-refused n = refused-first C.Refused s e own (answered C.Refused boxed last) n ∙ in_turn
+  pub corners-refused : {k : Refusal} → Err k ≡ judged (manifest_verdict s) → Err k ≡ corners_answer s l i
+  corners-refused e = refused-first s e Err own (answered refuse boxed last) ∙ in_turn
 
-  module _ (z : v ≡ 0) {p : Bool} (f : p ≡ has_node s l i) where
-    sound : answered C.Refused own (answered C.Refused boxed last) ≡ corners_answer s l i
-    sound = given-first C.Refused s e own (answered C.Refused boxed last) z ∙ in_turn
+  module _ (z : manifest_verdict s ≡ 0) {p : Bool} (f : p ≡ has_node s l i) where
+    sound : answered refuse own (answered refuse boxed last) ≡ corners_answer s l i
+    sound = given-first s z refuse own (answered refuse boxed last) ∙ in_turn
 
-    pub corners-none : not p ≡ true → C.Refused 18 ≡ corners_answer s l i
-    corners-none n = fails C.Refused (answered C.Refused boxed last) 17 (not (has_node s l i)) [] (ap not (told-no f n)) ∙ sound
+    pub corners-none : not p ≡ true → refuse 18 ≡ corners_answer s l i
+    corners-none n = fails refuse (answered refuse boxed last) 17 (not (has_node s l i)) [] (ap not (told-no f n)) ∙ sound
 
-    pub corners-given : not p ≡ false → {h : Header} {x : Node} {r : CornersAnswer} → h ≡ header_at s → x ≡ node_at s l i → r ≡ box_answer h l x → r ≡ corners_answer s l i
+    pub corners-given : not p ≡ false → {h : Header} {x : Node} {r : Answer Corners} → h ≡ header_at s → x ≡ node_at s l i → r ≡ box_answer h l x → r ≡ corners_answer s l i
     unfolding box_answer
     corners-given n {h} {x} {r} g k m =
         let b : r ≡ box_answer (header_at s) l (node_at s l i) = cc in
-        b ∙ passed C.Refused (answered C.Refused boxed last)
-        ∙ passes C.Refused (answered C.Refused boxed last) 18 (not (has_node s l i)) [] (ap not (told-yes f n))
+        b ∙ passed refuse (answered refuse boxed last)
+        ∙ passes refuse (answered refuse boxed last) 18 (not (has_node s l i)) [] (ap not (told-yes f n))
         ∙ sound
 
 -- ---- corners that are given are finite
 
-module _ (s : List ℕ) (l i : ℕ) {a : CornersAnswer} {c : Corners} (e : a ≡ corners_answer s l i) (g : a ≡ C.Corners c) where
+module _ (s : List ℕ) (l i : ℕ) {a : Answer Corners} {c : Corners} (e : a ≡ corners_answer s l i) (g : a ≡ Ok c) where
   finite-both : (finite_corner c.near ≡ true) × (finite_corner c.far ≡ true)
   unfolding corners_answer corners_checks node_checks box_checks box_of
   finite-both =
       let h = header_at s in
       let n = node_at s l i in
-      let z = unrefused C.Refused (corners_checks s l i) (C.Corners (box_of h l n)) (λ k p. cc) (sym e ∙ g) in
+      let z = unrefused refuse (corners_checks s l i) (Ok (box_of h l n)) (λ k p. cc) (sym e ∙ g) in
       let b = none_both (node_checks s l i) (box_checks h l n) (node_in_table s l i) z.0 in
       let p = none-head 17 (not (placed n)) _ b.1 in
       let q = none-head 17 (not (finite_corner (near_corner h l n))) _ p.1 in
@@ -220,7 +222,6 @@ pub ruleset boxes = (
   box_near,
   box_far,
   box_given,
-  corners-refused,
   corners-none,
   corners-given,
   told-sound,

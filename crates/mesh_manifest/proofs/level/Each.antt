@@ -7,7 +7,8 @@ use native.Mathlib.Omega.{arith}
 use lib.ListN.{length, drop}
 use borrow.Author.Tests.{lt-ltb, not-false}
 use Rattle.refusal.specs.Checks.{first_number, unless}
-use Rattle.refusal.specs.declared.Written.TheVariants as W
+use Rattle.std.specs.Prelude.{Ok}
+use Rattle.refusal.specs.Answers.{Answer, refuse}
 use Rattle.endian.specs.Place.{Holds}
 use Rattle.endian.proofs.Holds.{holds-all, holds_move}
 use Rattle.mesh_manifest.specs.layout.Layout.{count_of}
@@ -15,7 +16,6 @@ use Rattle.mesh_manifest.specs.sound.Verdict.{manifest_verdict}
 use Rattle.mesh_manifest.proofs.sound.Judged.{unrefused, none-sound, none-head}
 use Rattle.mesh_manifest.specs.nodes.Nodes.{has_level, has_node, node_at, node_answer}
 use Rattle.mesh_manifest.specs.declared.nodes.Node.{Node}
-use Rattle.mesh_manifest.specs.declared.nodes.NodeAnswer.TheVariants as N
 use Rattle.mesh_manifest.proofs.nodes.Asked.{node-given}
 use Rattle.mesh_manifest.proofs.nodes.Fragments.{node-is}
 use Rattle.mesh_manifest.specs.node_numbers.Numbers.{numbers_of, numbers_from, nodes_of}
@@ -52,10 +52,10 @@ node-numbers s l i past h =
 
 -- ---- of the answers
 
-module _ (s : List ℕ) (l : ℕ) (out : List ℕ) (n : ℕ) (e : nodes_answer s l out ≡ W.Length n) where
-  whole : (first_number (nodes_checks s l out) ≡ 0) × (W.Length n ≡ W.Length (length (nodes_of s l)))
+module _ (s : List ℕ) (l : ℕ) (out : List ℕ) (n : ℕ) (e : nodes_answer s l out ≡ Ok n) where
+  whole : (first_number (nodes_checks s l out) ≡ 0) × (◌≡◌ {A = Answer ℕ} (Ok n) (Ok (length (nodes_of s l))))
   unfolding nodes_answer
-  whole = unrefused W.Refused (nodes_checks s l out) (W.Length (length (nodes_of s l))) (λ k p. cc) e
+  whole = unrefused refuse (nodes_checks s l out) (Ok (length (nodes_of s l))) (λ k p. cc) e
 
   -- five numbers a node
   pub nodes-count : n ≡ 5 * count_of s l
@@ -73,13 +73,13 @@ module _ (s : List ℕ) (l : ℕ) (out : List ℕ) (n : ℕ) (e : nodes_answer s
 
   module _ (i : ℕ) (h : i < count_of s l) where
     -- the call for node i answers that node,
-    pub node-alone : node_answer s l i ≡ N.Node (node_at s l i)
+    pub node-alone : node_answer s l i ≡ Ok (node_at s l i)
     unfolding has_node
-    node-alone = sym (node-given s (sym sound-level.0) l i refl refl (rw (sound-level.1, lt-ltb i (count_of s l) h)) refl)
+    node-alone = sym (node-given s sound-level.0 l i refl (rw (sound-level.1, lt-ltb i (count_of s l) h)) refl)
 
     -- and its five numbers stand at 5 × i
     pub nodes_hold : Holds (nodes_left s l out) (5 * i) (numbers_of (node_at s l i))
     nodes_hold = rw nodes-written (node-numbers s l i (drop (length (nodes_of s l)) out) h)
 
-    pub nodes_hold_each : (a : Node) → node_answer s l i ≡ N.Node a → Holds (nodes_left s l out) (5 * i) (numbers_of a)
+    pub nodes_hold_each : (a : Node) → node_answer s l i ≡ Ok a → Holds (nodes_left s l out) (5 * i) (numbers_of a)
     nodes_hold_each a f = rw (node-is s l i a f) nodes_hold

@@ -1,6 +1,6 @@
--- The answer to the question of a node, by the tests that lead to it; v is what the judge gave.
+-- The answer to the question of a node, by the tests that lead to it; e is what the judge answered.
 use Prim.Native.Nat.{ℕ, ◌+◌, ◌*◌, ◌≤◌, ◌<◌}
-use mathlib.Core.Path.{◌≡◌, refl, sym, ap, ◌∙◌}
+use mathlib.Core.Path.{◌≡◌, refl, ap, ◌∙◌}
 use mathlib.Core.Bool.{Bool, true, false, not}
 use mathlib.Core.List.{List, [], ◌∷◌}
 use native.Mathlib.Omega.{arith}
@@ -17,34 +17,35 @@ use Rattle.mesh_manifest.proofs.sound.Sounds.{sound-if}
 use Rattle.mesh_manifest.specs.fragment_sums.Sums.{level_bytes}
 use Rattle.mesh_manifest.specs.nodes.Nodes.{has_node, fragment_start, fragments_length_of, node_in, node_at, node_checks, node_answer}
 use Rattle.mesh_manifest.specs.declared.nodes.Node.{Node}
-use Rattle.mesh_manifest.specs.declared.nodes.NodeAnswer.TheVariants as N
+use Rattle.std.specs.Prelude.{Ok, Err}
+use Rattle.refusal.specs.Answers.{refuse}
+use Rattle.refusal.specs.declared.Refusal.{Refusal}
+use Rattle.refusal.specs.Answers.{judged}
 use Rattle.mesh_manifest.proofs.nodes.Levels.{has-level}
 
-module _ (s : List ℕ) {v : ℕ} (e : v ≡ manifest_verdict s) where
-  module _ (l i : ℕ) where
-    pub node-refused : (v ≡ 0 → ⊥) → N.Refused v ≡ node_answer s l i
-    unfolding node_answer node_checks
-    node-refused n = refused-first N.Refused s e _ (N.Node (node_at s l i)) n
+pub node-refused : (s : List ℕ) (l i : ℕ) {k : Refusal} → Err k ≡ judged (manifest_verdict s) → Err k ≡ node_answer s l i
+unfolding node_answer node_checks
+node-refused s l i e = refused-first s e Err _ (Ok (node_at s l i))
 
-    module _ (z : v ≡ 0) {p : Bool} (f : p ≡ has_node s l i) where
-      own-node : answered N.Refused (check 18 (not (has_node s l i)) ∷ []) (N.Node (node_at s l i)) ≡ node_answer s l i
-      unfolding node_answer node_checks
-      own-node = given-first N.Refused s e _ (N.Node (node_at s l i)) z
+module _ (s : List ℕ) (z : manifest_verdict s ≡ 0) (l i : ℕ) {p : Bool} (f : p ≡ has_node s l i) where
+  own-node : answered refuse (check 18 (not (has_node s l i)) ∷ []) (Ok (node_at s l i)) ≡ node_answer s l i
+  unfolding node_answer node_checks
+  own-node = given-first s z refuse _ (Ok (node_at s l i))
 
-      pub node-none : not p ≡ true → N.Refused 18 ≡ node_answer s l i
-      node-none n = fails N.Refused (N.Node (node_at s l i)) 17 (not (has_node s l i)) [] (ap not (told-no f n)) ∙ own-node
+  pub node-none : not p ≡ true → refuse 18 ≡ node_answer s l i
+  node-none n = fails refuse (Ok (node_at s l i)) 17 (not (has_node s l i)) [] (ap not (told-no f n)) ∙ own-node
 
-      pub node-given : not p ≡ false → {x : Node} → x ≡ node_at s l i → N.Node x ≡ node_answer s l i
-      node-given n g =
-          ap N.Node g ∙ passed N.Refused (N.Node (node_at s l i))
-          ∙ passes N.Refused (N.Node (node_at s l i)) 18 (not (has_node s l i)) [] (ap not (told-yes f n))
-          ∙ own-node
+  pub node-given : not p ≡ false → {x : Node} → x ≡ node_at s l i → Ok x ≡ node_answer s l i
+  node-given n g =
+      ap Ok g ∙ passed refuse (Ok (node_at s l i))
+      ∙ passes refuse (Ok (node_at s l i)) 18 (not (has_node s l i)) [] (ap not (told-yes f n))
+      ∙ own-node
 
-      pub told-node : not p ≡ false → has_node s l i ≡ true
-      told-node n = told-yes f n
+  pub told-node : not p ≡ false → has_node s l i ≡ true
+  told-node n = told-yes f n
 
-      pub told-level : not p ≡ false → l < 32
-      told-level n = omega (arith, has-level s l i (told-yes f n) refl, (sound-if s (sym e ∙ z)).levels)
+  pub told-level : not p ≡ false → l < 32
+  told-level n = omega (arith, has-level s l i (told-yes f n) refl, (sound-if s z).levels)
 
 module _ (s : List ℕ) (l i : ℕ) {v : ℕ} (e : v ≡ levels_of s) where
   pub no-level : v ≤ l → false ≡ has_node s l i
@@ -71,4 +72,4 @@ pub all-fragments : (s : List ℕ) {v t : ℕ} → v ≡ levels_of s → t ≡ s
 unfolding fragments_length_of
 all-fragments s e f = f ∙ ap (sum_to (level_bytes s)) e
 
-pub ruleset asked = (node-refused, node-none, node-given, told-sound, told-node, told-level, node_made, no-level, in_level, rules)
+pub ruleset asked = (node-none, node-given, told-sound, told-node, told-level, node_made, no-level, in_level, rules)

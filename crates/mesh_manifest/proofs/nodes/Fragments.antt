@@ -14,7 +14,8 @@ use Rattle.mesh_manifest.specs.fragment_sums.Sums.{level_bytes, fragment_size}
 use Rattle.mesh_manifest.specs.nodes.Nodes.{has_node, fragment_start, fragments_length_of, node_in, node_at, node_checks, node_answer}
 use Rattle.mesh_manifest.specs.nodes.Run.{fragment_of, of_level, of_levels, all_fragments}
 use Rattle.mesh_manifest.specs.declared.nodes.Node.{Node}
-use Rattle.mesh_manifest.specs.declared.nodes.NodeAnswer.TheVariants as N
+use Rattle.std.specs.Prelude.{Ok}
+use Rattle.refusal.specs.Answers.{refuse}
 use Rattle.mesh_manifest.proofs.nodes.Levels.{has-level, has-index}
 
 module _ (s : List ℕ) where
@@ -87,31 +88,31 @@ module _ (s run : List ℕ) where
 
 -- ---- of the answers
 
-given : (n : ℕ) (x y : Node) → unless N.Refused n (N.Node x) ≡ N.Node y → y ≡ x
+given : (n : ℕ) (x y : Node) → unless refuse n (Ok x) ≡ Ok y → y ≡ x
 unfolding unless
 given zero x y e = cc
 given (suc n) x y e = let z : ◌≡◌ {A = ℕ} 0 1 = cc in absurd (omega arith)
 
 module _ (s : List ℕ) where
-  pub node-is : (l i : ℕ) (a : Node) → node_answer s l i ≡ N.Node a → a ≡ node_at s l i
+  pub node-is : (l i : ℕ) (a : Node) → node_answer s l i ≡ Ok a → a ≡ node_at s l i
   unfolding node_answer
   node-is l i a e = given (first_number (node_checks s l i)) (node_at s l i) a e
 
   -- the next node's fragment starts where this node's ends: within a level, and from a level's last node to the next level's first
-  pub next-starts : (l i : ℕ) (a b : Node) → node_answer s l i ≡ N.Node a → node_answer s l (i + 1) ≡ N.Node b → b.start ≡ a.start + a.size
+  pub next-starts : (l i : ℕ) (a b : Node) → node_answer s l i ≡ Ok a → node_answer s l (i + 1) ≡ Ok b → b.start ≡ a.start + a.size
   unfolding node_at node_in
   next-starts l i a b e f =
       let p : a ≡ node_at s l i = node-is l i a e in
       let q : b ≡ node_at s l (i + 1) = node-is l (i + 1) b f in
       rw (p, q) (fragments-next s l i)
 
-  pub next-level-starts : (l i : ℕ) (a b : Node) → i + 1 ≡ count_of s l → node_answer s l i ≡ N.Node a → node_answer s (l + 1) 0 ≡ N.Node b → b.start ≡ a.start + a.size
+  pub next-level-starts : (l i : ℕ) (a b : Node) → i + 1 ≡ count_of s l → node_answer s l i ≡ Ok a → node_answer s (l + 1) 0 ≡ Ok b → b.start ≡ a.start + a.size
   unfolding node_at node_in
   next-level-starts l i a b h e f =
       let p : a ≡ node_at s l i = node-is l i a e in
       let q : b ≡ node_at s (l + 1) 0 = node-is (l + 1) 0 b f in
       rw (p, q) (fragments-level s l ∙ ap (fragment_start s l) (sym h) ∙ fragments-next s l i)
 
-  pub first-starts : (a : Node) → node_answer s 0 0 ≡ N.Node a → a.start ≡ 0
+  pub first-starts : (a : Node) → node_answer s 0 0 ≡ Ok a → a.start ≡ 0
   unfolding node_at node_in
   first-starts a e = let p : a ≡ node_at s 0 0 = node-is 0 0 a e in rw p (fragments-begin s)

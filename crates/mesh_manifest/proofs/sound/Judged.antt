@@ -1,22 +1,22 @@
--- Answers by checks that begin with 15, 16 and 17, as the code finds them: test by test, and by what the judge gave.
+-- Answers by checks that begin with 15, 16 and 17, as the code finds them: test by test, and by what the judge answered.
 use Prim.Native.Nat.{ℕ, zero, suc}
-use mathlib.Core.Path.{◌≡◌, refl, sym, ap, ◌∙◌}
+use mathlib.Core.Path.{◌≡◌, refl, sym, ◌∙◌}
 use mathlib.Core.Bool.{Bool, true, false}
 use mathlib.Core.List.{List, [], ◌∷◌, ◌++◌}
 use native.Mathlib.Omega.{arith}
 use Rattle.refusal.specs.Checks.{Check, check, first_number, unless, answered}
+use Rattle.refusal.specs.Table.{refusal_of}
+use Rattle.refusal.specs.declared.Refusal.{Refusal}
+use Rattle.std.specs.Prelude.{Ok, Err}
 use Rattle.refusal.proofs.Picks.{AllIn, all_in_lem}
+use Rattle.refusal.specs.Answers.{judged}
+use Rattle.refusal.proofs.Passed.{passed-none, passed-by, first-by}
 use Rattle.refusal.proofs.Refusing.{or_else, first-both, answered-both}
 use Rattle.mesh_manifest.specs.sound.Verdict.{manifest_checks, manifest_verdict}
 
 -- ---- a list of checks, from its head
 
 module _ {A : Type 0} (r : ℕ → A) (a : A) where
-  unless-no : (n : ℕ) → (n ≡ 0 → ⊥) → r n ≡ unless r n a
-  unfolding unless
-  unless-no zero h = absurd (h refl)
-  unless-no (suc n) h = refl
-
   unless-yes : (n : ℕ) → n ≡ 0 → a ≡ unless r n a
   unfolding unless
   unless-yes zero h = refl
@@ -62,27 +62,29 @@ pub in_table : (s : List ℕ) → AllIn (manifest_checks s)
 unfolding manifest_checks
 in_table s = all_in_lem (manifest_checks s) refl
 
--- 15, 16 and 17, then the checks `more`; v is what the judge gave
-module _ {A : Type 0} (r : ℕ → A) (s : List ℕ) {v : ℕ} (e : v ≡ manifest_verdict s) where
-  pub refused : (a : A) → (v ≡ 0 → ⊥) → r v ≡ answered r (manifest_checks s) a
-  unfolding manifest_verdict
-  refused a n = ap r e ∙ unless-no r a (manifest_verdict s) (λ z. n (e ∙ z))
+-- 15, 16 and 17, then the checks `more`
+module _ (s : List ℕ) where
+  -- where the judge refused with k: what g makes of that
+  module _ {k : Refusal} (e : Err k ≡ judged (manifest_verdict s)) {A : Type 0} (g : Refusal → A) where
+    pub refused : (a : A) → g k ≡ answered (λ j. g (refusal_of j)) (manifest_checks s) a
+    unfolding manifest_verdict
+    refused a = passed-by (manifest_verdict s) e g a
 
-  pub given : (a : A) → v ≡ 0 → a ≡ answered r (manifest_checks s) a
-  unfolding manifest_verdict
-  given a z = unless-yes r a (manifest_verdict s) (sym e ∙ z)
+    pub refused-first : (more : List Check) (a : A) → g k ≡ answered (λ j. g (refusal_of j)) (manifest_checks s ++ more) a
+    unfolding manifest_verdict
+    refused-first more a = first-by (manifest_checks s) (in_table s) e g more a
 
-  first : (more : List Check) (a : A) → answered r (manifest_checks s) (answered r more a) ≡ answered r (manifest_checks s ++ more) a
-  first more a = sym (answered-both r (manifest_checks s) more a (in_table s))
+  -- where it did not
+  module _ (z : manifest_verdict s ≡ 0) {A : Type 0} (r : ℕ → A) where
+    pub given : (a : A) → a ≡ answered r (manifest_checks s) a
+    unfolding manifest_verdict
+    given a = unless-yes r a (manifest_verdict s) z
 
-  pub refused-first : (more : List Check) (a : A) → (v ≡ 0 → ⊥) → r v ≡ answered r (manifest_checks s ++ more) a
-  refused-first more a n = refused (answered r more a) n ∙ first more a
+    pub given-first : (more : List Check) (a : A) → answered r more a ≡ answered r (manifest_checks s ++ more) a
+    given-first more a = given (answered r more a) ∙ sym (answered-both r (manifest_checks s) more a (in_table s))
 
-  pub given-first : (more : List Check) (a : A) → v ≡ 0 → answered r more a ≡ answered r (manifest_checks s ++ more) a
-  given-first more a z = given (answered r more a) z ∙ first more a
-
-pub told-sound : (s : List ℕ) {v : ℕ} → v ≡ manifest_verdict s → v ≡ 0 → manifest_verdict s ≡ 0
-told-sound s e z = sym e ∙ z
+pub told-sound : (s : List ℕ) → Ok tt ≡ judged (manifest_verdict s) → manifest_verdict s ≡ 0
+told-sound s e = passed-none (manifest_verdict s) e
 
 -- where none of the checks holds, the judge gives 0
 pub none-sound : (s : List ℕ) (more : List Check) → first_number (manifest_checks s ++ more) ≡ 0 → (manifest_verdict s ≡ 0) × (first_number more ≡ 0)

@@ -10,7 +10,10 @@ use borrow.Author.Rules.{rules}
 use borrow.Author.Tests.{lt-ltb, le-ltb, lt-leb, le-leb, ne_eqb}
 use Rattle.endian.specs.Range.{every}
 use Rattle.endian.proofs.Ranges.{every-fails, every-done}
-use Rattle.refusal.specs.Checks.{first_number}
+use Rattle.refusal.specs.Checks.{first_number, unless}
+use Rattle.std.specs.Prelude.{Ok}
+use Rattle.refusal.specs.Answers.{refuse}
+use Rattle.refusal.specs.Answers.{judged}
 use Rattle.refusal.proofs.Tests.{told-no, told-yes}
 use Rattle.mesh_manifest.specs.layout.Layout.{manifest_item, levels_of, is_real_of, count_of, nodes_before, level_item}
 use Rattle.mesh_manifest.specs.layout.Bits.{finite_bits, above_zero}
@@ -110,10 +113,6 @@ module _ (s : List ℕ) (first n i : ℕ) where
   unfolding level_rises
   level-fails e t h = every-fails (in_order_of s first n) (n - 1) i e t (omega arith)
 
-  pub level-done : every (in_order_of s first n) i ≡ true → i ≤ n - 1 → n ≤ i + 1 → true ≡ level_rises s first n
-  unfolding level_rises
-  level-done p h k = every-done (in_order_of s first n) (n - 1) i p h (omega arith)
-
 -- level l begins at item `first` and has n nodes; v is the level count that was read
 module _ (s : List ℕ) (l : ℕ) where
   pub rise-at : {first n : ℕ} {r : Bool} → r ≡ level_rises s first n → first ≡ level_item s l → n ≡ count_of s l → r ≡ rise_at s l
@@ -131,22 +130,22 @@ module _ (s : List ℕ) (l : ℕ) where
 -- ---- the verdict
 
 module _ (s : List ℕ) {p : Bool} (e : p ≡ right_length s) where
-  pub verdict_15 : not p ≡ true → 15 ≡ manifest_verdict s
-  unfolding manifest_verdict manifest_checks first_number
+  pub verdict_15 : not p ≡ true → refuse 15 ≡ judged (manifest_verdict s)
+  unfolding manifest_verdict manifest_checks first_number unless
   verdict_15 n = rw (told-no e n)
 
   module _ (k : not p ≡ false) {q : Bool} (f : q ≡ reals_fit s) where
-    pub verdict_16 : not q ≡ true → 16 ≡ manifest_verdict s
-    unfolding manifest_verdict manifest_checks first_number
+    pub verdict_16 : not q ≡ true → refuse 16 ≡ judged (manifest_verdict s)
+    unfolding manifest_verdict manifest_checks first_number unless
     verdict_16 n = rw (told-yes e k, told-no f n)
 
     module _ (l : not q ≡ false) {r : Bool} (g : r ≡ nodes_rise s) where
-      pub verdict_17 : not r ≡ true → 17 ≡ manifest_verdict s
-      unfolding manifest_verdict manifest_checks first_number
+      pub verdict_17 : not r ≡ true → refuse 17 ≡ judged (manifest_verdict s)
+      unfolding manifest_verdict manifest_checks first_number unless
       verdict_17 n = rw (told-yes e k, told-yes f l, told-no g n)
 
-      pub verdict_0 : not r ≡ false → 0 ≡ manifest_verdict s
-      unfolding manifest_verdict manifest_checks first_number
+      pub verdict_0 : not r ≡ false → Ok tt ≡ judged (manifest_verdict s)
+      unfolding manifest_verdict manifest_checks first_number unless
       verdict_0 n = rw (told-yes e k, told-yes f l, told-yes g n)
 
 pub ruleset ways = (
@@ -165,7 +164,6 @@ pub ruleset ways = (
   reals-no-y,
   reals-z,
   level-fails,
-  level-done,
   nodes_fail,
   nodes-done,
   verdict_15,

@@ -1,6 +1,6 @@
 -- The corners of a node (RULES M8): "origin + (position × shape) × 2^level, its far corner near + shape × 2^level, in f32,
 -- each operation rounded once in that order, judged by bits".
-use Rattle.std.specs.Prelude.{ℕ, ◌^◌, Bool, not, ◌&&◌, List, [], ◌∷◌, ◌++◌, ltb}
+use Rattle.std.specs.Prelude.{ℕ, ◌^◌, Bool, not, ◌&&◌, List, [], ◌∷◌, ◌++◌, ltb, Ok, Err}
 use Rattle.refusal.specs.Checks.{Check, check, answered}
 use Rattle.refusal.specs.Result.{Result, success, refused}
 use Rattle.mesh_manifest.specs.reals.Reals.{finite, near_of, far_of}
@@ -10,8 +10,8 @@ use Rattle.mesh_manifest.specs.declared.Header.{Header}
 use Rattle.mesh_manifest.specs.declared.nodes.Node.{Node}
 use Rattle.mesh_manifest.specs.declared.corners.Corner.{Corner}
 use Rattle.mesh_manifest.specs.declared.corners.Corners.{Corners}
-use Rattle.mesh_manifest.specs.declared.corners.CornersAnswer.{CornersAnswer}
-use Rattle.mesh_manifest.specs.declared.corners.CornersAnswer.TheVariants as C
+use Rattle.refusal.specs.Answers.{Answer, refuse}
+use Rattle.refusal.specs.Table.{number_of}
 
 unfoldable pub near_corner : Header → ℕ → Node → Corner
 near_corner h l n =
@@ -48,16 +48,16 @@ box_checks h l n =
     ∷ check 18 (not (finite_corner (far_corner h l (near_corner h l n))))
     ∷ []
 
-unfoldable pub box_answer : Header → ℕ → Node → CornersAnswer
-box_answer h l n = answered C.Refused (box_checks h l n) (C.Corners (box_of h l n))
+unfoldable pub box_answer : Header → ℕ → Node → Answer Corners
+box_answer h l n = answered refuse (box_checks h l n) (Ok (box_of h l n))
 
 -- of a node of a manifest: those of the node first
 unfoldable pub corners_checks : List ℕ → ℕ → ℕ → List Check
 corners_checks s l i = node_checks s l i ++ box_checks (header_at s) l (node_at s l i)
 
-unfoldable pub corners_answer : List ℕ → ℕ → ℕ → CornersAnswer
-corners_answer s l i = answered C.Refused (corners_checks s l i) (C.Corners (box_of (header_at s) l (node_at s l i)))
+unfoldable pub corners_answer : List ℕ → ℕ → ℕ → Answer Corners
+corners_answer s l i = answered refuse (corners_checks s l i) (Ok (box_of (header_at s) l (node_at s l i)))
 
-abbrev pub corners_result : CornersAnswer → Result Corners
-corners_result (C.Corners corners) = success corners
-corners_result (C.Refused k) = refused k
+abbrev pub corners_result : Answer Corners → Result Corners
+corners_result (Ok corners) = success corners
+corners_result (Err k) = refused (number_of k)

@@ -1,5 +1,5 @@
 -- The nodes of a manifest, one by one. A call judges 15, 16 and 17 first, then its own.
-use Rattle.std.specs.Prelude.{ℕ, ◌+◌, Bool, not, ◌&&◌, List, [], ◌∷◌, ◌++◌, ltb}
+use Rattle.std.specs.Prelude.{ℕ, ◌+◌, Bool, not, ◌&&◌, List, [], ◌∷◌, ◌++◌, ltb, Ok, Err}
 use Rattle.refusal.specs.Checks.{Check, check, answered}
 use Rattle.refusal.specs.Result.{Result, success, refused}
 use Rattle.endian.specs.Range.{sum_to}
@@ -7,8 +7,8 @@ use Rattle.mesh_manifest.specs.layout.Layout.{levels_of, count_of, level_item, x
 use Rattle.mesh_manifest.specs.sound.Verdict.{manifest_checks}
 use Rattle.mesh_manifest.specs.fragment_sums.Sums.{level_bytes}
 use Rattle.mesh_manifest.specs.declared.nodes.Node.{Node}
-use Rattle.mesh_manifest.specs.declared.nodes.NodeAnswer.{NodeAnswer}
-use Rattle.mesh_manifest.specs.declared.nodes.NodeAnswer.TheVariants as N
+use Rattle.refusal.specs.Answers.{Answer, refuse}
+use Rattle.refusal.specs.Table.{number_of}
 
 -- there is a level l
 abbrev pub has_level : List ℕ → ℕ → Bool
@@ -50,9 +50,9 @@ node_at s l i = node_in s (level_item s l) (count_of s l) i (fragment_start s l 
 unfoldable pub node_checks : List ℕ → ℕ → ℕ → List Check
 node_checks s l i = manifest_checks s ++ (check 18 (not (has_node s l i)) ∷ [])
 
-unfoldable pub node_answer : List ℕ → ℕ → ℕ → NodeAnswer
-node_answer s l i = answered N.Refused (node_checks s l i) (N.Node (node_at s l i))
+unfoldable pub node_answer : List ℕ → ℕ → ℕ → Answer Node
+node_answer s l i = answered refuse (node_checks s l i) (Ok (node_at s l i))
 
-abbrev pub node_result : NodeAnswer → Result Node
-node_result (N.Node node) = success node
-node_result (N.Refused k) = refused k
+abbrev pub node_result : Answer Node → Result Node
+node_result (Ok node) = success node
+node_result (Err k) = refused (number_of k)

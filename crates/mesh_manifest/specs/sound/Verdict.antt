@@ -1,13 +1,13 @@
 -- The judgement on a manifest: refusals 15, 16 and 17 (RULES M2 to M4).
-use Rattle.std.specs.Prelude.{ℕ, ◌+◌, ◌-◌, ◌*◌, Bool, not, ◌&&◌, ◌||◌, List, [], ◌∷◌, length, leb, eqb}
+use Rattle.std.specs.Prelude.{ℕ, ◌+◌, ◌-◌, ◌*◌, Bool, not, ◌&&◌, ◌||◌, List, [], ◌∷◌, length, leb, eqb, Ok, Err}
 use Rattle.refusal.specs.Checks.{Check, check, first_number, answered}
 use Rattle.refusal.specs.Result.{Result, success, refused}
 use Rattle.endian.specs.Range.{every}
 use Rattle.mesh_manifest.specs.layout.Layout.{manifest_item, levels_of, is_real_of, count_of, nodes_before, level_item, x_at, y_at, z_at}
 use Rattle.mesh_manifest.specs.layout.Bits.{finite_bits, above_zero}
 use Rattle.mesh_manifest.specs.zorder.Order.{z_before}
-use Rattle.mesh_manifest.specs.declared.sound.ManifestAnswer.{ManifestAnswer}
-use Rattle.mesh_manifest.specs.declared.sound.ManifestAnswer.TheVariants.{Sound, Refused}
+use Rattle.refusal.specs.Table.{number_of}
+use Rattle.refusal.specs.Answers.{Answer, refuse}
 
 abbrev pub most_bytes : ℕ
 most_bytes = 16777216
@@ -56,9 +56,9 @@ manifest_checks s = check 15 (not (right_length s)) ∷ check 16 (not (reals_fit
 unfoldable pub manifest_verdict : List ℕ → ℕ
 manifest_verdict s = first_number (manifest_checks s)
 
-unfoldable pub manifest_answer : List ℕ → ManifestAnswer
-manifest_answer s = answered Refused (manifest_checks s) Sound
+unfoldable pub manifest_answer : List ℕ → Answer (Unit {0})
+manifest_answer s = answered refuse (manifest_checks s) (Ok tt)
 
-abbrev pub manifest_result : ManifestAnswer → Result (Unit {0})
-manifest_result Sound = success tt
-manifest_result (Refused k) = refused k
+abbrev pub manifest_result : Answer (Unit {0}) → Result (Unit {0})
+manifest_result (Ok v) = success v
+manifest_result (Err k) = refused (number_of k)

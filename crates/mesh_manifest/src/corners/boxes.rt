@@ -4,9 +4,10 @@ ghost use Rattle.std.specs.Prelude.{◌≡◌, true, ◌<◌};
 ghost use Rattle.mesh_manifest.specs.corners.Boxes.{near_corner, far_corner, placed, finite_corner, box_answer};
 
 use crate::Header;
-use crate::corners::{Corner, Corners, CornersAnswer};
+use crate::corners::{Corner, Corners};
 use crate::nodes::Node;
 use crate::reals::{far, is_finite, near};
+use refusal::Refusal;
 
 // Each position is below 2^24.
 fn is_placed(n: Node) -> bool
@@ -54,20 +55,20 @@ fn is_finite_corner(c: Corner) -> bool
 }
 
 // The corners of a node of that level, or 18.
-pub fn corners_in(h: Header, level: u32, n: Node) -> CornersAnswer
+pub fn corners_in(h: Header, level: u32, n: Node) -> Result<Corners, Refusal>
     requires { level < 32 }
     ensures { result ≡ box_answer h level n }
 {
     if !is_placed(n) {
-        return CornersAnswer::Refused(18);
+        return Err(Refusal::NoSuchNode);
     }
     let near = near_corner(h, level, n);
     if !is_finite_corner(near) {
-        return CornersAnswer::Refused(18);
+        return Err(Refusal::NoSuchNode);
     }
     let far = far_corner(h, level, near);
     if !is_finite_corner(far) {
-        return CornersAnswer::Refused(18);
+        return Err(Refusal::NoSuchNode);
     }
-    CornersAnswer::Corners(Corners { near, far })
+    Ok(Corners { near, far })
 }

@@ -27,6 +27,7 @@ pub fn node_in(s: &[u8], first: usize, n: usize, i: usize, start: u64) -> Node
 }
 
 // How many bytes all fragments have together.
+#[tactic(auto, using(crate::proofs::nodes::Levels::sound))]
 pub fn fragments_length(s: &[u8]) -> u64
     requires { manifest_verdict s.now ≡ 0 }
     ensures { result ≡ fragments_length_of s.now }
@@ -35,6 +36,7 @@ pub fn fragments_length(s: &[u8]) -> u64
     bytes_before(s, levels, levels)
 }
 
+#[tactic(auto, using(crate::proofs::nodes::Levels::sound, crate::proofs::nodes::Asked::asked))]
 pub fn has_node(s: &[u8], level: usize, node: usize) -> bool
     requires { manifest_verdict s.now ≡ 0 }
     ensures { result ≡ has_node s.now level node }
@@ -46,6 +48,7 @@ pub fn has_node(s: &[u8], level: usize, node: usize) -> bool
     node < count(s, levels, level)
 }
 
+#[tactic(auto, using(crate::proofs::nodes::Levels::sound, crate::proofs::nodes::Asked::node_made))]
 pub fn node(s: &[u8], level: usize, node: usize) -> Node
     requires { (manifest_verdict s.now ≡ 0) × (has_node s.now level node ≡ true) }
     ensures { result ≡ node_at s.now level node }

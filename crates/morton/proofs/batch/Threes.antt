@@ -9,11 +9,12 @@ use native.Mathlib.Numerals.{add-one}
 use borrow.Author.Tests.{lt-ltb, le-ltb, not-true, not-false}
 use lib.ListN.{length, set, drop, length-map}
 use Rattle.refusal.specs.Checks.{first_number}
-use Rattle.refusal.specs.declared.Written.TheVariants.{Length, Refused}
+use Rattle.std.specs.Prelude.{Ok}
+use Rattle.refusal.specs.Answers.{refuse}
 use Rattle.refusal.proofs.Refusing.{by_number, by_none}
 use Rattle.endian.specs.Place.{paste}
 use Rattle.endian.proofs.Paste.{paste-front}
-use Rattle.endian.proofs.Mapped.{drop_all, map_next, map_last}
+use Rattle.endian.proofs.Mapped.{drop_all, map_next, map_past}
 use Rattle.morton.specs.declared.grid.Volume.{Volume}
 use Rattle.morton.specs.declared.grid.Extents.{Extents}
 use Rattle.morton.specs.declared.grid.Cell.{Cell}
@@ -61,12 +62,13 @@ all_looked g s i e h = sym (e ∙ rw (drop_all (cells_of s) i (omega (arith, len
 
 -- ---- the key of each is written
 
-module _ (f : Cell → ℕ) (s : List ℕ) (i : ℕ) (d : List ℕ) {e : List ℕ} (h : paste i (map f (drop i (cells_of s))) d ≡ e) where
-  pub key-next : {x : Cell} {v : ℕ} → x ≡ cell_at s (3 * i) → v ≡ f x → i < length s / 3 → length s / 3 ≤ length d → paste (i + 1) (map f (drop (i + 1) (cells_of s))) (set d i v) ≡ e
-  key-next a w l m = map_next f (cells_of s) i d h (rw a (front-cell s i l)) w (omega arith)
+pub key_next : (f : Cell → ℕ) (s : List ℕ) (i : ℕ) (d : List ℕ) {e : List ℕ} → paste i (map f (drop i (cells_of s))) d ≡ e
+    → {x : Cell} {v : ℕ} → x ≡ cell_at s (3 * i) → v ≡ f x → i < length s / 3 → length s / 3 ≤ length d
+    → paste (i + 1) (map f (drop (i + 1) (cells_of s))) (set d i v) ≡ e
+key_next f s i d h a w l m = map_next f (cells_of s) i d h (rw a (front-cell s i l)) w (omega arith)
 
-  pub key-last : length s / 3 ≤ i → d ≡ e
-  key-last l = map_last f (cells_of s) i d h (omega (arith, length-cells s))
+pub key_past : (f : Cell → ℕ) (s : List ℕ) (i : ℕ) (d : List ℕ) → length s / 3 ≤ i → paste i (map f (drop i (cells_of s))) d ≡ d
+key_past f s i d l = map_past f (cells_of s) i d (omega (arith, length-cells s))
 
 -- ---- the ways out of `keys_of`: the number of the first check that holds, or 0
 
@@ -94,21 +96,21 @@ module _ (v : Volume) (s keys : List ℕ) {z : Bool} (e : z ≡ zero_extent v) w
       keys_0 h l = rw (← e, t, ← m, ← o, u, ← n, h, length-map, length-cells s, le-ltb _ _ l)
 
 module _ (v : Volume) (cells : List Cell) (keys : List ℕ) where
-  pub keys-refused : {k : ℕ} → first_number (keys_checks v cells keys) ≡ k → 0 < k → Refused k ≡ keys_answer v cells keys
+  pub keys-refused : (k : ℕ) → 0 < k → first_number (keys_checks v cells keys) ≡ k → refuse k ≡ keys_answer v cells keys
   unfolding keys_answer
-  keys-refused {k} f h = sym (by_number Refused (keys_checks v cells keys) _ k f h)
+  keys-refused k h f = sym (by_number refuse (keys_checks v cells keys) _ k f h)
 
   pub keys_kept_lem : (k : ℕ) → 0 < k → first_number (keys_checks v cells keys) ≡ k → keys ≡ keys_left v cells keys
   unfolding keys_left
   keys_kept_lem k h f = sym (by_number (λ j. keys) (keys_checks v cells keys) _ k f h)
 
-  keys-written : first_number (keys_checks v cells keys) ≡ 0 → {n : ℕ} → n ≡ length cells → Length n ≡ keys_answer v cells keys
+  keys-written : first_number (keys_checks v cells keys) ≡ 0 → {n : ℕ} → n ≡ length cells → Ok n ≡ keys_answer v cells keys
   unfolding keys_answer keys_of
-  keys-written f e = sym (by_none Refused (keys_checks v cells keys) _ f ∙ rw (length-map, e))
+  keys-written f e = sym (by_none refuse (keys_checks v cells keys) _ f ∙ rw (length-map, e))
 
   pub keys-over : first_number (keys_checks v cells keys) ≡ 0 → {g : Extents} → g ≡ grid_of v → {now : List ℕ} → now ≡ paste 0 (map (key_of g) cells) keys → now ≡ keys_left v cells keys
   unfolding keys_left keys_of
   keys-over f m p = p ∙ rw m (paste-front (map (key_of (grid_of v)) cells) keys _ refl) ∙ sym (by_none (λ j. keys) (keys_checks v cells keys) _ f)
 
-pub written-cells : (v : Volume) (s keys : List ℕ) → first_number (keys_checks v (cells_of s) keys) ≡ 0 → Length (length s / 3) ≡ keys_answer v (cells_of s) keys
+pub written-cells : (v : Volume) (s keys : List ℕ) → first_number (keys_checks v (cells_of s) keys) ≡ 0 → Ok (length s / 3) ≡ keys_answer v (cells_of s) keys
 written-cells v s keys f = keys-written v (cells_of s) keys f (sym (length-cells s))

@@ -1,10 +1,9 @@
 -- The grid size is the least number of chunks that reach the extent, and what follows for cells.
-use Prim.Native.Nat.{ℕ, ◌+◌, ◌-◌, ◌*◌, ◌/◌, ◌%◌, ◌≤◌, ◌<◌}
-use mathlib.Core.Path.{◌≡◌}
+use Prim.Native.Nat.{ℕ, zero, suc, ◌+◌, ◌-◌, ◌*◌, ◌/◌, ◌%◌, ◌≤◌, ◌<◌, min}
+use mathlib.Core.Path.{◌≡◌, refl}
+use Rattle.std.specs.Int.{div_ceil}
 use native.Mathlib.Omega.{arith}
 use native.Mathlib.Nat.{div-lt_iff_lt-mul, add-mul, one-mul, le_antisymm, le_refl, lt_of_not-le, mul-le-mul_left, div-add-mod', mod-lt}
-use mir.Syntax.{w32}
-use mir.Val.{Fits}
 use Rattle.morton.specs.grid.Grid.{grid_size}
 
 -- (n + 1) × chunk, as the code adds it
@@ -55,5 +54,9 @@ module _ (extent chunk : ℕ) (some : 0 < chunk) where
       let l : extent / chunk < grid_size extent chunk = lt_of_not-le (λ h. omega (arith, grid-size_reaches _ h)) in
       le_antisymm (omega arith) (grid-size-reached _ (omega (arith, next (extent / chunk) chunk)))
 
-  pub cut_fits : Fits w32 extent → 0 < extent % chunk → Fits w32 (extent / chunk + 1)
-  cut_fits h f = omega (arith, grid-size-cut f, grid-size-small)
+  pub grid_size_up : div_ceil extent chunk ≡ grid_size extent chunk
+  grid_size_up = go (extent % chunk) refl
+    where
+      go : (r : ℕ) → extent % chunk ≡ r → extent / chunk + min 1 (extent % chunk) ≡ grid_size extent chunk
+      go zero e = omega (arith, grid-size-whole (omega arith))
+      go (suc r) e = omega (arith, grid-size-cut (omega arith))

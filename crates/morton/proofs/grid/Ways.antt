@@ -9,7 +9,8 @@ use Rattle.refusal.proofs.Tests.{both, neither}
 use Rattle.morton.specs.declared.grid.Extents.{Extents}
 use Rattle.morton.specs.declared.grid.Cell.{Cell}
 use Rattle.morton.specs.declared.grid.Volume.{Volume}
-use Rattle.morton.specs.declared.grid.GridAnswer.TheVariants.{Grid, Refused as GridRefused}
+use Rattle.std.specs.Prelude.{Ok}
+use Rattle.refusal.specs.Answers.{refuse}
 use Rattle.morton.specs.grid.Grid.{grid_size, grid_of, has_zero, zero_extent, in_grid}
 use Rattle.morton.specs.grid.Answers.{no_cell, grid_answer}
 use Rattle.morton.proofs.grid.Answered.{grid_by_picks}
@@ -92,10 +93,10 @@ module _ (v : Volume) {z : Bool} (ez : z ≡ zero_extent v) where
   pub tested : z ≡ false → zero_extent v ≡ false
   tested h = sym ez ∙ h
 
-  pub grid_2 : z ≡ true → GridRefused 2 ≡ grid_answer v
+  pub grid_2 : z ≡ true → refuse 2 ≡ grid_answer v
   grid_2 h = rw (grid_by_picks v, sym ez ∙ h)
 
-  pub grid-yes : z ≡ false → {g : Extents} → g ≡ grid_of v → Grid g ≡ grid_answer v
+  pub grid-yes : z ≡ false → {g : Extents} → g ≡ grid_of v → Ok g ≡ grid_answer v
   grid-yes h eg = rw (grid_by_picks v, tested h, eg)
 
   module _ (c : Cell) where

@@ -1,5 +1,5 @@
 -- The plan of a grid, and the two parts of a key added: the sum is the key, and it fits.
-use Prim.Native.Nat.{ℕ, ◌+◌, ◌*◌, ◌^◌, ◌≤◌, ◌<◌, min}
+use Prim.Native.Nat.{ℕ, ◌+◌, ◌*◌, ◌^◌, ◌≤◌, ◌<◌, min, ◌%◌}
 use mathlib.Core.Path.{◌≡◌, sym, ◌∙◌}
 use native.Mathlib.Omega.{arith}
 use native.Mathlib.Nat.{lt_of_lt_of_le}
@@ -12,6 +12,7 @@ use Rattle.morton.specs.declared.grid.Cell.{Cell}
 use Rattle.morton.specs.grid.Grid.{grid_size}
 use Rattle.morton.specs.Key.{key_bits_of, key_of}
 use Rattle.morton.specs.axis.Axis.{AxisBits}
+use Rattle.morton.proofs.axis.Used.{one_shl}
 use Rattle.morton.proofs.From.{key_below}
 use Rattle.morton.specs.declared.plan.Plan.{Plan}
 use Rattle.morton.specs.spread.Spread.{spread}
@@ -58,10 +59,10 @@ module _ (g : Extents) (few : key_bits_of g ≤ 64) {a b d m l : ℕ} (x : AxisB
         left = rw e (omega (arith, coarse_sum g x y z la lb ld));
       }
 
-pub coarse_made : (g : Extents) (n : ℕ) {s x y z : ℕ} → s ≡ 2 ^ n → x ≡ grid_size g.x s → y ≡ grid_size g.y s → z ≡ grid_size g.z s
+pub coarse_made : (g : Extents) (n : ℕ) {x y z : ℕ} → n < 32 → x ≡ grid_size g.x (1 * 2 ^ n % 2 ^ 32) → y ≡ grid_size g.y (1 * 2 ^ n % 2 ^ 32) → z ≡ grid_size g.z (1 * 2 ^ n % 2 ^ 32)
     → ◌≡◌ {A = Extents} (record { x = x; y = y; z = z }) (coarse_grid n g)
 unfolding coarse_grid
-coarse_made g n e p q r = rw (← e) (λ t. record { x = p t; y = q t; z = r t })
+coarse_made g n l p q r = rw (← one_shl n 32 l) (λ t. record { x = p t; y = q t; z = r t })
 
 -- ---- the key
 -- no turn is shared

@@ -9,7 +9,8 @@ use lib.Pow.{pow_pos, split, high}
 use borrow.Author.Tests.{lt-ltb, le-ltb}
 use lib.ListN.{length, set, length-map}
 use Rattle.refusal.specs.Checks.{first_number}
-use Rattle.refusal.specs.declared.Written.TheVariants.{Length, Refused}
+use Rattle.std.specs.Prelude.{Ok}
+use Rattle.refusal.specs.Answers.{refuse}
 use Rattle.refusal.proofs.Refusing.{by_none}
 use Rattle.endian.specs.Place.{paste}
 use Rattle.endian.proofs.Paste.{paste-nil, paste-cons}
@@ -143,6 +144,6 @@ module _ (from to y z : ℕ) {r : ℕ} (e : r ≡ to - from) where
   pub room : (n : ℕ) → r ≤ n → to - from ≤ n
   room n h = omega arith
 
-  pub row_written : (v : Volume) (keys : List ℕ) → first_number (keys_checks v (row_of from to y z) keys) ≡ 0 → Length r ≡ keys_answer v (row_of from to y z) keys
+  pub row_written : (v : Volume) (keys : List ℕ) → first_number (keys_checks v (row_of from to y z) keys) ≡ 0 → Ok r ≡ keys_answer v (row_of from to y z) keys
   unfolding keys_answer keys_of
-  row_written v keys f = sym (by_none Refused (keys_checks v (row_of from to y z) keys) _ f ∙ rw (length-map, length_from (to - from) from y z, e))
+  row_written v keys f = sym (by_none refuse (keys_checks v (row_of from to y z) keys) _ f ∙ rw (length-map, length_from (to - from) from y z, e))

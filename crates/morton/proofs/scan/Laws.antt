@@ -9,7 +9,8 @@ use native.Mathlib.Omega.{arith}
 use native.Mathlib.Nat.{not-suc-le-zero}
 use lib.ListN.{length, get_or, length-map}
 use Rattle.refusal.specs.Buffer.{over}
-use Rattle.refusal.specs.declared.Written.TheVariants.{Length, Refused}
+use Rattle.std.specs.Prelude.{Ok}
+use Rattle.refusal.specs.Answers.{refuse}
 use Rattle.refusal.proofs.Refusing.{by_none}
 use Rattle.morton.specs.declared.grid.Volume.{Volume}
 use Rattle.morton.specs.declared.grid.Extents.{Extents}
@@ -39,11 +40,11 @@ agreement g c n w h = sym (key_by_parts g c n w h)
 -- ---- many cells: what is answered and written where nothing is refused
 pub keys-written : (v : Volume) (cells : List Cell) (out : List ℕ) → zero_extent v ≡ false → each_in_grid (grid_of v) cells ≡ true → too_many_bits (grid_of v) ≡ false
     → length cells ≤ length out
-    → (keys_answer v cells out ≡ Length (length cells)) × (keys_left v cells out ≡ over (map (key_of (grid_of v)) cells) out)
+    → (keys_answer v cells out ≡ Ok (length cells)) × (keys_left v cells out ≡ over (map (key_of (grid_of v)) cells) out)
 unfolding keys_answer keys_left keys_of
 keys-written v cells out z o b l =
     let f = row_0 v cells out refl z refl refl (rw o) refl b l in
-    (by_none Refused (keys_checks v cells out) _ f ∙ rw length-map, by_none (λ j. out) (keys_checks v cells out) _ f)
+    (by_none refuse (keys_checks v cells out) _ f ∙ rw length-map, by_none (λ j. out) (keys_checks v cells out) _ f)
 
 -- ---- rows
 pub row_count : (from to y z : ℕ) → length (row_of from to y z) ≡ to - from

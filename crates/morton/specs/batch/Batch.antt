@@ -1,9 +1,8 @@
 -- The keys of many cells in one call: where nothing is refused, those that each cell has alone.
-use Rattle.std.specs.Prelude.{ℕ, ◌+◌, Bool, true, not, ◌&&◌, ◌||◌, List, [], ◌∷◌, map, length, get_or}
+use Rattle.std.specs.Prelude.{ℕ, ◌+◌, Bool, true, not, ◌&&◌, ◌||◌, List, [], ◌∷◌, map, length, get_or, Ok}
 use Rattle.refusal.specs.Checks.{Check, check, answered, left}
 use Rattle.refusal.specs.Buffer.{room, over}
-use Rattle.refusal.specs.declared.Written.{Written}
-use Rattle.refusal.specs.declared.Written.TheVariants.{Length, Refused}
+use Rattle.refusal.specs.Answers.{Answer, refuse}
 use Rattle.morton.specs.declared.grid.Volume.{Volume}
 use Rattle.morton.specs.declared.grid.Extents.{Extents}
 use Rattle.morton.specs.declared.grid.Cell.{Cell}
@@ -37,8 +36,8 @@ keys_checks v cells keys =
     ∷ []
 
 -- how many keys there are (RULES G9)
-unfoldable pub keys_answer : Volume → List Cell → List ℕ → Written
-keys_answer v cells keys = answered Refused (keys_checks v cells keys) (Length (length (keys_of v cells)))
+unfoldable pub keys_answer : Volume → List Cell → List ℕ → Answer ℕ
+keys_answer v cells keys = answered refuse (keys_checks v cells keys) (Ok (length (keys_of v cells)))
 
 -- what the lent keys then hold
 unfoldable pub keys_left : Volume → List Cell → List ℕ → List ℕ

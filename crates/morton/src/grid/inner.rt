@@ -31,12 +31,12 @@ pub fn zero_extent(volume: Volume) -> bool
 }
 
 // An extent in chunks, rounded up.
+#[tactic(auto, using(crate::proofs::grid::Covers::grid_size_up))]
 pub fn grid_size(extent: u32, chunk: u32) -> u32
     requires { 0 < chunk }
     ensures { result ≡ grid_size extent chunk }
 {
-    let whole = extent / chunk;
-    if 0 < extent % chunk { whole + 1 } else { whole }
+    extent.div_ceil(chunk)
 }
 
 // How many cells the volume has along each axis.

@@ -3,14 +3,15 @@
 ghost use Rattle.std.specs.Prelude.{◌≡◌};
 ghost use Rattle.morton.specs.grid.Answers.{grid_answer};
 
-use crate::grid::{GridAnswer, Volume, inner};
+use crate::grid::{Extents, Volume, inner};
+use refusal::Refusal;
 
 // How many cells the volume has along each axis, or 2 where an extent is 0.
-pub fn grid_of(volume: Volume) -> GridAnswer
+pub fn grid_of(volume: Volume) -> Result<Extents, Refusal>
     ensures answer { result ≡ grid_answer volume }
 {
     if inner::zero_extent(volume) {
-        return GridAnswer::Refused(2);
+        return Err(Refusal::NoSuchCell);
     }
-    GridAnswer::Grid(inner::grid(volume))
+    Ok(inner::grid(volume))
 }

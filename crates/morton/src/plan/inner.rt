@@ -1,6 +1,6 @@
 // The plan, and what it gives to a key.
 
-ghost use Rattle.std.specs.Prelude.{◌≡◌, ◌*◌, ◌^◌, ◌<◌, ◌≤◌, min};
+ghost use Rattle.std.specs.Prelude.{◌≡◌, ◌*◌, ◌^◌, ◌<◌, ◌≤◌};
 ghost use Rattle.morton.specs.Key.{key_bits_of};
 ghost use Rattle.morton.specs.plan.Parts.{coarse_grid, coarse_cell, rest_key, Planned};
 
@@ -12,26 +12,12 @@ use crate::steps::{key, key_bits};
 
 // ---- the plan
 
-fn least(a: u32, b: u32) -> u32
-    ensures { result ≡ min a b }
-{
-    if a < b { a } else { b }
-}
-
-// 2 to the power n.
-fn power(n: u32) -> u32
-    requires { n < 32 }
-    ensures { (result ≡ 2 ^ n) × (0 < result) }
-{
-    1u32 << n
-}
-
 // The grid of cells that are 2^n cells long.
 fn coarse_grid(grid: Extents, n: u32) -> Extents
     requires { n < 32 }
     ensures { result ≡ coarse_grid n grid }
 {
-    let side = power(n);
+    let side = 1u32 << n;
     Extents {
         x: grid_size(grid.x, side),
         y: grid_size(grid.y, side),
@@ -47,7 +33,7 @@ pub fn plan(grid: Extents) -> Plan
     let x = axis_bits(grid.x);
     let y = axis_bits(grid.y);
     let z = axis_bits(grid.z);
-    let low = least(least(x, y), z);
+    let low = x.min(y).min(z);
     let rest = coarse_grid(grid, low);
     Plan {
         grid,

@@ -16,26 +16,24 @@ use crate::rows::{low_yz, next_rest, row_inside, row_length};
 use crate::spread::spread_bits;
 use crate::spread::table::spread_bytes;
 use crate::steps::too_many_bits;
-use refusal::Written;
+use refusal::Refusal;
 
 fn fill(plan: Plan, table: &[u32], from: u32, to: u32, y: u32, z: u32, keys: &mut [u64])
     requires planned { Planned plan × Spreads table.now }
-    requires from_in_bounds { to - from ≤ length keys.old }
+    requires room { to - from ≤ length keys.old }
     ensures { keys.new ≡ paste 0 (map (key_of plan.grid) (row_of from to y z)) keys.old }
 {
     let yz = low_yz(table, y, z, plan.low);
     let mut rest = rest_key(plan, Cell { x: from, y, z });
-    let mut x = from;
-    while x < to {
+    for x in from..to {
         keys[(x - from) as usize] = spread_bits(table, x, plan.low) + yz + rest;
         rest = next_rest(plan, x, y, z, rest);
-        x += 1;
     }
 }
 
 fn fill_row(grid: Extents, from: u32, to: u32, y: u32, z: u32, keys: &mut [u64])
-    requires grid_bound { key_bits_of grid ≤ 64 }
-    requires from_in_bounds { to - from ≤ length keys.old }
+    requires key_fits { key_bits_of grid ≤ 64 }
+    requires room { to - from ≤ length keys.old }
     ensures { keys.new ≡ paste 0 (map (key_of grid) (row_of from to y z)) keys.old }
 {
     let table = spread_bytes();
@@ -44,23 +42,30 @@ fn fill_row(grid: Extents, from: u32, to: u32, y: u32, z: u32, keys: &mut [u64])
 
 // The keys of the cells with x from `from` up to `to`, that end excluded, at y and z, and how many:
 // as `keys_of` answers for these cells.
-pub fn row_keys(volume: Volume, from: u32, to: u32, y: u32, z: u32, keys: &mut [u64]) -> Written
+pub fn row_keys(
+    volume: Volume,
+    from: u32,
+    to: u32,
+    y: u32,
+    z: u32,
+    keys: &mut [u64],
+) -> Result<usize, Refusal>
     ensures answer { result ≡ keys_answer volume (row_of from to y z) keys.old }
     ensures keys { keys.new ≡ keys_left volume (row_of from to y z) keys.old }
 {
     if zero_extent(volume) {
-        return Written::Refused(2);
+        return Err(Refusal::NoSuchCell);
     }
     let grid = grid(volume);
     if !row_inside(grid, from, to, y, z) {
-        return Written::Refused(2);
+        return Err(Refusal::NoSuchCell);
     }
     if too_many_bits(grid) {
-        return Written::Refused(3);
+        return Err(Refusal::TooManyKeyBits);
     }
     if keys.len() < row_length(from, to) {
-        return Written::Refused(13);
+        return Err(Refusal::NoRoom);
     }
     fill_row(grid, from, to, y, z, keys);
-    Written::Length(row_length(from, to))
+    Ok(row_length(from, to))
 }

@@ -3,12 +3,12 @@ use Prim.Native.Nat.{ℕ, zero, suc, ◌+◌, ◌-◌, ◌*◌, ◌/◌, ◌%◌
 use mathlib.Core.Path.{◌≡◌, refl, sym, ap, ◌∙◌}
 use mathlib.Core.List.{List, [], ◌∷◌, ◌++◌, append-nil, append_assoc}
 use native.Mathlib.Omega.{arith}
-use native.Mathlib.Nat.{div-lt_iff_lt-mul, div-lt_self, div-add-mod', le-div_iff_mul-le, pow-suc, pow-zero, pow-le-pow_left, mod-lt, zero-div, zero-mod, add-zero, add-suc}
+use native.Mathlib.Nat.{div-lt_iff_lt-mul, div-lt_self, div-add-mod', le-div_iff_mul-le, pow-suc, pow-zero, mod-lt, zero-div, zero-mod, add-zero, add-suc, pow-succ', pow-le-pow_right}
+use native.Mathlib.Numerals.{add-one}
 use native.Mathlib.Decide.{dec_lt}
 use borrow.Author.Tests.{lt-ltb, le-ltb}
-use borrow.Author.Rules.{rules}
 use lib.Dec.{lit<}
-use lib.ListN.{length, set, replicate, length-append, length-set}
+use lib.ListN.{length, set, replicate, length-append}
 use mir.Syntax.{w64}
 use mir.Val.{Fits}
 use Rattle.endian.specs.Place.{paste}
@@ -167,39 +167,20 @@ read-decimal n = read-digits 10 (lit< tt) (digit_count 10 n) n (count-holds 10 (
 pub same-decimal : (m n : ℕ) → decimal m ≡ decimal n → m ≡ n
 same-decimal m n e = sym (read-decimal m) ∙ ap (value 10) e ∙ read-decimal n
 
-pub decimal-count : (v r : ℕ) → r ≡ digit_count 10 v → r ≡ length (decimal v)
-decimal-count v r e = e ∙ sym (decimal-length v)
+-- by the logarithm of the number
+pub decimal_count : (v k : ℕ) → 10 ^ k ≤ v → v < 10 * 10 ^ k → k + 1 ≡ length (decimal v)
+decimal_count v k l h =
+    let t : 1 < 10 = lit< tt in
+    let most : digit_count 10 v ≤ k + 1 = count-least 10 t (k + 1) v (omega arith) (rw (add-one k, pow-succ') h) in
+    let least : (digit_count 10 v ≤ k) → ⊥ =
+    λ m. absurd (omega (arith, count-holds 10 t v, pow-le-pow_right {n = 10} (lit< tt) m)) in
+    rw (decimal-length v) (omega (arith, least))
 
-pub decimal-most : (v r : ℕ) → r ≡ digit_count 10 v → Fits w64 v → r ≤ 20
-decimal-most v r e f = omega (arith, count-least 10 (lit< tt) 20 v (omega arith) (omega arith))
+pub decimal_zero : {v : ℕ} → v ≡ 0 → 1 ≡ length (decimal v)
+decimal_zero {v} e = sym (decimal-length v ∙ count-short 10 (lit< tt) v (omega arith))
 
 pub decimal_twenty : (v : ℕ) → Fits w64 v → length (decimal v) ≤ 20
-decimal_twenty v f = rw (decimal-length v) (decimal-most v (digit_count 10 v) refl f)
-
--- ---- the loop of `digit_count`
-
-count_sixty_four : (b v : ℕ) → 1 < b → Fits w64 v → digit_count b v ≤ 64
-count_sixty_four b v l f =
-    let h : 2 ^ 64 ≤ b ^ 64 = pow-le-pow_left l 64 in
-    count-least b l 64 v (omega arith) (omega arith)
-
-pub count-first : (b v : ℕ) → 1 + digit_count b v ≡ digit_count b v + 1
-count-first b v = omega arith
-
-module _ (b n w v : ℕ) (e : n + digit_count b w ≡ digit_count b v + 1) (l : 1 < b) where
-  pub count-again : b ≤ w → n + 1 + digit_count b (w / b) ≡ digit_count b v + 1
-  count-again h = omega (arith, count_long b l w h)
-
-  pub count_fits : Fits w64 v → Fits w64 (n + 1)
-  count_fits f = omega (arith, count_sixty_four b v l f)
-
-  pub count-is : w < b → n ≡ digit_count b v
-  count-is h = omega (arith, count-short b l w h)
-
-pub count_less : (b w : ℕ) → 1 < b → b ≤ w → w / b < w
-count_less b w l h = div-lt_self (omega arith) l
-
-pub ruleset counts = (count-first, count-again, count_fits, count-is, count_less, rules)
+decimal_twenty v f = rw (decimal-length v) (count-least 10 (lit< tt) 20 v (omega arith) (omega (arith, f.fits)))
 
 -- ---- the loop of `put_digits`: what is left to write, written over what stands there now, gives what is to stand there in the end
 
@@ -208,28 +189,21 @@ paste-last at x xs d h =
     let e : set d (at + length xs) x ≡ paste (at + length xs) (x ∷ []) d = store (at + length xs) x d h in
     ap (paste at xs) e ∙ paste-apart at xs (at + length xs) (x ∷ []) d (omega arith) (omega arith) ∙ paste-next at xs (x ∷ []) d (omega arith)
 
-pub digits-first : (b at count v : ℕ) (d : List ℕ) → paste at (digits b (at + count - at) v) d ≡ paste at (digits b count v) d
-digits-first b at count v d = ap (λ (k : ℕ). paste at (digits b k v) d) (omega arith)
-
 pub rem_small : (b w : ℕ) → 0 < b → b ≤ 16 → w % b < 16
 rem_small b w p q = let h : w % b < b = mod-lt w p in omega arith
 
-module _ (b at i w : ℕ) (d : List ℕ) {e : List ℕ} (s : paste at (digits b (i - at) w) d ≡ e) where
-  pub digits-next : at < i → i ≤ length d → (x : ℕ) → x ≡ digit_byte (w % b) → paste at (digits b (i - 1 - at) (w / b)) (set d (i - 1) x) ≡ e
-  unfolding digits
-  digits-next l r x q =
-      let k : length (digits b (i - 1 - at) (w / b)) ≡ i - 1 - at = length_digits b (i - 1 - at) (w / b) in
-      let p : i - 1 ≡ at + length (digits b (i - 1 - at) (w / b)) = omega arith in
-      let n : i - at ≡ suc (i - 1 - at) = omega arith in
-      ap (λ (j : ℕ). paste at (digits b (i - 1 - at) (w / b)) (set d j x)) p
-      ∙ paste-last at x (digits b (i - 1 - at) (w / b)) d (omega arith)
-      ∙ rw q (ap (λ (j : ℕ). paste at (digits b j w) d) (sym n)) ∙ s
+-- the digit at i is written; those before it are left, of which w is made
+pub digits_next : (b at i w : ℕ) (d : List ℕ) {e : List ℕ} → paste at (digits b (i - at) w) d ≡ e → at < i → i ≤ length d → {x : ℕ} → x ≡ digit_byte (w % b)
+    → paste at (digits b (i - 1 - at) (w / b)) (set d (i - 1) x) ≡ e
+unfolding digits
+digits_next b at i w d s l r {x} q =
+    let k : length (digits b (i - 1 - at) (w / b)) ≡ i - 1 - at = length_digits b (i - 1 - at) (w / b) in
+    let p : i - 1 ≡ at + length (digits b (i - 1 - at) (w / b)) = omega arith in
+    let n : i - at ≡ suc (i - 1 - at) = omega arith in
+    ap (λ (j : ℕ). paste at (digits b (i - 1 - at) (w / b)) (set d j x)) p
+    ∙ paste-last at x (digits b (i - 1 - at) (w / b)) d (omega arith)
+    ∙ rw q (ap (λ (j : ℕ). paste at (digits b j w) d) (sym n)) ∙ s
 
-  pub digits-done : i ≤ at → d ≡ e
-  unfolding digits
-  digits-done h = let n : i - at ≡ 0 = omega arith in sym (paste-nil at d) ∙ ap (λ (j : ℕ). paste at (digits b j w) d) (sym n) ∙ s
-
-pub still_room : (i j b : ℕ) (d : List ℕ) → i ≤ length d → i - 1 ≤ length (set d j b)
-still_room i j b d h = simp length-set (omega arith)
-
-pub ruleset puts = (digits-first, rem_small, digits-next, digits-done, still_room, rules)
+pub digits_done : (b at i w : ℕ) (d : List ℕ) → i ≤ at → paste at (digits b (i - at) w) d ≡ d
+unfolding digits
+digits_done b at i w d h = let n : i - at ≡ 0 = omega arith in ap (λ (j : ℕ). paste at (digits b j w) d) n ∙ paste-nil at d

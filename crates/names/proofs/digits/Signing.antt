@@ -1,11 +1,14 @@
 -- What the writers of numbers need: digits by their count, a number with its sign, and that number from an i64.
 use Prim.Native.Nat.{ℕ, ◌+◌, ◌≤◌, ◌<◌}
-use mathlib.Core.Path.{◌≡◌, ap, ◌∙◌}
+use mathlib.Core.Path.{◌≡◌, refl, ap, ◌∙◌}
 use mathlib.Core.Bool.{Bool, true, false}
 use mathlib.Core.List.{List, [], ◌∷◌}
 use native.Mathlib.Omega.{arith}
 use borrow.Author.Rules.{rules}
-use lib.IntN.{ℤ, nat_abs}
+use borrow.Author.Tests.{le-ltb}
+use lib.IntN.{ℤ, pos, negsuc}
+use Rattle.std.specs.Prelude.{unsigned_abs}
+use Rattle.std.specs.Int.{is_negative}
 use lib.ListN.{length}
 use mir.Syntax.{w64}
 use mir.Val.{SFits, to_z, of_z}
@@ -75,9 +78,15 @@ pub ruleset signing = (length_neg, length_pos, sign_room, digits-room, whole_roo
 abbrev pub back : ℤ → ℤ
 back z = to_z w64 (of_z w64 z)
 
-pub signed_is : (z : ℤ) (r : Bool) (n : ℕ) → SFits w64 z → r ≡ negative (back z) → n ≡ nat_abs (back z) → record { negative = r; magnitude = n } ≡ sign_parts z
+negative_is : (z : ℤ) → is_negative z ≡ negative z
+unfolding negative
+negative_is (pos n) = le-ltb n 0 (omega arith)
+negative_is (negsuc n) = refl
+
+pub signed_is : (z : ℤ) {r : Bool} {n : ℕ} → SFits w64 z → r ≡ is_negative (back z) → n ≡ unsigned_abs (back z)
+    → ◌≡◌ {A = Signed} (record { negative = r; magnitude = n }) (sign_parts z)
 unfolding sign_parts
-signed_is z r n f p q =
-    let p' : r ≡ negative z = rw (to_z-of_z f) at p in
-    let q' : n ≡ nat_abs z = rw (to_z-of_z f) at q in
+signed_is z {r} {n} f p q =
+    let p' : r ≡ negative z = rw (to_z-of_z f) at p ∙ negative_is z in
+    let q' : n ≡ unsigned_abs z = rw (to_z-of_z f) at q in
     λ i. record { negative = p' i; magnitude = q' i }

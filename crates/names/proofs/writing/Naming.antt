@@ -10,8 +10,8 @@ use Rattle.endian.specs.Little.{le}
 use Rattle.endian.specs.Place.{paste}
 use Rattle.refusal.specs.Choice.{pick}
 use Rattle.refusal.specs.Buffer.{room, written, left_by}
-use Rattle.refusal.specs.declared.Written.{Written}
-use Rattle.refusal.specs.declared.Written.TheVariants.{Length, Refused}
+use Rattle.std.specs.Prelude.{Ok}
+use Rattle.refusal.specs.Answers.{Answer, refuse}
 use Rattle.refusal.proofs.Picks.{by_picks}
 use Rattle.refusal.proofs.Tests.{told-no, told-yes}
 use Rattle.endian.proofs.Paste.{paste-then, length-paste}
@@ -93,7 +93,7 @@ module _ (kind : FileKind) (spec : Sharding) (n : ℕ) (d : List ℕ) (m : ℕ) 
   fits : m ≡ length (file_name kind spec n)
   fits = g ∙ sym (length-file-name kind spec n)
 
-  pub file-short : length d < m → Refused 13 ≡ written (file_name kind spec n) d
+  pub file-short : length d < m → refuse 13 ≡ written (file_name kind spec n) d
   file-short = too_long_lem (file_name kind spec n) d m fits
 
   pub file-kept : length d < m → d ≡ left_by (file_name kind spec n) d
@@ -103,7 +103,7 @@ module _ (kind : FileKind) (spec : Sharding) (n : ℕ) (d : List ℕ) (m : ℕ) 
     pub file-room : 0 + length (file_name kind spec n) ≤ length d
     file-room = front-room (file_name kind spec n) d m fits h
 
-    pub file-length : (k : ℕ) → k ≡ 0 + length (file_name kind spec n) → Length k ≡ written (file_name kind spec n) d
+    pub file-length : (k : ℕ) → k ≡ 0 + length (file_name kind spec n) → Ok k ≡ written (file_name kind spec n) d
     file-length = front-end (file_name kind spec n) d m fits h
 
     pub file-left : (s : List ℕ) → s ≡ paste 0 (file_name kind spec n) d → s ≡ left_by (file_name kind spec n) d
@@ -115,12 +115,12 @@ pub ruleset filing = (file-short, file-kept, file-room, file-length, file-left, 
 
 module _ (kind : FileKind) (spec : Sharding) (n : ℕ) (d : List ℕ) where
   answer_picks : file_name_answer kind spec n d
-      ≡ pick (not (allowed spec)) (Refused 1) (pick (no_such_shard spec n) (Refused 5) (written (file_name kind spec n) d))
+      ≡ pick (not (allowed spec)) (refuse 1) (pick (no_such_shard spec n) (refuse 5) (written (file_name kind spec n) d))
   unfolding file_name_answer file_name_checks written
   answer_picks =
-      by_picks Refused (file_name_checks kind spec n d) _ refl
-      ∙ ap (λ (w : Written). pick (not (allowed spec)) (Refused 1) (pick (no_such_shard spec n) (Refused 5) w))
-      (sym (by_picks Refused (room (file_name kind spec n) d ∷ []) _ refl))
+      by_picks refuse (file_name_checks kind spec n d) _ refl
+      ∙ ap (λ (w : Answer ℕ). pick (not (allowed spec)) (refuse 1) (pick (no_such_shard spec n) (refuse 5) w))
+      (sym (by_picks refuse (room (file_name kind spec n) d ∷ []) _ refl))
 
   left_picks : file_name_left kind spec n d ≡ pick (not (allowed spec)) d (pick (no_such_shard spec n) d (left_by (file_name kind spec n) d))
   unfolding file_name_left file_name_checks left_by
@@ -130,7 +130,7 @@ module _ (kind : FileKind) (spec : Sharding) (n : ℕ) (d : List ℕ) where
       (sym (by_picks (λ k. d) (room (file_name kind spec n) d ∷ []) _ refl))
 
   module _ (r : Bool) (e : r ≡ allowed spec) where
-    pub refused_1 : not r ≡ true → Refused 1 ≡ file_name_answer kind spec n d
+    pub refused_1 : not r ≡ true → refuse 1 ≡ file_name_answer kind spec n d
     refused_1 t = sym (answer_picks ∙ rw (told-no e t))
 
     pub left_1 : not r ≡ true → d ≡ file_name_left kind spec n d
@@ -141,14 +141,14 @@ module _ (kind : FileKind) (spec : Sharding) (n : ℕ) (d : List ℕ) where
       is-allowed = told-yes e t
 
       module _ (b : Bool) (f : b ≡ no_such_shard spec n) where
-        pub refused_5 : b ≡ true → Refused 5 ≡ file_name_answer kind spec n d
+        pub refused_5 : b ≡ true → refuse 5 ≡ file_name_answer kind spec n d
         refused_5 h = sym (answer_picks ∙ rw (is-allowed, sym f ∙ h))
 
         pub left_5 : b ≡ true → d ≡ file_name_left kind spec n d
         left_5 h = sym (left_picks ∙ rw (is-allowed, sym f ∙ h))
 
         module _ (h : b ≡ false) where
-          pub named : (w : Written) → w ≡ written (file_name kind spec n) d → w ≡ file_name_answer kind spec n d
+          pub named : (w : Answer ℕ) → w ≡ written (file_name kind spec n) d → w ≡ file_name_answer kind spec n d
           named w q = q ∙ sym (answer_picks ∙ rw (is-allowed, sym f ∙ h))
 
           pub named-left : (s : List ℕ) → s ≡ left_by (file_name kind spec n) d → s ≡ file_name_left kind spec n d

@@ -1,9 +1,8 @@
 -- The name of an unsharded chunk (RULES G8).
-use Rattle.std.specs.Prelude.{ℕ, List, [], ◌∷◌, length}
+use Rattle.std.specs.Prelude.{ℕ, List, [], ◌∷◌, length, Ok}
 use Rattle.refusal.specs.Checks.{Check, check, answered, left}
 use Rattle.refusal.specs.Buffer.{room, over}
-use Rattle.refusal.specs.declared.Written.{Written}
-use Rattle.refusal.specs.declared.Written.TheVariants.{Length, Refused}
+use Rattle.refusal.specs.Answers.{Answer, refuse}
 use Rattle.morton.specs.grid.Answers.{no_cell}
 use Rattle.morton.specs.bounds.Bounds.{bounds_of}
 use Rattle.morton.specs.declared.bounds.Bounds.{Bounds}
@@ -28,8 +27,8 @@ unfoldable pub chunk_name_checks : Volume → Cell → List ℕ → List Check
 chunk_name_checks v c out = check 2 (no_cell v c) ∷ room (chunk_name v c) out ∷ []
 
 -- it answers the name's length
-unfoldable pub chunk_name_answer : Volume → Cell → List ℕ → Written
-chunk_name_answer v c out = answered Refused (chunk_name_checks v c out) (Length (length (chunk_name v c)))
+unfoldable pub chunk_name_answer : Volume → Cell → List ℕ → Answer ℕ
+chunk_name_answer v c out = answered refuse (chunk_name_checks v c out) (Ok (length (chunk_name v c)))
 
 -- and leaves the name at the front of the buffer
 unfoldable pub chunk_name_left : Volume → Cell → List ℕ → List ℕ

@@ -9,7 +9,7 @@ ghost use Rattle.names.specs.chunks.Chunks.{bounds_name};
 use crate::digits::Signed;
 use endian;
 use morton::bounds::Bounds;
-use refusal::Written;
+use refusal::Refusal;
 
 // Where a cell begins and ends on one axis.
 #[derive(Clone, Copy)]
@@ -79,18 +79,18 @@ fn put_spans(out: &mut [u8], at: usize, x: Span, y: Span, z: Span) -> usize
 }
 
 // The spans' text at the front of the buffer.
-fn spans_name(x: Span, y: Span, z: Span, out: &mut [u8]) -> Written
+fn spans_name(x: Span, y: Span, z: Span, out: &mut [u8]) -> Result<usize, Refusal>
     ensures value { result ≡ written (spans_text x y z) out.old }
     ensures out_after { out.new ≡ left_by (spans_text x y z) out.old }
 {
     if out.len() < spans_len(x, y, z) {
-        return Written::Refused(13);
+        return Err(Refusal::NoRoom);
     }
-    Written::Length(put_spans(out, 0, x, y, z))
+    Ok(put_spans(out, 0, x, y, z))
 }
 
 // The name of a chunk whose bounds are known.
-pub fn bounds_name(bounds: Bounds, out: &mut [u8]) -> Written
+pub fn bounds_name(bounds: Bounds, out: &mut [u8]) -> Result<usize, Refusal>
     ensures value { result ≡ written (bounds_name bounds) out.old }
     ensures out_after { out.new ≡ left_by (bounds_name bounds) out.old }
 {

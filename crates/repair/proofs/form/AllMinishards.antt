@@ -1,5 +1,5 @@
 -- All minishards: the loops that add up lengths and that write.
-use Rattle.std.proofs.Common.{◌≡◌, ℕ, zero, suc, ◌+◌, ◌-◌, ◌*◌, ◌^◌, ◌<◌, ◌≤◌, true, List, [], ◌∷◌, ◌++◌, length, sym, refl, ap, ◌∙◌, add-one, arith, w64, Fits, rules, falls}
+use Rattle.std.proofs.Common.{◌≡◌, ℕ, zero, suc, ◌+◌, ◌-◌, ◌*◌, ◌^◌, ◌<◌, ◌≤◌, true, List, [], ◌∷◌, ◌++◌, length, sym, refl, ap, ◌∙◌, add-one, arith, w64, Fits, rules}
 use native.Mathlib.Nat.{sub-zero}
 use Rattle.refusal.specs.Buffer.{over}
 use Rattle.endian.specs.Little.{row}
@@ -79,7 +79,7 @@ summed {f} {n} {m} h l = let g = h.most in omega (arith, h.left, length_none f n
 pub each-one : {spec : Sharding} {shard : ℕ} {ia da ib db : List ℕ} {n m : ℕ} → SoundInOneEach spec shard ia da ib db n → m < n → SoundInOne spec shard ia da ib db m
 each-one a l = a.each _ l
 
-pub ruleset summing = (summing_first, summing_next, summing_most, summed, each-one, falls, rules)
+pub ruleset summing = (summing_first, summing_next, summing_most, summed, each-one, rules)
 
 -- ---- the loop that writes: out₀ is the output where it begins; out is the output now
 
@@ -161,7 +161,7 @@ module _ (spec : Sharding) (shard : ℕ) (ia da ib db : List ℕ) {n : ℕ} {out
   pub chosen-most : m < n → length_by (chosen spec shard ia da ib db) n ≤ most_shard_bytes → part_length_of (chosen spec shard ia da ib db m) ≤ most_shard_bytes
   chosen-most l g = one-most h b l g
 
-pub ruleset writing = (writing_first, writing_next, each-one, chosen-room, chosen-most, place-fits, end_fits, end_is, all_there, falls, rules)
+pub ruleset writing = (writing_first, writing_next, each-one, chosen-room, chosen-most, place-fits, end_fits, end_is, all_there, rules)
 
 -- ---- of n minishards, where n is the number that the specification gives
 

@@ -1,5 +1,5 @@
 -- Walks over the entries of minishards: an item sought, all sought, two walks in step.
-use Rattle.std.proofs.Common.{◌≡◌, ℕ, suc, ◌+◌, ◌%◌, ◌^◌, ◌<◌, ◌≤◌, Bool, true, false, not, List, length, sym, refl, ap, ◌∙◌, subst, ⊎_elim, not-suc-le-zero, eq-or-lt_of_le, arith, rules, falls}
+use Rattle.std.proofs.Common.{◌≡◌, ℕ, suc, ◌+◌, ◌%◌, ◌^◌, ◌<◌, ◌≤◌, Bool, true, false, not, List, length, sym, refl, ap, ◌∙◌, subst, ⊎_elim, not-suc-le-zero, eq-or-lt_of_le, arith, rules}
 use mathlib.Core.List.Memᴰ
 use borrow.Author.Tests.{not-true, not-false}
 use Rattle.sharding.specs.declared.Sharding.{Sharding}
@@ -83,7 +83,7 @@ module _ {spec : Sharding} {x : Item} {d : List ℕ} {s n i own at : ℕ} (h : S
   pub seeking_end : n ≤ i → Tells (Member x (items_at spec d s n)) false
   seeking_end l = tells-no (λ m. let r = member-item spec d s n m in h.none r.entry (omega (arith, r.before)) (sym r.is))
 
-pub ruleset seeking = (seeking_first, seeking_walk, entry-inside, entry-led, seeking_hit, seeking_next, seeking_end, falls, rules)
+pub ruleset seeking = (seeking_first, seeking_walk, entry-inside, entry-led, seeking_hit, seeking_next, seeking_end, rules)
 
 -- ---- each of the n entries at s of d sought among the k at t of b
 
@@ -111,7 +111,7 @@ module _ {spec : Sharding} {d : List ℕ} {s n : ℕ} {b : List ℕ} {t k i own 
   pub covering_end : n ≤ i → Tells (AllIn spec d s n b t k) true
   covering_end l = tells-yes (λ j m. h.all j (omega arith))
 
-pub ruleset covering = (covering_first, covering_walk, entry-inside, entry-led, covering_miss, covering_next, covering_end, falls, rules)
+pub ruleset covering = (covering_first, covering_walk, entry-inside, entry-led, covering_miss, covering_next, covering_end, rules)
 
 -- ---- the n entries at s of d, and beside them those at t of b
 
@@ -144,4 +144,4 @@ module _ {spec : Sharding} {d : List ℕ} {s : ℕ} {b : List ℕ} {t n i end at
   pub stepping_end : n ≤ i → Tells (InStep spec d s b t n) true
   stepping_end l = tells-yes (λ j m. h.all j (omega arith))
 
-pub ruleset stepping = (stepping_first, stepping_walk, stepping_beside, entry-inside, entry-led, stepping_miss, stepping_next, stepping_end, falls, rules)
+pub ruleset stepping = (stepping_first, stepping_walk, stepping_beside, entry-inside, entry-led, stepping_miss, stepping_next, stepping_end, rules)

@@ -1,5 +1,5 @@
 -- Bytes, chunks and items that are the same.
-use Rattle.std.proofs.Common.{◌≡◌, ℕ, suc, ◌+◌, ◌-◌, ◌<◌, ◌≤◌, Bool, true, false, not, List, [], ◌∷◌, ◌++◌, length, get_or, take, drop, sym, refl, ap, ◌∙◌, subst, true≢false, add-one, arith, length-drop, length-take, get_or-drop, get_or-take, take-suc, rules, falls}
+use Rattle.std.proofs.Common.{◌≡◌, ℕ, suc, ◌+◌, ◌-◌, ◌<◌, ◌≤◌, Bool, true, false, not, List, [], ◌∷◌, ◌++◌, length, get_or, take, drop, sym, refl, ap, ◌∙◌, subst, true≢false, add-one, arith, length-drop, length-take, get_or-drop, get_or-take, take-suc, rules}
 use mathlib.Core.Bool.{false≢true}
 use borrow.Author.Tests.{not-true, not-false}
 use Rattle.sharding.specs.declared.Sharding.{Sharding}
@@ -17,36 +17,6 @@ tells-no n = record { yes = λ e. absurd (false≢true e); no = λ e. n }
 
 pub tells_as : {P Q : Type 0} {b : Bool} → (P → Q) → (Q → P) → Tells P b → Tells Q b
 tells_as f g t = record { yes = λ e. f (t.yes e); no = λ e q. t.no e (g q) }
-
--- ---- bytes
-
--- the loop's head: k bytes are the same
-pub record Agreeing (a : List ℕ) (i : ℕ) (b : List ℕ) (j n k : ℕ) : Type 0 where
-  pub below : k ≤ n
-  pub so : take k (drop i a) ≡ take k (drop j b)
-
-pub agreeing_first : (a : List ℕ) (i : ℕ) (b : List ℕ) (j n : ℕ) → Agreeing a i b j n 0
-agreeing_first a i b j n = record { below = omega arith; so = refl }
-
-module _ {a : List ℕ} {i : ℕ} {b : List ℕ} {j n k : ℕ} (h : Agreeing a i b j n k) where
-  pub agreeing_next : k < n → i + n ≤ length a → j + n ≤ length b → get_or a (i + k) 0 ≡ get_or b (j + k) 0 → Agreeing a i b j n (k + 1)
-  agreeing_next l u v e =
-      let x = length-drop i a in
-      let y = length-drop j b in
-      let p : take (suc k) (drop i a) ≡ take k (drop i a) ++ (get_or a (i + k) 0 ∷ []) = take-suc (drop i a) k 0 (omega arith) ∙ rw (get_or-drop i a k 0) in
-      let q : take (suc k) (drop j b) ≡ take k (drop j b) ++ (get_or b (j + k) 0 ∷ []) = take-suc (drop j b) k 0 (omega arith) ∙ rw (get_or-drop j b k 0) in
-      record { below = omega arith; so = rw (add-one k, p, q, h.so, e) }
-
-  pub agreeing_fails : k < n → (get_or a (i + k) 0 ≡ get_or b (j + k) 0 → ⊥) → Tells (take n (drop i a) ≡ take n (drop j b)) false
-  agreeing_fails l ne =
-      tells-no (λ e. ne (sym (get_or-drop i a k 0) ∙ sym (get_or-take n (drop i a) k 0 l) ∙ ap (λ (z : List ℕ). get_or z k 0) e ∙ get_or-take n (drop j b) k 0 l ∙ get_or-drop j b k 0))
-
-  pub agreeing_done : n ≤ k → Tells (take n (drop i a) ≡ take n (drop j b)) true
-  agreeing_done l =
-      let e : k ≡ n = omega (arith, h.below) in
-      tells-yes (rw e at h.so)
-
-pub ruleset agreeing = (agreeing_first, agreeing_next, agreeing_fails, agreeing_done, falls, rules)
 
 -- ---- chunks
 

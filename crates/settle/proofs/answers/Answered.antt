@@ -5,10 +5,13 @@ use mathlib.Core.Option.{Option, none, some}
 use Rattle.refusal.specs.Choice.{pick}
 use Rattle.refusal.specs.Checks.{Check, first_number, first_position, unless, answered, left, refusal, answered_at}
 use Rattle.refusal.specs.Buffer.{over}
-use Rattle.refusal.specs.declared.Written.{Written}
-use Rattle.refusal.specs.declared.Written.TheVariants.{Length as Wrote, Refused as NotWritten}
-use Rattle.refusal.proofs.Picks.{by_picks}
-use Rattle.refusal.proofs.Refusing.{answered-both}
+use Rattle.std.specs.Prelude.{Ok}
+use Rattle.refusal.specs.Answers.{Answer, refuse}
+use Rattle.std.proofs.Common.{ap}
+use Rattle.refusal.specs.Table.{last}
+use Rattle.refusal.proofs.Table.{number-refusal}
+use Rattle.refusal.proofs.Picks.{all_in, all_in_lem, by_picks}
+use Rattle.refusal.proofs.Refusing.{answered-both, first-most}
 use Rattle.refusal.proofs.Positions.{Plain, at_both, at_plain}
 use Rattle.sharding.specs.declared.Sharding.{Sharding}
 use Rattle.shard.specs.index.Index.{most_shard_bytes}
@@ -52,14 +55,14 @@ not-long n out h g = rw (le-ltb (length out) n h, le-ltb most_shard_bytes n g)
 -- a shard of two parts
 module _ (spec : Sharding) (index d : List ℕ) (dropping : Bool) where
   pub length-in : length_in spec index d dropping
-      ≡ pick (loses_bytes spec index d dropping) (NotWritten 22) (pick (ltb most_shard_bytes (form_length spec index d)) (NotWritten 13) (Wrote (form_length spec index d)))
+      ≡ pick (loses_bytes spec index d dropping) (refuse 22) (pick (ltb most_shard_bytes (form_length spec index d)) (refuse 13) (Ok (form_length spec index d)))
   unfolding length_in unlisted_check length_check
-  length-in = by_picks NotWritten (unlisted_check spec index d dropping ∷ length_check spec index d ∷ []) (Wrote (form_length spec index d)) refl
+  length-in = by_picks refuse (unlisted_check spec index d dropping ∷ length_check spec index d ∷ []) (Ok (form_length spec index d)) refl
 
   pub settle-in : (out : List ℕ) → settle_in spec index d dropping out
-      ≡ pick (loses_bytes spec index d dropping) (NotWritten 22) (pick (too_long (form_length spec index d) out) (NotWritten 13) (Wrote (form_length spec index d)))
+      ≡ pick (loses_bytes spec index d dropping) (refuse 22) (pick (too_long (form_length spec index d) out) (refuse 13) (Ok (form_length spec index d)))
   unfolding settle_in unlisted_check settle_check
-  settle-in out = by_picks NotWritten (unlisted_check spec index d dropping ∷ settle_check spec index d out ∷ []) (Wrote (form_length spec index d)) refl
+  settle-in out = by_picks refuse (unlisted_check spec index d dropping ∷ settle_check spec index d out ∷ []) (Ok (form_length spec index d)) refl
 
   pub left_in_lem : (out : List ℕ) → left_in spec index d dropping out
       ≡ pick (loses_bytes spec index d dropping) out (pick (too_long (form_length spec index d) out) out (over (form_of spec index d) out))
@@ -89,13 +92,13 @@ left_at checks after before = go (first_position checks)
     go (some p) = refl
 
 -- 22 and 13, which have none
-answer-unless : (k : ℕ) (w : Written) → unless Refused k (answer_of w) ≡ answer_of (unless NotWritten k w)
+answer-unless : (k : ℕ) (w : Answer ℕ) → k ≤ last → unless Refused k (answer_of w) ≡ answer_of (unless refuse k w)
 unfolding unless
-answer-unless zero w = refl
-answer-unless (suc k) w = refl
+answer-unless zero w l = refl
+answer-unless (suc k) w l = ap Refused (sym (number-refusal (suc k) (omega arith, l)))
 
-last-answer : (cs : List Check) (n : ℕ) → Plain cs → answered_at Refused Faulty cs (Count n) ≡ answer_of (answered NotWritten cs (Wrote n))
-last-answer cs n e = at_plain Refused Faulty cs (Count n) e ∙ answer-unless (first_number cs) (Wrote n)
+last-answer : (cs : List Check) (n : ℕ) → all_in cs ≡ true → Plain cs → answered_at Refused Faulty cs (Count n) ≡ answer_of (answered refuse cs (Ok n))
+last-answer cs n i e = at_plain Refused Faulty cs (Count n) e ∙ answer-unless (first_number cs) (Ok n) (first-most cs (all_in_lem cs i))
 
 module _ (spec : Sharding) (shard : ℕ) (file : List ℕ) (dropping : Bool) where
   pub length_by_check : length_answer spec shard file dropping
@@ -104,7 +107,7 @@ module _ (spec : Sharding) (shard : ℕ) (file : List ℕ) (dropping : Bool) whe
   length_by_check =
       let cs = unlisted_check spec (index_part spec file) (data_part spec file) dropping ∷ length_check spec (index_part spec file) (data_part spec file) ∷ [] in
       at_both Refused Faulty (shard_checks spec shard file) cs _ (shard_in spec shard file)
-      ∙ rw (last-answer cs (file_form_length spec file) (refl, (refl, tt))) (by_check Refused Faulty _ spec shard file)
+      ∙ rw (last-answer cs (file_form_length spec file) refl (refl, (refl, tt))) (by_check Refused Faulty _ spec shard file)
 
   pub settle_by_check : (out : List ℕ) → settle_answer spec shard file dropping out
       ≡ after_check Refused Faulty (check_answer spec shard file) (answer_of (settle_in spec (index_part spec file) (data_part spec file) dropping out))
@@ -112,7 +115,7 @@ module _ (spec : Sharding) (shard : ℕ) (file : List ℕ) (dropping : Bool) whe
   settle_by_check out =
       let cs = unlisted_check spec (index_part spec file) (data_part spec file) dropping ∷ settle_check spec (index_part spec file) (data_part spec file) out ∷ [] in
       at_both Refused Faulty (shard_checks spec shard file) cs _ (shard_in spec shard file)
-      ∙ rw (last-answer cs (file_form_length spec file) (refl, (refl, tt))) (by_check Refused Faulty _ spec shard file)
+      ∙ rw (last-answer cs (file_form_length spec file) refl (refl, (refl, tt))) (by_check Refused Faulty _ spec shard file)
 
   pub left_by_check : (out : List ℕ) → settle_left spec shard file dropping out
       ≡ after_check (λ k. out) (λ k p. out) (check_answer spec shard file) (left_in spec (index_part spec file) (data_part spec file) dropping out)
@@ -133,7 +136,7 @@ module _ {spec : Sharding} {shard : ℕ} {file : List ℕ} (sound : SoundShard s
   goes_on : {A : Type 0} (r : ℕ → A) (at : ℕ → ℕ → A) (a : A) → after_check r at (check_answer spec shard file) a ≡ a
   goes_on r at a = rw (sound-passes-check spec shard file sound)
 
-  pick-answer : (b : Bool) (n : ℕ) → answer_of (pick b (NotWritten 13) (Wrote n)) ≡ pick b (Refused 13) (Count n)
+  pick-answer : (b : Bool) (n : ℕ) → answer_of (pick b (refuse 13) (Ok n)) ≡ pick b (Refused 13) (Count n)
   pick-answer true n = refl
   pick-answer false n = refl
 

@@ -1,5 +1,5 @@
 -- The lengths of a shard's minishards, and a turn over the minishards that adds them up.
-use Rattle.std.proofs.Common.{◌≡◌, ℕ, suc, ◌+◌, ◌-◌, ◌*◌, ◌/◌, ◌<◌, ◌≤◌, true, ◌⊎◌, List, [], ◌∷◌, length, refl, ap, ◌∙◌, ⊎_elim, eq-or-lt_of_le, add-one, arith, rules, falls}
+use Rattle.std.proofs.Common.{◌≡◌, ℕ, suc, ◌+◌, ◌-◌, ◌*◌, ◌/◌, ◌<◌, ◌≤◌, true, ◌⊎◌, List, [], ◌∷◌, length, refl, ap, ◌∙◌, ⊎_elim, eq-or-lt_of_le, add-one, arith, rules}
 use native.Mathlib.Nat.{sub-zero}
 use Rattle.sharding.specs.declared.Sharding.{Sharding}
 use Rattle.sharding.specs.Specification.{allowed, minishard_count_of}
@@ -126,7 +126,7 @@ summing_next {spec} {index} {d} {n} {m} {sum} h l len {sum'} el e =
 pub summed : {spec : Sharding} {index d : List ℕ} {n m sum : ℕ} → Summing spec index d n m sum → n ≤ m → sum ≡ capped (whole_length spec index d n)
 summed {spec} {index} {d} {n} {m} h l = let g = h.most in omega (arith, h.left, length_none spec index d n m l)
 
-pub ruleset summing = (summing_first, summing_next, summed, each_at, entry_at, falls, rules)
+pub ruleset summing = (summing_first, summing_next, summed, each_at, entry_at, rules)
 
 -- ---- of n minishards, where n is the number that the specification gives
 

@@ -1,7 +1,8 @@
 -- What settling a shard of two parts answers and leaves, by the way that it is reached.
 use Rattle.std.proofs.Common.{◌≡◌, ℕ, ◌<◌, ◌≤◌, Bool, true, false, ltb, List, length, sym, ◌∙◌, inl, arith, length-take-le, rules, le-ltb, lt-ltb}
 use Rattle.refusal.specs.Buffer.{over}
-use Rattle.refusal.specs.declared.Written.TheVariants.{Length as Wrote, Refused as NotWritten}
+use Rattle.std.specs.Prelude.{Ok}
+use Rattle.refusal.specs.Answers.{refuse}
 use Rattle.sharding.specs.declared.Sharding.{Sharding}
 use Rattle.shard.specs.index.Index.{most_shard_bytes}
 use Rattle.shard.specs.File.{index_length_of, index_part, data_part}
@@ -36,10 +37,10 @@ module _ (spec : Sharding) (index d : List ℕ) (dropping : Bool) where
 
   module _ {b : Bool} (e : b ≡ loses_bytes spec index d dropping) where
     module _ (t : b ≡ true) where
-      pub length_losing : NotWritten 22 ≡ length_in spec index d dropping
+      pub length_losing : refuse 22 ≡ length_in spec index d dropping
       length_losing = sym (length-in spec index d dropping ∙ rw (sym e ∙ t))
 
-      pub settle_losing : (out : List ℕ) → NotWritten 22 ≡ settle_in spec index d dropping out
+      pub settle_losing : (out : List ℕ) → refuse 22 ≡ settle_in spec index d dropping out
       settle_losing out = sym (settle-in spec index d dropping out ∙ rw (sym e ∙ t))
 
       pub left_losing : (out : List ℕ) → out ≡ left_in spec index d dropping out
@@ -51,19 +52,19 @@ module _ (spec : Sharding) (index d : List ℕ) (dropping : Bool) where
       abbrev n : ℕ
       n = form_length spec index d
 
-      pub length-refused : most_shard_bytes < len → NotWritten 13 ≡ length_in spec index d dropping
+      pub length-refused : most_shard_bytes < len → refuse 13 ≡ length_in spec index d dropping
       length-refused l = sym (length-in spec index d dropping ∙ rw (sym e ∙ t, lt-ltb most_shard_bytes n (omega arith)))
 
-      pub length-given : len ≤ most_shard_bytes → Wrote len ≡ length_in spec index d dropping
+      pub length-given : len ≤ most_shard_bytes → Ok len ≡ length_in spec index d dropping
       length-given l =
           let q : len ≡ n = omega arith in
           sym (length-in spec index d dropping ∙ rw (sym e ∙ t, q, le-ltb most_shard_bytes n (omega arith)))
 
       module _ (out : List ℕ) where
-        pub long-refused : most_shard_bytes < len → NotWritten 13 ≡ settle_in spec index d dropping out
+        pub long-refused : most_shard_bytes < len → refuse 13 ≡ settle_in spec index d dropping out
         long-refused l = sym (settle-in spec index d dropping out ∙ rw (sym e ∙ t, long-file n out (omega arith)))
 
-        pub short-refused : length out < len → NotWritten 13 ≡ settle_in spec index d dropping out
+        pub short-refused : length out < len → refuse 13 ≡ settle_in spec index d dropping out
         short-refused l = sym (settle-in spec index d dropping out ∙ rw (sym e ∙ t, long_out n out (omega arith)))
 
         pub long-left : most_shard_bytes < len → out ≡ left_in spec index d dropping out
@@ -73,7 +74,7 @@ module _ (spec : Sharding) (index d : List ℕ) (dropping : Bool) where
         short-left l = sym (left_in_lem spec index d dropping out ∙ rw (sym e ∙ t, long_out n out (omega arith)))
 
         module _ (u : len ≤ most_shard_bytes) (v : len ≤ length out) where
-          pub form-given : {r : ℕ} → r ≡ form_length spec index d → Wrote r ≡ settle_in spec index d dropping out
+          pub form-given : {r : ℕ} → r ≡ form_length spec index d → Ok r ≡ settle_in spec index d dropping out
           form-given q = rw q (sym (settle-in spec index d dropping out ∙ rw (sym e ∙ t, not-long n out (omega arith) (omega arith))))
 
           pub form-left : {o : List ℕ} → o ≡ over (form_of spec index d) out → o ≡ left_in spec index d dropping out

@@ -1,10 +1,10 @@
 -- What settling answers and leaves: the refusals of the check, with their position, then 22 unless the caller asks to drop unlisted bytes, then 13
 -- (RULES U5, U6).
-use Rattle.std.specs.Prelude.{ℕ, Bool, not, ◌&&◌, ◌||◌, List, [], ◌∷◌, ◌++◌, length, nat_lt}
+use Rattle.std.specs.Prelude.{ℕ, Bool, not, ◌&&◌, ◌||◌, List, [], ◌∷◌, ◌++◌, length, nat_lt, Ok, Err}
 use Rattle.refusal.specs.Checks.{Check, check, answered, left, answered_at}
 use Rattle.refusal.specs.Buffer.{over}
-use Rattle.refusal.specs.declared.Written.{Written}
-use Rattle.refusal.specs.declared.Written.TheVariants.{Length as Wrote, Refused as NotWritten}
+use Rattle.refusal.specs.Answers.{Answer, refuse}
+use Rattle.refusal.specs.Table.{number_of}
 use Rattle.sharding.specs.declared.Sharding.{Sharding}
 use Rattle.shard.specs.index.Index.{most_shard_bytes}
 use Rattle.shard.specs.File.{index_part, data_part, shard_checks}
@@ -14,9 +14,9 @@ use Rattle.refusal.specs.declared.CountAnswer.{CountAnswer}
 use Rattle.refusal.specs.declared.CountAnswer.TheVariants.{Count, Refused, Faulty}
 
 -- what a writer answered, as an answer of settling
-abbrev pub answer_of : Written → CountAnswer
-answer_of (Wrote n) = Count n
-answer_of (NotWritten k) = Refused k
+abbrev pub answer_of : Answer ℕ → CountAnswer
+answer_of (Ok n) = Count n
+answer_of (Err k) = Refused (number_of k)
 
 -- ---- a shard of two parts that passed the check: 22 and 13 are left
 
@@ -32,8 +32,8 @@ unlisted_check spec index d dropping = check 22 (loses_bytes spec index d droppi
 unfoldable pub length_check : Sharding → List ℕ → List ℕ → Check
 length_check spec index d = check 13 (nat_lt most_shard_bytes (form_length spec index d))
 
-unfoldable pub length_in : Sharding → List ℕ → List ℕ → Bool → Written
-length_in spec index d dropping = answered NotWritten (unlisted_check spec index d dropping ∷ length_check spec index d ∷ []) (Wrote (form_length spec index d))
+unfoldable pub length_in : Sharding → List ℕ → List ℕ → Bool → Answer ℕ
+length_in spec index d dropping = answered refuse (unlisted_check spec index d dropping ∷ length_check spec index d ∷ []) (Ok (form_length spec index d))
 
 -- a form of n bytes is longer than the output or than 1 GiB
 unfoldable pub too_long : ℕ → List ℕ → Bool
@@ -42,8 +42,8 @@ too_long n out = nat_lt (length out) n || nat_lt most_shard_bytes n
 unfoldable pub settle_check : Sharding → List ℕ → List ℕ → List ℕ → Check
 settle_check spec index d out = check 13 (too_long (form_length spec index d) out)
 
-unfoldable pub settle_in : Sharding → List ℕ → List ℕ → Bool → List ℕ → Written
-settle_in spec index d dropping out = answered NotWritten (unlisted_check spec index d dropping ∷ settle_check spec index d out ∷ []) (Wrote (form_length spec index d))
+unfoldable pub settle_in : Sharding → List ℕ → List ℕ → Bool → List ℕ → Answer ℕ
+settle_in spec index d dropping out = answered refuse (unlisted_check spec index d dropping ∷ settle_check spec index d out ∷ []) (Ok (form_length spec index d))
 
 -- the output then: the form and, past it, what was there; refused, all that was there
 unfoldable pub left_in : Sharding → List ℕ → List ℕ → Bool → List ℕ → List ℕ

@@ -1,5 +1,10 @@
 -- The first test that a manifest fails, from what the judge gave; and the lesser of two failures, as the code finds it.
 use Rattle.std.proofs.Common.{◌≡◌, ℕ, ◌<◌, ◌≤◌, Bool, true, false, not, eqb, ltb, List, sym, refl, ◌∙◌, inl, inr, arith, rules, le-ltb, lt-ltb, ne_eqb}
+use Rattle.std.specs.Prelude.{Ok, Err}
+use Rattle.refusal.specs.declared.Refusal.{Refusal}
+use Rattle.refusal.specs.Table.{last, number_of}
+use Rattle.refusal.specs.Answers.{judged}
+use Rattle.refusal.proofs.Passed.{passed-none, passed-some, passed-number}
 use Rattle.refusal.specs.Choice.{pick}
 use Rattle.refusal.specs.Checks.{first_number}
 use Rattle.mesh_manifest.specs.sound.Verdict.{right_length, reals_fit, nodes_rise, manifest_checks, manifest_verdict}
@@ -23,13 +28,26 @@ by_verdict : (start : ℕ) (body : List ℕ) → manifest_number start body ≡ 
 unfolding manifest_number manifest_verdict manifest_checks first_number of_three
 by_verdict start body = three (not (right_length body)) (not (reals_fit body)) (not (nodes_rise body)) (pick (ltb start (fragments_length_of body)) 21 0)
 
-module _ (start : ℕ) (body : List ℕ) {v : ℕ} (e : v ≡ manifest_verdict body) where
-  pub judged_bad : (v ≡ 0 → ⊥) → v ≡ manifest_number start body
-  judged_bad n = e ∙ sym (by_verdict start body ∙ rw (ne_eqb (manifest_verdict body) 0 (λ z. n (e ∙ z))) refl)
+three-most : (a b c : Bool) → of_three a b c 0 ≤ last
+unfolding of_three
+three-most true b c = omega arith
+three-most false true c = omega arith
+three-most false false true = omega arith
+three-most false false false = omega arith
 
-  module _ (z : v ≡ 0) {f : ℕ} (g : f ≡ fragments_length_of body) where
+verdict-most : (body : List ℕ) → manifest_verdict body ≤ last
+unfolding manifest_verdict manifest_checks first_number of_three
+verdict-most body = three-most (not (right_length body)) (not (reals_fit body)) (not (nodes_rise body))
+
+module _ (start : ℕ) (body : List ℕ) where
+  pub judged_bad : {k : Refusal} → Err k ≡ judged (manifest_verdict body) → number_of k ≡ manifest_number start body
+  judged_bad e =
+      let some : 0 < manifest_verdict body = passed-some (manifest_verdict body) e in
+      passed-number (manifest_verdict body) e (verdict-most body) ∙ sym (by_verdict start body ∙ rw (ne_eqb (manifest_verdict body) 0 (λ z. omega arith)) refl)
+
+  module _ (e : Ok tt ≡ judged (manifest_verdict body)) {f : ℕ} (g : f ≡ fragments_length_of body) where
     none : manifest_verdict body ≡ 0
-    none = sym e ∙ z
+    none = passed-none (manifest_verdict body) e
 
     pub judged_outside : start < f → 21 ≡ manifest_number start body
     judged_outside l = sym (by_verdict start body ∙ rw (none, lt-ltb start (fragments_length_of body) (omega arith)) refl)
@@ -37,10 +55,8 @@ module _ (start : ℕ) (body : List ℕ) {v : ℕ} (e : v ≡ manifest_verdict b
     pub judged-whole : f ≤ start → 0 ≡ manifest_number start body
     judged-whole l = sym (by_verdict start body ∙ rw (none, le-ltb start (fragments_length_of body) (omega arith)) refl)
 
-pub told-sound : (body : List ℕ) {v : ℕ} → v ≡ manifest_verdict body → v ≡ 0 → manifest_verdict body ≡ 0
-told-sound body e z = sym e ∙ z
-
-pub ruleset numbers = (judged_bad, judged_outside, judged-whole, told-sound, rules)
+pub told-sound : (body : List ℕ) → Ok tt ≡ judged (manifest_verdict body) → manifest_verdict body ≡ 0
+told-sound body e = passed-none (manifest_verdict body) e
 
 -- ---- the lesser of two failures
 

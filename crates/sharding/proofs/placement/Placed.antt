@@ -10,7 +10,8 @@ use Rattle.refusal.proofs.Picks.{by_picks}
 use Rattle.murmur3.specs.Murmur.{murmur_hash}
 use Rattle.sharding.specs.declared.Sharding.{Sharding}
 use Rattle.sharding.specs.declared.placement.Place.{Place}
-use Rattle.sharding.specs.declared.placement.PlaceAnswer.TheVariants.{At, Refused}
+use Rattle.std.specs.Prelude.{Ok}
+use Rattle.refusal.specs.Answers.{refuse}
 use Rattle.sharding.specs.Specification.{murmur, allowed, minishard_count_of, shard_count_of, minishard_bits_of, shard_bits_of}
 use Rattle.sharding.specs.placement.Place.{hashed_id, shard_of, minishard_of, place_of, place_checks, place_answer}
 
@@ -40,25 +41,25 @@ shard-below spec id = rest_below _ (shard_bits_of spec) refl
 
 -- ---- the two parts of a hashed id
 
-pub minishard-bits : (spec : Sharding) (id : ℕ) {h r : ℕ} → h ≡ hashed_id spec id → r ≡ h % minishard_count_of spec → r ≡ minishard_of spec id
+pub minishard_bits_made : (spec : Sharding) (id : ℕ) {h r : ℕ} → h ≡ hashed_id spec id → r ≡ h % minishard_count_of spec → r ≡ minishard_of spec id
 unfolding minishard_of
-minishard-bits spec id p q = cc
+minishard_bits_made spec id p q = cc
 
-pub shard-bits : (spec : Sharding) (id : ℕ) {h r : ℕ} → h ≡ hashed_id spec id → r ≡ h / minishard_count_of spec % shard_count_of spec → r ≡ shard_of spec id
+pub shard_bits_made : (spec : Sharding) (id : ℕ) {h r : ℕ} → h ≡ hashed_id spec id → r ≡ h / minishard_count_of spec % shard_count_of spec → r ≡ shard_of spec id
 unfolding shard_of
-shard-bits spec id p q = cc
+shard_bits_made spec id p q = cc
 
 -- ---- the answer
 
 -- as a choice for its one check
-pub place_by_picks : (spec : Sharding) (id : ℕ) → place_answer spec id ≡ pick (not (allowed spec)) (Refused 1) (At (place_of spec id))
+pub place_by_picks : (spec : Sharding) (id : ℕ) → place_answer spec id ≡ pick (not (allowed spec)) (refuse 1) (Ok (place_of spec id))
 unfolding place_answer place_checks
-place_by_picks spec id = by_picks Refused (place_checks spec) _ refl
+place_by_picks spec id = by_picks refuse (place_checks spec) _ refl
 
-pub answer_at : (spec : Sharding) (id : ℕ) {b : Bool} {p : Place} → b ≡ allowed spec → b ≡ true → p ≡ place_of spec id → At p ≡ place_answer spec id
+pub answer_at : (spec : Sharding) (id : ℕ) {b : Bool} {p : Place} → b ≡ allowed spec → b ≡ true → p ≡ place_of spec id → Ok p ≡ place_answer spec id
 answer_at spec id e t q = rw (place_by_picks spec id, ← e, t, q)
 
-pub answer-refused : (spec : Sharding) (id : ℕ) {b : Bool} → b ≡ allowed spec → b ≡ false → Refused 1 ≡ place_answer spec id
+pub answer-refused : (spec : Sharding) (id : ℕ) {b : Bool} → b ≡ allowed spec → b ≡ false → refuse 1 ≡ place_answer spec id
 answer-refused spec id e t = rw (place_by_picks spec id, ← e, t)
 
 -- ---- of the id only the bits above the preshift count

@@ -1,9 +1,8 @@
 -- The places of many ids in one call: where nothing is refused, those that each id has alone.
-use Rattle.std.specs.Prelude.{ℕ, not, List, [], ◌∷◌, map, length}
+use Rattle.std.specs.Prelude.{ℕ, not, List, [], ◌∷◌, map, length, Ok}
 use Rattle.refusal.specs.Checks.{Check, check, answered, left}
 use Rattle.refusal.specs.Buffer.{room, over}
-use Rattle.refusal.specs.declared.Written.{Written}
-use Rattle.refusal.specs.declared.Written.TheVariants.{Length, Refused}
+use Rattle.refusal.specs.Answers.{Answer, refuse}
 use Rattle.sharding.specs.declared.Sharding.{Sharding}
 use Rattle.sharding.specs.Specification.{allowed}
 use Rattle.sharding.specs.placement.Place.{shard_of, minishard_of}
@@ -23,8 +22,8 @@ places_checks spec ids shards minishards =
     ∷ []
 
 -- how many places there are (RULES S8)
-unfoldable pub places_answer : Sharding → List ℕ → List ℕ → List ℕ → Written
-places_answer spec ids shards minishards = answered Refused (places_checks spec ids shards minishards) (Length (length ids))
+unfoldable pub places_answer : Sharding → List ℕ → List ℕ → List ℕ → Answer ℕ
+places_answer spec ids shards minishards = answered refuse (places_checks spec ids shards minishards) (Ok (length ids))
 
 -- what the lent shards then hold, and the lent minishards (RULES S8)
 unfoldable pub shards_left : Sharding → List ℕ → List ℕ → List ℕ → List ℕ

@@ -1,13 +1,13 @@
 -- From id to shard (RULES S2, S5).
-use Rattle.std.specs.Prelude.{ℕ, ◌/◌, ◌%◌, ◌^◌, not, List, [], ◌∷◌, eqb}
+use Rattle.std.specs.Prelude.{ℕ, ◌/◌, ◌%◌, ◌^◌, not, List, [], ◌∷◌, eqb, Ok, Err}
 use Rattle.refusal.specs.Choice.{pick}
 use Rattle.refusal.specs.Checks.{Check, check, answered}
 use Rattle.refusal.specs.Result.{Result, success, refused}
 use Rattle.murmur3.specs.Murmur.{murmur_hash}
 use Rattle.sharding.specs.declared.Sharding.{Sharding}
 use Rattle.sharding.specs.declared.placement.Place.{Place}
-use Rattle.sharding.specs.declared.placement.PlaceAnswer.{PlaceAnswer}
-use Rattle.sharding.specs.declared.placement.PlaceAnswer.TheVariants.{At, Refused}
+use Rattle.refusal.specs.Answers.{Answer, refuse}
+use Rattle.refusal.specs.Table.{number_of}
 use Rattle.sharding.specs.Specification.{murmur, minishard_count_of, shard_count_of, allowed}
 
 -- the hash of the id shifted right by preshift (RULES S2)
@@ -31,9 +31,9 @@ place_of spec id = record { shard = shard_of spec id; minishard = minishard_of s
 unfoldable pub place_checks : Sharding → List Check
 place_checks spec = check 1 (not (allowed spec)) ∷ []
 
-unfoldable pub place_answer : Sharding → ℕ → PlaceAnswer
-place_answer spec id = answered Refused (place_checks spec) (At (place_of spec id))
+unfoldable pub place_answer : Sharding → ℕ → Answer Place
+place_answer spec id = answered refuse (place_checks spec) (Ok (place_of spec id))
 
-abbrev pub place_result : PlaceAnswer → Result Place
-place_result (At place) = success place
-place_result (Refused k) = refused k
+abbrev pub place_result : Answer Place → Result Place
+place_result (Ok place) = success place
+place_result (Err k) = refused (number_of k)

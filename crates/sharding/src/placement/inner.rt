@@ -8,6 +8,7 @@ use crate::Sharding;
 use crate::limits::{MURMUR, minishard_count, shard_count};
 use crate::placement::Place;
 
+#[tactic(auto, using(crate::proofs::Allowed::preshift_shifts))]
 fn shifted(spec: Sharding, id: u64) -> u64
     requires { allowed spec ≡ true }
     ensures { result ≡ id / 2 ^ spec.preshift }
@@ -16,6 +17,7 @@ fn shifted(spec: Sharding, id: u64) -> u64
 }
 
 // The hash of the shifted id.
+#[tactic(auto, using(crate::proofs::placement::Placed::murmur_hashed, crate::proofs::placement::Placed::identity_hashed))]
 pub fn hashed_id(spec: Sharding, id: u64) -> u64
     requires { allowed spec ≡ true }
     ensures { (result ≡ hashed_id spec id) × (result < 2 ^ 64) }
@@ -36,6 +38,7 @@ fn minishard_in(spec: Sharding, hashed: u64) -> u64
 }
 
 // The bits above those.
+#[tactic(auto, using(crate::proofs::Allowed::minishard_shifts))]
 fn shard_in(spec: Sharding, hashed: u64) -> u64
     requires { allowed spec ≡ true }
     ensures { result ≡ hashed / minishard_count_of spec % shard_count_of spec }
@@ -43,6 +46,7 @@ fn shard_in(spec: Sharding, hashed: u64) -> u64
     (hashed >> spec.minishard_bits) % shard_count(spec)
 }
 
+#[tactic(auto, using(crate::proofs::placement::Placed::minishard_bits_made, crate::proofs::placement::Placed::rest_below))]
 pub fn minishard_of(spec: Sharding, id: u64) -> u64
     requires { allowed spec ≡ true }
     ensures { (result ≡ minishard_of spec id) × (result < minishard_count_of spec) }
@@ -50,6 +54,7 @@ pub fn minishard_of(spec: Sharding, id: u64) -> u64
     minishard_in(spec, hashed_id(spec, id))
 }
 
+#[tactic(auto, using(crate::proofs::placement::Placed::shard_bits_made, crate::proofs::placement::Placed::rest_below))]
 pub fn shard_of(spec: Sharding, id: u64) -> u64
     requires { allowed spec ≡ true }
     ensures { (result ≡ shard_of spec id) × (result < shard_count_of spec) }
@@ -57,6 +62,7 @@ pub fn shard_of(spec: Sharding, id: u64) -> u64
     shard_in(spec, hashed_id(spec, id))
 }
 
+#[tactic(auto, using(crate::proofs::placement::Placed::minishard_bits_made, crate::proofs::placement::Placed::shard_bits_made, crate::proofs::placement::Placed::rest_below))]
 pub fn place(spec: Sharding, id: u64) -> Place
     requires { allowed spec ≡ true }
     ensures { (result ≡ place_of spec id) × ((result.shard < shard_count_of spec) × (result.minishard < minishard_count_of spec)) }

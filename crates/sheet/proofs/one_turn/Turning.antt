@@ -1,28 +1,26 @@
 -- A turn, as the code makes it.
-use Prim.Native.Nat.{ℕ, suc, ◌+◌, ◌-◌, ◌≤◌, ◌<◌}
-use mathlib.Core.Path.{◌≡◌, refl, sym, ap, ◌∙◌}
-use mathlib.Core.Bool.{Bool, true, false, ◌||◌}
+use Prim.Native.Nat.{ℕ, ◌+◌, ◌≤◌, ◌<◌}
+use mathlib.Core.Path.{◌≡◌, refl, sym, ◌∙◌}
+use mathlib.Core.Bool.{Bool, true, false}
 use mathlib.Core.List.{List, ◌++◌}
 use native.Mathlib.Omega.{arith}
+use native.Mathlib.Numerals.{add-one}
 use borrow.Author.Rules.{rules}
-use borrow.Author.Tests.{lt-ltb, le-ltb, eq-eqb, ne_eqb, eqb-true, eqb-false}
-use lib.Dec.{eqb}
-use lib.IntN.{ℤ, pos}
+use borrow.Author.Tests.{lt-ltb, le-ltb, eq-eqb, ne_eqb}
 use lib.ListN.{length, get_or, take, drop}
 use lib.Seq.{length-take-le, take-append-le, drop-append_seam}
-use mir.Syntax.{w64}
-use mir.Val.{SFits, to_z, of_z}
-use mir.Facts.{to_z-of_z}
 use Rattle.endian.specs.Little.{le_at}
 use Rattle.sharding.specs.declared.Sharding.{Sharding}
 use Rattle.holdings.specs.declared.one_shard.Sheet.{Sheet}
-use Rattle.holdings.specs.declared.SheetAnswer.{SheetAnswer}
-use Rattle.holdings.specs.declared.SheetAnswer.TheVariants.{Total, Refused}
+use Rattle.std.specs.Prelude.{Ok, Err, Option, Some}
+use Rattle.refusal.specs.declared.Refusal.{Refusal}
+use Rattle.refusal.specs.Answers.{Answer}
 use Rattle.holdings.specs.one_shard.Sheet.{empty}
 use Rattle.holdings.specs.Answers.{add_answer}
-use Rattle.sheet.specs.input_end.End.{is_none}
+use Rattle.reading.specs.End.{is_end}
 use Rattle.sheet.specs.declared.one_turn.Turn.{Turn}
-use Rattle.sheet.specs.one_turn.Turns.{spec_in, body_length, more, ended, cut, too_long, full, turning, turn_by, turn_of, stops_short, told, unreadable, TurnedBy, Turned, Told, Next, Reached, begun, went, most_turns, Finished}
+use Rattle.sheet.specs.declared.one_turn.Ending.TheVariants.{More, End, Cut, Long, Full, Unreadable}
+use Rattle.sheet.specs.one_turn.Turns.{spec_in, body_length, turning, turn_by, turn_of, stops_short, told, TurnedBy, Turned, Told, Next, Reached, begun, went, most_turns, Finished}
 
 pub spec_is : (head : List ℕ) → record { preshift = get_or head 0 0; hash = get_or head 1 0; minishard_bits = get_or head 2 0; shard_bits = get_or head 3 0; kind = get_or head 4 0 } ≡ spec_in head
 unfolding spec_in
@@ -46,38 +44,38 @@ module _ (head : List ℕ) where
 
 pub ruleset asking = (none-cut, none-long, some-asked, rules)
 
-module _ (s : Sheet) {a : SheetAnswer} where
-  pub by_total : {t : Sheet} → a ≡ Total t → turning t more ≡ turn_by s a
+module _ (s : Sheet) {a : Answer Sheet} where
+  pub by_total : {t : Sheet} → a ≡ Ok t → turning t More ≡ turn_by s a
   unfolding turn_by
   by_total e = rw e
 
-  pub by_refused : {k : ℕ} → a ≡ Refused k → turning s full ≡ turn_by s a
+  pub by_refused : {k : Refusal} → a ≡ Err k → turning s Full ≡ turn_by s a
   unfolding turn_by
   by_refused e = rw e
 
 pub ruleset answering = (by_total, by_refused, rules)
 
 module _ (s : Sheet) (head body : List ℕ) where
-  pub turn-ended : length head ≡ 0 → turning s ended ≡ turn_of s head body
+  pub turn-ended : length head ≡ 0 → turning s End ≡ turn_of s head body
   unfolding turn_of
   turn-ended e = rw (eq-eqb (length head) 0 e)
 
   module _ (n : length head ≡ 0 → ⊥) where
-    pub turn-cut : length head < 17 → turning s cut ≡ turn_of s head body
+    pub turn-cut : length head < 17 → turning s Cut ≡ turn_of s head body
     unfolding turn_of
     turn-cut l = rw (ne_eqb (length head) 0 n, lt-ltb (length head) 17 l)
 
     module _ (h : 17 ≤ length head) {k : ℕ} (e : k ≡ le_at 4 head 13) where
-      pub turn-long : 65536 < k → turning s too_long ≡ turn_of s head body
+      pub turn-long : 65536 < k → turning s Long ≡ turn_of s head body
       unfolding turn_of
       turn-long l = rw (ne_eqb (length head) 0 n, le-ltb (length head) 17 h, ← e, lt-ltb 65536 k l)
 
       module _ (b : k ≤ 65536) where
-        pub turn-short : length body < k → turning s cut ≡ turn_of s head body
+        pub turn-short : length body < k → turning s Cut ≡ turn_of s head body
         unfolding turn_of
         turn-short l = rw (ne_eqb (length head) 0 n, le-ltb (length head) 17 h, ← e, le-ltb 65536 k b, lt-ltb (length body) k l)
 
-        pub turn-added : k ≤ length body → {spec : Sharding} {shard : ℕ} {a : SheetAnswer} {r : Turn} → spec ≡ spec_in head → shard ≡ le_at 8 head 5
+        pub turn-added : k ≤ length body → {spec : Sharding} {shard : ℕ} {a : Answer Sheet} {r : Turn} → spec ≡ spec_in head → shard ≡ le_at 8 head 5
             → a ≡ add_answer s spec shard body → r ≡ turn_by s a → r ≡ turn_of s head body
         unfolding turn_of
         turn-added l p q g f = rw (ne_eqb (length head) 0 n, le-ltb (length head) 17 h, ← e, le-ltb 65536 k b, le-ltb (length body) k l) (f ∙ rw (g, p, q))
@@ -115,51 +113,43 @@ pub ruleset reading = (body-read, head_read, head-short, part-long, rules)
 
 -- ---- one read more
 
-pub stops-short : (t : Turn) → (eqb t.ending 1 || eqb t.ending 2) ≡ stops_short t
-unfolding stops_short
-stops-short t = refl
-
 module _ {t : Turn} {b : Bool} (p : b ≡ stops_short t) where
   pub told-stays : b ≡ false → Told t t
-  told-stays q = record { answer = pos 0; made = rw (← p, q) }
+  told-stays q = record { answer = Some 0; made = rw (← p, q) }
 
-  pub told_by : {r : Turn} (z : ℤ) → b ≡ true → r ≡ told t z → Told t r
+  pub told_by : {r : Turn} (z : Option ℕ) → b ≡ true → r ≡ told t z → Told t r
   told_by z q f = record { answer = z; made = rw (← p, q) f }
 
 pub next-told : {s : Sheet} {head before body : List ℕ} {t r : Turn} → Turned s head before body t → Told t r → Next s head before body r
 next-told {t = t} p q = record { turn = t; turned = p; told = q }
 
--- the answer as a local holds it
-module _ (t : Turn) (z : ℤ) {b : Bool} (p : b ≡ is_none (to_z w64 (of_z w64 z))) (f : SFits w64 z) where
+module _ (t : Turn) (z : Option ℕ) {b : Bool} (p : b ≡ is_end z) where
   pub told-end : b ≡ true → t ≡ told t z
   unfolding told
-  told-end q = rw (← ap is_none (to_z-of_z f), ← p, q)
+  told-end q = rw (← p, q)
 
-  pub told-unreadable : b ≡ false → turning t.sheet unreadable ≡ told t z
+  pub told-unreadable : b ≡ false → turning t.sheet Unreadable ≡ told t z
   unfolding told
-  told-unreadable q = rw (← ap is_none (to_z-of_z f), ← p, q)
+  told-unreadable q = rw (← p, q)
 
-pub ruleset telling = (stops-short, told-stays, told_by, next-told, told-end, told-unreadable, rules)
+pub ruleset telling = (told-stays, told_by, next-told, told-end, told-unreadable, rules)
 
 -- ---- turn after turn
 
--- so many turns were made, and so many are left
-pub record Turning (left : ℕ) (r : Turn) : Type 0 where
-  pub turns : ℕ
+-- so many turns were made
+pub record Turning (turns : ℕ) (r : Turn) : Type 0 where
   pub reached : Reached turns r
-  pub counted : turns + left ≡ most_turns
 
-pub reach_first : {s : Sheet} → s ≡ empty → Turning most_turns (turning s more)
-reach_first e = record { turns = 0; reached = rw e begun; counted = refl }
+pub reach_first : {s : Sheet} → s ≡ empty → Turning 0 (turning s More)
+reach_first e = record { reached = rw e begun }
 
-pub reach_next : {left : ℕ} {t r : Turn} {head before body : List ℕ} → Turning left t → 0 < left → eqb t.ending 0 ≡ true
-    → Next t.sheet head before body r → Turning (left - 1) r
-reach_next {t = t} h l e q = record { turns = suc h.turns; reached = went h.reached (eqb-true t.ending 0 e) q; counted = omega (arith, h.counted) }
+pub reach_next : {turns : ℕ} {t r : Turn} {head before body : List ℕ} → Turning turns t → t.ending ≡ More → Next t.sheet head before body r → Turning (turns + 1) r
+reach_next {turns = turns} h e q = record { reached = rw (add-one turns) (went h.reached e q) }
 
-pub reach_used : {left : ℕ} {t : Turn} → Turning left t → left ≤ 0 → Finished t
-reach_used h l = record { turns = h.turns; reached = h.reached; last = λ e. omega (arith, h.counted) }
+pub reach_used : {turns : ℕ} {t : Turn} → Turning turns t → turns ≤ most_turns → most_turns ≤ turns → Finished t
+reach_used {turns = turns} h l m = record { turns = turns; reached = h.reached; last = λ e. omega arith }
 
-pub reach_last : {left : ℕ} {t : Turn} → Turning left t → eqb t.ending 0 ≡ false → Finished t
-reach_last {t = t} h e = record { turns = h.turns; reached = h.reached; last = λ p. absurd (eqb-false t.ending 0 e p) }
+pub reach_last : {turns : ℕ} {t : Turn} → Turning turns t → (t.ending ≡ More → ⊥) → Finished t
+reach_last {turns = turns} h n = record { turns = turns; reached = h.reached; last = λ e. absurd (n e) }
 
 pub ruleset reaching = (reach_first, reach_next, reach_used, reach_last, rules)

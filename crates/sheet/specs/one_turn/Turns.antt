@@ -1,15 +1,16 @@
 -- What the program `sheet` makes of its input, shard by shard (RULES H5; docs/SHEET.md fixes the input).
-use Rattle.std.specs.Prelude.{ℕ, suc, ◌-◌, ◌^◌, ◌≤◌, ◌≡◌, Bool, ◌||◌, List, ltb, eqb, ℤ, length, get_or, take, drop}
+use Rattle.std.specs.Prelude.{ℕ, suc, ◌-◌, ◌^◌, ◌≤◌, ◌≡◌, Bool, true, false, List, ltb, eqb, length, get_or, take, drop, Option, Ok, Err}
 use Rattle.refusal.specs.Choice.{pick}
 use Rattle.endian.specs.Little.{le_at}
 use Rattle.sharding.specs.declared.Sharding.{Sharding}
 use Rattle.holdings.specs.declared.one_shard.Sheet.{Sheet}
-use Rattle.holdings.specs.declared.SheetAnswer.{SheetAnswer}
-use Rattle.holdings.specs.declared.SheetAnswer.TheVariants.{Total, Refused}
+use Rattle.refusal.specs.Answers.{Answer}
 use Rattle.holdings.specs.one_shard.Sheet.{empty}
 use Rattle.holdings.specs.Answers.{add_answer}
-use Rattle.sheet.specs.input_end.End.{is_none}
+use Rattle.reading.specs.End.{is_end}
 use Rattle.sheet.specs.declared.one_turn.Turn.{Turn}
+use Rattle.sheet.specs.declared.one_turn.Ending.{Ending}
+use Rattle.sheet.specs.declared.one_turn.Ending.TheVariants.{More, End, Cut, Long, Full, Unreadable}
 
 -- a shard's header: preshift, hash, minishard bits, shard bits and kind, one byte each, its number of 8 bytes and its length of 4, little-endian
 abbrev pub header_bytes : ℕ
@@ -30,39 +31,21 @@ most_bytes = 65536
 
 -- ---- a turn: the header and the shard's bytes, as far as they were there
 
--- there may be another shard; the input ended, was cut, or has a shard that is too long; a total would pass 2^64 - 1; the input could not be read on
-abbrev pub more : ℕ
-more = 0
-
-abbrev pub ended : ℕ
-ended = 1
-
-abbrev pub cut : ℕ
-cut = 2
-
-abbrev pub too_long : ℕ
-too_long = 3
-
-abbrev pub full : ℕ
-full = 4
-
-abbrev pub unreadable : ℕ
-unreadable = 5
-
-abbrev pub turning : Sheet → ℕ → Turn
+-- what comes after it is an `Ending` (src/one_turn.rt)
+abbrev pub turning : Sheet → Ending → Turn
 turning sheet ending = record { sheet = sheet; ending = ending }
 
-unfoldable pub turn_by : Sheet → SheetAnswer → Turn
-turn_by sheet (Total next) = turning next more
-turn_by sheet (Refused k) = turning sheet full
+unfoldable pub turn_by : Sheet → Answer Sheet → Turn
+turn_by sheet (Ok next) = turning next More
+turn_by sheet (Err k) = turning sheet Full
 
 -- RULES H5
 unfoldable pub turn_of : Sheet → List ℕ → List ℕ → Turn
 turn_of sheet head body =
-    pick (eqb (length head) 0) (turning sheet ended)
-    (pick (ltb (length head) header_bytes) (turning sheet cut)
-    (pick (ltb most_bytes (length_in head)) (turning sheet too_long)
-    (pick (ltb (length body) (length_in head)) (turning sheet cut)
+    pick (eqb (length head) 0) (turning sheet End)
+    (pick (ltb (length head) header_bytes) (turning sheet Cut)
+    (pick (ltb most_bytes (length_in head)) (turning sheet Long)
+    (pick (ltb (length body) (length_in head)) (turning sheet Cut)
     (turn_by sheet (add_answer sheet (spec_in head) (number_in head) body)))))
 
 -- how many bytes are to be read behind a header; none where it is cut or says too many
@@ -71,11 +54,19 @@ body_length head = pick (ltb (length head) header_bytes) 0 (pick (ltb most_bytes
 
 -- ---- what is told of a turn that found fewer bytes than it asked for: their count does not tell the input's end from a read that failed
 
-unfoldable pub stops_short : Turn → Bool
-stops_short t = eqb t.ending ended || eqb t.ending cut
+abbrev pub is_short : Ending → Bool
+is_short More = false
+is_short End = true
+is_short Cut = true
+is_short Long = false
+is_short Full = false
+is_short Unreadable = false
 
-unfoldable pub told : Turn → ℤ → Turn
-told t answer = pick (is_none answer) t (turning t.sheet unreadable)
+abbrev pub stops_short : Turn → Bool
+stops_short t = is_short t.ending
+
+unfoldable pub told : Turn → Option ℕ → Turn
+told t answer = pick (is_end answer) t (turning t.sheet Unreadable)
 
 -- ---- of the functions that read
 
@@ -97,7 +88,7 @@ pub record Turned (sheet : Sheet) (head before body : List ℕ) (r : Turn) : Typ
 
 -- one that stopped short, by the answer of one read more; any other stays
 pub record Told (t r : Turn) : Type 0 where
-  pub answer : ℤ
+  pub answer : Option ℕ
   pub made : r ≡ pick (stops_short t) (told t answer) t
 
 pub record Next (sheet : Sheet) (head before body : List ℕ) (r : Turn) : Type 0 where
@@ -107,8 +98,8 @@ pub record Next (sheet : Sheet) (head before body : List ℕ) (r : Turn) : Type 
 
 -- where n turns lead that begin with an empty sheet; one that ended the input is the last
 pub data Reached : ℕ → Turn → Type 0 where
-  begun : Reached 0 (turning empty more)
-  went : {n : ℕ} {t r : Turn} {head before body : List ℕ} → Reached n t → t.ending ≡ more → Next t.sheet head before body r → Reached (suc n) r
+  begun : Reached 0 (turning empty More)
+  went : {n : ℕ} {t r : Turn} {head before body : List ℕ} → Reached n t → t.ending ≡ More → Next t.sheet head before body r → Reached (suc n) r
 
 -- the program counts its turns down from this number
 abbrev pub most_turns : ℕ
@@ -118,4 +109,4 @@ most_turns = 2 ^ 64 - 1
 pub record Finished (r : Turn) : Type 0 where
   pub turns : ℕ
   pub reached : Reached turns r
-  pub last : (r.ending ≡ more) → turns ≡ most_turns
+  pub last : (r.ending ≡ More) → turns ≡ most_turns

@@ -6,7 +6,7 @@ use mathlib.Core.List.{List, ◌++◌}
 use lib.ListN.{length}
 use borrow.Author.Rules.{rules}
 use Rattle.refusal.specs.Checks.{first_number, unless}
-use Rattle.refusal.specs.declared.Written.{Written}
+use Rattle.refusal.specs.Answers.{Answer}
 use Rattle.sharding.specs.declared.Sharding.{Sharding}
 use Rattle.sharding.specs.Specification.{no_such_shard}
 use Rattle.shard.specs.declared.CheckAnswer.{CheckAnswer}
@@ -106,16 +106,16 @@ module _ (spec : Sharding) (shard : ℕ) (index d : List ℕ) where
       pub unlisted-given : {n : ℕ} → n ≡ unlisted_bytes spec index d → U.Count n ≡ pair_unlisted spec shard index d
       unlisted-given h = rw (unlisted-after, ← e, q, seamed_front spec index d measured, seamed_back spec index d measured) (ap (λ (k : ℕ). U.Count k) h)
 
-      module _ (dropping : Bool) {w : Written} {r : CountAnswer} (g : r ≡ answer_of w) where
+      module _ (dropping : Bool) {w : Answer ℕ} {r : CountAnswer} (g : r ≡ answer_of w) where
         pub length-given : w ≡ length_in spec index d dropping → r ≡ pair_length spec shard index d dropping
         length-given h =
             rw (length-after dropping, ← e, q, seamed_front spec index d measured, seamed_back spec index d measured)
-            (g ∙ ap (λ (x : Written). answer_of x) h)
+            (g ∙ ap (λ (x : Answer ℕ). answer_of x) h)
 
         pub settle-given : (out : List ℕ) → w ≡ settle_in spec index d dropping out → r ≡ pair_settle spec shard index d dropping out
         settle-given out h =
             rw (settle-after dropping out, ← e, q, seamed_front spec index d measured, seamed_back spec index d measured)
-            (g ∙ ap (λ (x : Written). answer_of x) h)
+            (g ∙ ap (λ (x : Answer ℕ). answer_of x) h)
 
       pub left-given : (dropping : Bool) (out : List ℕ) {o : List ℕ} → o ≡ left_in spec index d dropping out → o ≡ pair_settle_left spec shard index d dropping out
       left-given dropping out h = rw (left_after dropping out, ← e, q, seamed_front spec index d measured, seamed_back spec index d measured) h

@@ -18,7 +18,8 @@ use Rattle.morton.specs.bounds.Bounds.{cell_begin, cell_end, begin_point, end_po
 use Rattle.morton.specs.grid.Answers.{no_cell, grid_checks, grid_answer}
 use Rattle.morton.specs.Answers.{key_checks, key_answer, cell_checks, cell_answer, cell_result}
 use Rattle.morton.specs.bounds.Answers.{bounds_checks, bounds_answer}
-use Rattle.morton.specs.declared.CellAnswer.TheVariants.{At, Refused as NoCell}
+use Rattle.std.specs.Prelude.{Ok}
+use Rattle.refusal.specs.Answers.{refuse}
 use Rattle.morton.proofs.Laws.{only-key_0}
 use Rattle.sharding.specs.Specification.{allowed}
 use Rattle.sharding.specs.placement.Place.{hashed_id, shard_of, minishard_of, place_checks, place_answer}
@@ -51,7 +52,7 @@ use Rattle.mesh_manifest.specs.corners.Boxes.{near_corner, far_corner, box_of, p
 use Rattle.theorems.specs.cases.Cases.{Case, answered, table, cells, at, voxels, shifted, buffer, content, settled_file, other_file, zeros, real, manifest}
 
 -- a grid of one cell has no key but 0
-told : (b : Bool) (c : Cell) → cell_result (pick b (At c) (NoCell 4)) ≡ pick b (success c) (refused 4)
+told : (b : Bool) (c : Cell) → cell_result (pick b (Ok c) (refuse 4)) ≡ pick b (success c) (refused 4)
 told true c = refl
 told false c = refl
 

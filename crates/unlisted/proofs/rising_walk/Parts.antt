@@ -2,7 +2,6 @@
 use Rattle.std.proofs.Common.{◌≡◌, ℕ, zero, suc, ◌+◌, ◌-◌, ◌*◌, ◌/◌, ◌%◌, ◌^◌, ◌<◌, ◌≤◌, Bool, true, false, ◌||◌, List, take, drop, sym, refl, ◌∙◌, add-one, arith, rules}
 use mathlib.Core.Bool.{or-false, or_comm}
 use Rattle.refusal.specs.Choice.{pick}
-use Rattle.endian.specs.Little.{le_at}
 use Rattle.endian.specs.Range.{sum_to, any_below}
 use Rattle.endian.proofs.Ranges.{any_none}
 use Rattle.bitmap.specs.Positions.{within}
@@ -10,15 +9,12 @@ use Rattle.bitmap.proofs.Within.{within-empty}
 use Rattle.sharding.specs.declared.Sharding.{Sharding}
 use Rattle.sharding.specs.Specification.{minishard_count_of}
 use Rattle.shard.specs.index.Index.{entry_start_of, entry_end_of, entry_count}
-use Rattle.shard.specs.Items.{lead_length_of}
 use Rattle.unlisted.specs.declared.rising_walk.Run.{Run}
 use Rattle.unlisted.specs.ranges.Covered.{in_items, in_minishard, covered_by, covered_in, covered_at}
 use Rattle.unlisted.specs.declared.stretches.Stretch.{Stretch}
-use Rattle.unlisted.specs.stretches.Reading.{Ranged}
 use Rattle.unlisted.specs.stretches.Stretches.{Stretched}
 use Rattle.unlisted.specs.rising_walk.Order.{Tells, Extends, in_part, part_by, part_at}
 use Rattle.unlisted.proofs.stretches.Covering.{items_none, each_ranged}
-use Rattle.unlisted.proofs.stretches.Walk.{Walk, walk_first, walk_inside, walk-led, walk-fits, walk-next, walk-test}
 use Rattle.unlisted.proofs.rising_walk.Runs.{tells_as, extends_as, extends_none, extends_then, extends_broken}
 
 -- ---- entries
@@ -31,18 +27,6 @@ stretch_over t e x = extends_as x (λ p. sym (t.told e p))
 -- one by one
 pub items_first : (spec : Sharding) (d : List ℕ) (s n : ℕ) (run : Run) → run.gaps ≤ run.to → Extends (in_items spec d s n 0) run run
 items_first spec d s n run h = extends_none run h (items_none spec d s n)
-
-pub items_next : {spec : Sharding} {d : List ℕ} {s n k i end a : ℕ} {run at next : Run} → Ranged spec d s n → Walk d s n k i end → i < k
-    → (u v t : ℕ) → u ≡ le_at 8 d (s + 8 * n + 8 * i) → t ≡ (end + u) % 2 ^ 64 → v ≡ le_at 8 d (s + 16 * n + 8 * i)
-    → a ≡ t - lead_length_of spec (take v (drop t d))
-    → Extends (in_items spec d s n i) run at → Extends (within a (t + v)) at next → Extends (in_items spec d s n (i + 1)) run next
-items_next r w l u v t eu et ev e x y = extends_then x y (walk-test r w l u v t eu et ev e)
-
-pub items_last : (spec : Sharding) {d : List ℕ} {s n k i end : ℕ} {run at : Run} → Walk d s n k i end → k ≤ i
-    → Extends (in_items spec d s n i) run at → Extends (in_items spec d s n k) run at
-items_last spec {d} {s} {n} {k} {i} w h x = let e : i ≡ k = omega (arith, w.below) in rw e at x
-
-pub ruleset going = (walk_first, walk_inside, walk-led, walk-fits, walk-next, items_first, items_next, items_last, extends_broken, rules)
 
 -- ---- a minishard
 

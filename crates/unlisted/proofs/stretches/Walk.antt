@@ -1,9 +1,8 @@
 -- A walk over the entries of a minishard index: where their chunks start, and which bytes their items hold.
-use Rattle.std.proofs.Common.{◌≡◌, ℕ, ◌+◌, ◌-◌, ◌*◌, ◌%◌, ◌^◌, ◌<◌, ◌≤◌, Bool, true, not, ◌||◌, List, length, take, drop, refl, ap, ◌∙◌, add-one, arith, w64, Fits}
+use Rattle.std.proofs.Common.{◌≡◌, ℕ, ◌+◌, ◌-◌, ◌*◌, ◌%◌, ◌^◌, ◌<◌, ◌≤◌, Bool, true, not, ◌||◌, List, length, take, drop, add-one, arith}
 use borrow.Author.Tests.{not-true}
 use Rattle.endian.specs.Little.{le_at}
 use Rattle.endian.specs.Range.{sum_to, any_below}
-use Rattle.endian.proofs.Ranges.{sum_step}
 use Rattle.bitmap.specs.Positions.{within}
 use Rattle.sharding.specs.declared.Sharding.{Sharding}
 use Rattle.shard.specs.index.Index.{start_steps, sizes, start_at}
@@ -21,17 +20,6 @@ pub record Walk (d : List ℕ) (s n k i end : ℕ) : Type 0 where
   pub below : i ≤ k
   pub walked : end ≡ (sum_to (start_steps d s n) i + sum_to (sizes d s n) i) % 2 ^ 64
 
-pub walk_first : (d : List ℕ) (s n k : ℕ) → k ≤ n → Walk d s n k 0 0
-unfolding sum_to
-walk_first d s n k h = record { most = h; below = omega arith; walked = refl }
-
-pub walk-all : (d : List ℕ) (s n : ℕ) → Walk d s n n 0 0
-walk-all d s n = walk_first d s n n (omega arith)
-
--- a sum modulo 2^64 goes on, by what does not wrap
-walk-on : (a b end u v t : ℕ) → end ≡ (a + b) % 2 ^ 64 → t ≡ (end + u) % 2 ^ 64 → t + v < 2 ^ 64 → t + v ≡ (a + u + (b + v)) % 2 ^ 64
-walk-on a b end u v t p q l = omega arith
-
 -- u and v are its start step and its size as they were read, t is where its chunk starts
 module _ {spec : Sharding} {d : List ℕ} {s n k i end : ℕ} (r : Ranged spec d s n) (h : Walk d s n k i end) (l : i < k)
     (u v t : ℕ) (eu : u ≡ le_at 8 d (s + 8 * n + 8 * i)) (et : t ≡ (end + u) % 2 ^ 64) (ev : v ≡ le_at 8 d (s + 16 * n + 8 * i)) where
@@ -44,18 +32,6 @@ module _ {spec : Sharding} {d : List ℕ} {s n k i end : ℕ} (r : Ranged spec d
 
   pub walk-led : Led spec d t v
   walk-led = rw (walk_start, ← ev) at (r.led i (omega (arith, h.most)))
-
-  pub walk-fits : Fits w64 (t + v)
-  walk-fits = record { fits = omega (arith, walk_inside, r.short) }
-
-  pub walk-next : Walk d s n k (i + 1) (t + v)
-  walk-next = record {
-    most = h.most;
-    below = omega arith;
-    walked =
-        walk-on (sum_to (start_steps d s n) i) (sum_to (sizes d s n) i) end u v t h.walked et (omega (arith, walk_inside, r.short))
-        ∙ ap (λ (k : ℕ). k % 2 ^ 64) (omega (arith, eu, ev, sum_step (start_steps d s n) i, sum_step (sizes d s n) i));
-  }
 
   walk-item : item_start spec d s n i ≡ t - lead_length_of spec (take v (drop t d))
   unfolding item_start

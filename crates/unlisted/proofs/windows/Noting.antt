@@ -1,6 +1,5 @@
 -- Noting the ranges of a shard in a window of its data.
 use Rattle.std.proofs.Common.{◌≡◌, ℕ, ◌+◌, ◌-◌, ◌*◌, ◌/◌, ◌%◌, ◌^◌, ◌<◌, ◌≤◌, min, Bool, true, false, ◌||◌, ltb, leb, ◌⊎◌, List, length, take, drop, sym, refl, ap, ◌∙◌, inl, inr, ⊎_elim, arith, rules, ltb-false, leb-false, leb-true}
-use Rattle.endian.specs.Little.{le_at}
 use Rattle.bitmap.specs.Positions.{within, after, misses}
 use Rattle.bitmap.specs.window.Window.{span, noted, Notes, Clear}
 use Rattle.bitmap.proofs.Within.{same_test, within-yes, within-before, within-past, within-from, within-to, within-empty}
@@ -11,10 +10,8 @@ use Rattle.sharding.specs.Specification.{minishard_count_of}
 use Rattle.shard.specs.index.Index.{entry_start_of, entry_end_of, most_shard_bytes}
 use Rattle.shard.specs.Items.{lead_length_of, MayLead}
 use Rattle.unlisted.specs.ranges.Covered.{in_items, in_minishard, covered_in, covered_at}
-use Rattle.unlisted.specs.stretches.Reading.{Ranged}
 use Rattle.unlisted.specs.windows.Windows.{Limit, Meets}
 use Rattle.unlisted.proofs.stretches.Covering.{items_none, none_read, some_read, covered_none, covered_next, each_ranged}
-use Rattle.unlisted.proofs.stretches.Walk.{Walk, walk-all, walk_inside, walk-led, walk-fits, walk-next, walk-test}
 
 after_then : (lo : ℕ) (f g h : ℕ → Bool) → ((p : ℕ) → f p || g p ≡ h p) → (i : ℕ) → after lo f i || after lo g i ≡ after lo h i
 unfolding after
@@ -96,19 +93,11 @@ item_late spec lo start size d e m = rw e at m
 pub items_first : (ws : List ℕ) (lo : ℕ) (spec : Sharding) (d : List ℕ) (s n : ℕ) → Notes ws ws (after lo (in_items spec d s n 0))
 items_first ws lo spec d s n = notes_none ws (λ i l. after_none lo (in_items spec d s n 0) (items_none spec d s n) i)
 
-pub items_next : {spec : Sharding} {d : List ℕ} {s n i end : ℕ} (lo : ℕ) {p q r : List ℕ} → Ranged spec d s n → Walk d s n n i end → i < n
-    → (u v t : ℕ) → u ≡ le_at 8 d (s + 8 * n + 8 * i) → t ≡ (end + u) % 2 ^ 64 → v ≡ le_at 8 d (s + 16 * n + 8 * i)
-    → Notes p q (after lo (in_items spec d s n i)) → Notes q r (after lo (within (t - lead_length_of spec (take v (drop t d))) (t + v)))
-    → Notes p r (after lo (in_items spec d s n (i + 1)))
-items_next {spec} {d} {s} {n} {i} lo g w l u v t eu et ev x y =
-    notes_then x y
-    (λ j k. after_then lo (in_items spec d s n i) (within (t - lead_length_of spec (take v (drop t d))) (t + v)) (in_items spec d s n (i + 1)) (walk-test g w l u v t eu et ev refl) j)
-
-pub items_last : (spec : Sharding) {d : List ℕ} {s n i end : ℕ} (lo : ℕ) {p q : List ℕ} → Walk d s n n i end → n ≤ i
-    → Notes p q (after lo (in_items spec d s n i)) → Notes p q (after lo (in_items spec d s n n))
-items_last spec {d} {s} {n} {i} lo w h x = let e : i ≡ n = omega (arith, w.below) in rw e at x
-
-pub ruleset going = (walk-all, walk_inside, walk-led, walk-fits, walk-next, items_first, items_next, items_last, rules)
+pub items_next : (spec : Sharding) (d : List ℕ) (s n i a b lo : ℕ) {p q r : List ℕ}
+    → ((p : ℕ) → in_items spec d s n i p || within a b p ≡ in_items spec d s n (i + 1) p)
+    → Notes p q (after lo (in_items spec d s n i)) → Notes q r (after lo (within a b)) → Notes p r (after lo (in_items spec d s n (i + 1)))
+items_next spec d s n i a b lo e x y =
+    notes_then x y (λ j k. after_then lo (in_items spec d s n i) (within a b) (in_items spec d s n (i + 1)) e j)
 
 -- ---- a minishard
 

@@ -1,18 +1,15 @@
 -- `card::writing::write_card` meets its contract.
-use Rattle.card.proofs.Judged.{judging}
+use Rattle.std.proofs.Common.{◌∙◌}
+use Rattle.refusal.proofs.Passed.{handed}
+use Rattle.card.proofs.Judged.{write_refused, refused-left, write_written, written-left}
 use Rattle.card.proofs.writing.write_card.Goals as goal
 
-pub judge-number-requires : goal.judge-number-requires
-judge-number-requires c = search judging
-
-pub returns-then-number-ne0 : goal.returns-then-number-ne0
-returns-then-number-ne0 c = search judging
-
-pub write-requires : goal.write-requires
-write-requires c = search judging
-
-pub shape_of-out : goal.shape_of-out
-shape_of-out c = search judging
+pub returns-in_err-judge : goal.returns-in_err-judge
+returns-in_err-judge c =
+    let refused = c.in_err-judge.ensures in
+    record { answer = handed c.from_residual.ensures ∙ write_refused _ _ _ refused; out = refused-left _ _ _ refused }
 
 pub returns : goal.returns
-returns c = search judging
+returns c =
+    let passed = c.in_ok-judge.ensures in
+    record { answer = write_written _ _ passed c.write.ensures.value; out = written-left _ _ passed c.write.ensures.out_after }

@@ -1,6 +1,5 @@
-use native.Mathlib.Omega.{arith}
 use Rattle.compressed_segmentation.proofs.packed_values.Packed.{per_some, width-most}
-use Rattle.compressed_segmentation.proofs.raw_form.Filled.{filled_start, filled_next, filled_same, filled_place, filled_end}
+use Rattle.compressed_segmentation.proofs.raw_form.Filled.{filled_start}
 use Rattle.compressed_segmentation.proofs.block.Runs.{start_fits, start-sum-fits, start-bits-fit}
 use Rattle.compressed_segmentation.proofs.label_runs.Runs.{run_each, run_product-fits, run_from-fits, run_word-fits, run_word, run_entry, run_on}
 use borrow.Author.Rules.{rules}
@@ -39,20 +38,8 @@ word_at-requires c = search run_word
 pub bits-v-requires : goal.bits-v-requires
 bits-v-requires c = (search rules, search width-most)
 
-pub put_label-p-requires : goal.put_label-p-requires
-put_label-p-requires c = record { wide_in_bounds = search run_entry; wide_in_bounds_2 = search filled_next }
-
-pub overflow_add-u : goal.overflow_add-u
-overflow_add-u c = omega arith
-
-pub loop-u-smaller : goal.loop-u-smaller
-loop-u-smaller c = omega arith
+pub put_label-p-requires-clause-wide_in_bounds : goal.put_label-p-requires-clause-wide_in_bounds
+put_label-p-requires-clause-wide_in_bounds c = search run_entry
 
 pub loop-u-preserved : goal.loop-u-preserved
 loop-u-preserved c = search run_on
-
-pub shape_of-out : goal.shape_of-out
-shape_of-out c = search filled_same
-
-pub returns : goal.returns
-returns c = record { value = search filled_place; out_after = search filled_end }

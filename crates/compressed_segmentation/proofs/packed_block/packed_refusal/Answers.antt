@@ -1,13 +1,9 @@
 use mathlib.Core.Bool.{not}
 use mathlib.Core.Path.{ap}
-use borrow.Author.Rules.{rules}
-use borrow.Author.Tests.{not-true, not-false}
+use borrow.Author.Tests.{not-false}
 use Rattle.compressed_segmentation.proofs.packed_values.Packed.{width-most}
 use Rattle.compressed_segmentation.proofs.block.Sure.{sure-told}
 use Rattle.compressed_segmentation.proofs.packed_block.packed_refusal.Goals as goal
-
-pub returns-then-not-is_reached : goal.returns-then-not-is_reached
-returns-then-not-is_reached c = c.is_reached.ensures.value (not-true _ (ap not c.if-not-is_reached.true))
 
 pub two_to-requires : goal.two_to-requires
 two_to-requires c = search width-most
@@ -17,9 +13,3 @@ returns-then-two_to-limit c =
     let b = c in
     let reached = b.is_reached.ensures.reached (not-false _ (ap not b.if-not-is_reached.false)) in
     search sure-told
-
-pub voxels_refusal-requires : goal.voxels_refusal-requires
-voxels_refusal-requires c =
-    let b = c in
-    let reached = b.is_reached.ensures.reached (not-false _ (ap not b.if-not-is_reached.false)) in
-    record { header = search rules; reached = reached; x_nonzero = (search rules, search rules) }

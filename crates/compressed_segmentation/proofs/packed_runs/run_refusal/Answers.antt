@@ -1,6 +1,5 @@
-use native.Mathlib.Omega.{arith}
 use Rattle.compressed_segmentation.proofs.packed_values.Packed.{per_some, width-most}
-use Rattle.compressed_segmentation.proofs.block.Greatest.{greatest-none, greatest-all}
+use Rattle.compressed_segmentation.proofs.block.Greatest.{greatest-none}
 use Rattle.compressed_segmentation.proofs.block.Runs.{run_product-fits, run_from-fits, run_word-fits, run_word, start_fits, start-sum-fits, start-bits-fit, run_hit, run_still}
 use borrow.Author.Rules.{rules}
 use Rattle.compressed_segmentation.proofs.packed_runs.run_refusal.Goals as goal
@@ -21,7 +20,7 @@ pub overflow_mul-start : goal.overflow_mul-start
 overflow_mul-start c = search start_fits
 
 pub loop-u-init : goal.loop-u-init
-loop-u-init c = (omega arith, greatest-none _)
+loop-u-init c = greatest-none _
 
 pub overflow_add-b : goal.overflow_add-b
 overflow_add-b c = search start-sum-fits
@@ -41,14 +40,5 @@ bits-v-requires c = (search rules, search width-most)
 pub returns-then-limit-v : goal.returns-then-limit-v
 returns-then-limit-v c = search run_hit
 
-pub overflow_add-u : goal.overflow_add-u
-overflow_add-u c = omega arith
-
-pub loop-u-smaller : goal.loop-u-smaller
-loop-u-smaller c = omega arith
-
 pub loop-u-preserved : goal.loop-u-preserved
-loop-u-preserved c = (omega arith, search run_still)
-
-pub returns : goal.returns
-returns c = search greatest-all
+loop-u-preserved c = search run_still

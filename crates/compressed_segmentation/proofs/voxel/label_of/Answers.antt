@@ -1,4 +1,4 @@
-use Rattle.compressed_segmentation.proofs.voxel.Asked.{told-some-voxels, answer-none, answer_outside, answer-inside}
+use Rattle.compressed_segmentation.proofs.voxel.Asked.{answer-none, answer_outside, answer-inside}
 use Rattle.compressed_segmentation.proofs.voxel.label_of.Goals as goal
 
 pub returns-then-has_none : goal.returns-then-has_none
@@ -6,9 +6,6 @@ returns-then-has_none c = search answer-none
 
 pub returns-then-is_outside : goal.returns-then-is_outside
 returns-then-is_outside c = search answer_outside
-
-pub label_in-requires : goal.label_in-requires
-label_in-requires c = search told-some-voxels
 
 pub returns : goal.returns
 returns c = search answer-inside

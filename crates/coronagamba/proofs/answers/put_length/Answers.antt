@@ -1,8 +1,8 @@
 use Rattle.coronagamba.proofs.Writing.{writing}
 use Rattle.coronagamba.proofs.answers.put_length.Goals as goal
 
-pub returns-in-Length : goal.returns-in-Length
-returns-in-Length c = record { word = search writing; length = search writing }
+pub returns-in-Ok : goal.returns-in-Ok
+returns-in-Ok c = record { word = search writing; length = search writing }
 
-pub returns-in-Refused : goal.returns-in-Refused
-returns-in-Refused c = record { word = search writing; length = search writing }
+pub returns-in-Err : goal.returns-in-Err
+returns-in-Err c = record { word = search writing; length = search writing }

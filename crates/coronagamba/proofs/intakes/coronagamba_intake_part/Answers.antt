@@ -22,14 +22,14 @@ enum_known-refusal c = search parting
 pub overflow_cast-result : goal.overflow_cast-result
 overflow_cast-result c = search parting
 
-pub shape_of-out-in-Next : goal.shape_of-out-in-Next
-shape_of-out-in-Next c = search parting
+pub shape_of-out-in-Ok : goal.shape_of-out-in-Ok
+shape_of-out-in-Ok c = search parting
 
-pub returns-in-Next : goal.returns-in-Next
-returns-in-Next c = record { answer = search parting; state = search parting; out = search parting }
+pub returns-in-Ok : goal.returns-in-Ok
+returns-in-Ok c = record { answer = search parting; state = search parting; out = search parting }
 
-pub shape_of-out-in-Refused : goal.shape_of-out-in-Refused
-shape_of-out-in-Refused c = search parting
+pub shape_of-out-in-Err : goal.shape_of-out-in-Err
+shape_of-out-in-Err c = search parting
 
-pub returns-in-Refused : goal.returns-in-Refused
-returns-in-Refused c = record { answer = search parting; state = search parting; out = search parting }
+pub returns-in-Err : goal.returns-in-Err
+returns-in-Err c = record { answer = search parting; state = search parting; out = search parting }

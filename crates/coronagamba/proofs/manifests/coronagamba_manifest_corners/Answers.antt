@@ -8,19 +8,19 @@ use Rattle.coronagamba.proofs.manifests.coronagamba_manifest_corners.Goals as go
 pub three_patterns-requires : goal.three_patterns-requires
 three_patterns-requires c = search near-finite
 
-pub three_patterns-requires-in-Corners : goal.three_patterns-requires-in-Corners
-three_patterns-requires-in-Corners c = search far-finite
+pub three_patterns-requires-in-Ok : goal.three_patterns-requires-in-Ok
+three_patterns-requires-in-Ok c = search far-finite
 
-pub returns-in-Corners : goal.returns-in-Corners
+pub returns-in-Ok : goal.returns-in-Ok
 unfolding near_after far_after
-returns-in-Corners c =
+returns-in-Ok c =
     let e = c.corners_of.ensures.answer in
-    let h = c.in-Corners.is in
-    record { answer = word-success corners_result e h refl; near = c.three_patterns.ensures ∙ after near_after _ e h; far = c.three_patterns-in-Corners.ensures ∙ after far_after _ e h }
+    let h = c.in-Ok.is in
+    record { answer = word-success corners_result e h refl; near = c.three_patterns.ensures ∙ after near_after _ e h; far = c.three_patterns-in-Ok.ensures ∙ after far_after _ e h }
 
-pub returns-in-Refused : goal.returns-in-Refused
+pub returns-in-Err : goal.returns-in-Err
 unfolding near_after far_after
-returns-in-Refused c =
+returns-in-Err c =
     let e = c.corners_of.ensures.answer in
-    let h = c.in-Refused.is in
-    record { answer = word-refused corners_result e h refl; near = after near_after _ e h; far = after far_after _ e h }
+    let h = c.in-Err.is in
+    record { answer = c.number.ensures ∙ word-refused corners_result e h refl; near = after near_after _ e h; far = after far_after _ e h }

@@ -1,4 +1,4 @@
-use mathlib.Core.Path.{refl}
+use Rattle.std.proofs.Common.{refl, ap, ◌∙◌, Ok}
 use Rattle.mesh_manifest.proofs.Fields.{field-number}
 use Rattle.mesh_manifest.specs.Fields.{field_result}
 use Rattle.coronagamba.specs.Manifests.{kind_after, value_after}
@@ -6,25 +6,25 @@ use Rattle.coronagamba.proofs.Told.{word-success, word-refused, after}
 use Rattle.coronagamba.proofs.manifests.coronagamba_manifest_field.Goals as goal
 
 pub float_to_bits-value : goal.float_to_bits-value
-float_to_bits-value c = search field-number
+float_to_bits-value c = field-number _ _ c.field_of.ensures.answer (c.in-Ok-Real.is ∙ ap Ok c.in-Ok-Real.field-0-is)
 
-pub returns-in-Real : goal.returns-in-Real
+pub returns-in-Ok-Real : goal.returns-in-Ok-Real
 unfolding kind_after value_after
-returns-in-Real c =
+returns-in-Ok-Real c =
     let e = c.field_of.ensures.answer in
-    let h = c.in-Real.is in
+    let h = c.in-Ok-Real.is ∙ ap Ok c.in-Ok-Real.field-0-is in
     record { answer = word-success field_result e h refl; kind = after kind_after _ e h; value = after value_after _ e h }
 
-pub returns-in-Whole : goal.returns-in-Whole
+pub returns-in-Ok-Whole : goal.returns-in-Ok-Whole
 unfolding kind_after value_after
-returns-in-Whole c =
+returns-in-Ok-Whole c =
     let e = c.field_of.ensures.answer in
-    let h = c.in-Whole.is in
+    let h = c.in-Ok-Whole.is ∙ ap Ok c.in-Ok-Whole.field-0-is in
     record { answer = word-success field_result e h refl; kind = after kind_after _ e h; value = after value_after _ e h }
 
-pub returns-in-Refused : goal.returns-in-Refused
+pub returns-in-Err : goal.returns-in-Err
 unfolding kind_after value_after
-returns-in-Refused c =
+returns-in-Err c =
     let e = c.field_of.ensures.answer in
-    let h = c.in-Refused.is in
-    record { answer = word-refused field_result e h refl; kind = after kind_after _ e h; value = after value_after _ e h }
+    let h = c.in-Err.is in
+    record { answer = c.number.ensures ∙ word-refused field_result e h refl; kind = after kind_after _ e h; value = after value_after _ e h }

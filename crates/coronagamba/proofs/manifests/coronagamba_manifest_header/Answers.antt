@@ -1,4 +1,4 @@
-use mathlib.Core.Path.{refl}
+use mathlib.Core.Path.{refl, ◌∙◌}
 use Rattle.mesh_manifest.specs.Fields.{header_result}
 use Rattle.coronagamba.specs.Manifests.{header_after}
 use Rattle.coronagamba.proofs.Told.{word-success, word-refused, after}
@@ -8,31 +8,31 @@ use Rattle.coronagamba.proofs.manifests.coronagamba_manifest_header.Goals as goa
 pub float_to_bits-header : goal.float_to_bits-header
 float_to_bits-header c = search shape-x
 
-pub float_to_bits-header-in-Header : goal.float_to_bits-header-in-Header
-float_to_bits-header-in-Header c = search shape-y
+pub float_to_bits-header-in-Ok : goal.float_to_bits-header-in-Ok
+float_to_bits-header-in-Ok c = search shape-y
 
-pub float_to_bits-header-in-Header-2 : goal.float_to_bits-header-in-Header-2
-float_to_bits-header-in-Header-2 c = search shape-z
+pub float_to_bits-header-in-Ok-2 : goal.float_to_bits-header-in-Ok-2
+float_to_bits-header-in-Ok-2 c = search shape-z
 
-pub float_to_bits-header-in-Header-3 : goal.float_to_bits-header-in-Header-3
-float_to_bits-header-in-Header-3 c = search origin-x
+pub float_to_bits-header-in-Ok-3 : goal.float_to_bits-header-in-Ok-3
+float_to_bits-header-in-Ok-3 c = search origin-x
 
-pub float_to_bits-header-in-Header-4 : goal.float_to_bits-header-in-Header-4
-float_to_bits-header-in-Header-4 c = search origin-y
+pub float_to_bits-header-in-Ok-4 : goal.float_to_bits-header-in-Ok-4
+float_to_bits-header-in-Ok-4 c = search origin-y
 
-pub float_to_bits-header-in-Header-5 : goal.float_to_bits-header-in-Header-5
-float_to_bits-header-in-Header-5 c = search origin-z
+pub float_to_bits-header-in-Ok-5 : goal.float_to_bits-header-in-Ok-5
+float_to_bits-header-in-Ok-5 c = search origin-z
 
-pub returns-in-Header : goal.returns-in-Header
+pub returns-in-Ok : goal.returns-in-Ok
 unfolding header_after
-returns-in-Header c =
+returns-in-Ok c =
     let e = c.header_of.ensures.answer in
-    let h = c.in-Header.is in
+    let h = c.in-Ok.is in
     record { answer = word-success header_result e h refl; header = after header_after _ e h }
 
-pub returns-in-Refused : goal.returns-in-Refused
+pub returns-in-Err : goal.returns-in-Err
 unfolding header_after
-returns-in-Refused c =
+returns-in-Err c =
     let e = c.header_of.ensures.answer in
-    let h = c.in-Refused.is in
-    record { answer = word-refused header_result e h refl; header = after header_after _ e h }
+    let h = c.in-Err.is in
+    record { answer = c.number.ensures ∙ word-refused header_result e h refl; header = after header_after _ e h }

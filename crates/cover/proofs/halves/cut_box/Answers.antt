@@ -1,15 +1,8 @@
--- `cover::halves::cut_box` meets its contract.
 use Rattle.cover.proofs.halves.Ways.{cutting}
 use Rattle.cover.proofs.halves.cut_box.Goals as goal
 
 pub owner-own-requires : goal.owner-own-requires
 owner-own-requires c = search cutting
 
-pub last_below-requires : goal.last_below-requires
-last_below-requires c = search cutting
-
 pub first_above-requires : goal.first_above-requires
 first_above-requires c = search cutting
-
-pub returns : goal.returns
-returns c = search cutting

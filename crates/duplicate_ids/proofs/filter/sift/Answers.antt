@@ -6,7 +6,7 @@ use Rattle.duplicate_ids.proofs.filter.sift.Goals as goal
 use Rattle.duplicate_ids.proofs.filter.sift.Goals.{then-not-note+else-stands_before+else-vain-ge64, else-not-note}
 
 pub loop-i-init : goal.loop-i-init
-loop-i-init c = (search sum-zero, search rules, search rules, search rules, sift_start _ _)
+loop-i-init c = (search sum-zero, search rules, search rules, sift_start _ _)
 
 -- the id of entry i is noted already, and an earlier entry has it
 pub returns-then-stands_before : goal.returns-then-stands_before
@@ -15,7 +15,7 @@ returns-then-stands_before c =
     let at-note = at-search in
     let at-id = at-note in
     let at_test = at-id in
-    let inv = at_test.loop-i.invariant.4 in
+    let inv = at_test.loop-i.invariant.3 in
     record { at_value = λ _. sift_hit _ inv _ _ at-id.next_id-id.ensures at-search.stands_before.ensures c.if-stands_before.true at_test.loop-i-test.true; sure_value = λ _. refl }
 
 pub returns-then-vain-ge64 : goal.returns-then-vain-ge64
@@ -26,11 +26,10 @@ pub loop-i-preserved : goal.loop-i-preserved
 loop-i-preserved c =
     let at-note = c in
     let at-id = at-note in
-    let inv = at-id.loop-i.invariant.4 in
+    let inv = at-id.loop-i.invariant.3 in
     let e = at-id.next_id-id.ensures in
     let t = at-note.note.ensures in (
       search id-sum,
-      search rules,
       elim c.if-not-note.branch [ then-not-note+else-stands_before+else-vain-ge64 w ↦ omega arith | else-not-note w ↦ omega arith ],
       search rules,
       elim c.if-not-note.branch [
@@ -40,4 +39,4 @@ loop-i-preserved c =
     )
 
 pub returns : goal.returns
-returns c = record { at_value = λ e. sift_end _ c.loop-i.invariant.4 _ (search rules) (search rules); sure_value = λ _. refl }
+returns c = record { at_value = λ e. sift_end _ c.loop-i.invariant.3 _ (search rules) (search rules); sure_value = λ _. refl }

@@ -4,7 +4,7 @@ use Rattle.duplicate_ids.proofs.ids.Ids.{sum-zero, id-sum, any-end, stands_hit, 
 use Rattle.duplicate_ids.proofs.ids.stands_before.Goals as goal
 
 pub loop-j-init : goal.loop-j-init
-loop-j-init c = (search sum-zero, search rules, search any_none)
+loop-j-init c = (search sum-zero, search any_none)
 
 -- entry j has it
 pub returns-then-id-x : goal.returns-then-id-x
@@ -14,8 +14,8 @@ returns-then-id-x c = stands_hit _ _ _ _ c.next_id-id.ensures c.if-id-x.true (se
 pub loop-j-preserved : goal.loop-j-preserved
 loop-j-preserved c =
     let at-id = c in
-    let inv = at-id.loop-j.invariant.2 in
-    (search id-sum, search rules, stands-turn _ _ _ inv at-id.next_id-id.ensures c.if-id-x.false)
+    let inv = at-id.loop-j.invariant.1 in
+    (search id-sum, stands-turn _ _ _ inv at-id.next_id-id.ensures c.if-id-x.false)
 
 pub returns : goal.returns
 returns c = search any-end

@@ -1,11 +1,9 @@
-use Rattle.info.proofs.numbers.Numbering.{numbering}
+use Rattle.std.proofs.Common.{rules}
+use Rattle.info.proofs.numbers.Numbering.{digit_sub, digit_small}
 use Rattle.info.proofs.numbers.digit.Goals as goal
 
-pub overflow_sub-result : goal.overflow_sub-result
-overflow_sub-result c = search numbering
-
-pub overflow_cast-result : goal.overflow_cast-result
-overflow_cast-result c = search numbering
+pub overflow_sub-b : goal.overflow_sub-b
+overflow_sub-b c = search digit_sub
 
 pub returns : goal.returns
-returns c = search numbering
+returns c = search (digit_small, rules)

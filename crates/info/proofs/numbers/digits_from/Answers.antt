@@ -1,44 +1,30 @@
-use Rattle.info.proofs.numbers.Numbering.{decimals}
+use Rattle.info.proofs.numbers.Numbering.{read-start, is_digit_b, read_goes, read-ends, product-wide, sum-wide, read-on, read-past}
+use Rattle.std.proofs.Common.{arith}
 use Rattle.info.proofs.numbers.digits_from.Goals as goal
 
-pub loop-p-init : goal.loop-p-init
-loop-p-init c = search decimals
-
-pub byte-b-requires : goal.byte-b-requires
-byte-b-requires c = search decimals
-
-pub is_digit-requires : goal.is_digit-requires
-is_digit-requires c = search decimals
-
-pub goes_on-requires : goal.goes_on-requires
-goes_on-requires c = search decimals
-
-pub returns-then-goes_on : goal.returns-then-goes_on
-returns-then-goes_on c = search decimals
-
-pub overflow_cast-result : goal.overflow_cast-result
-overflow_cast-result c = search decimals
-
-pub returns-then-not-is_digit : goal.returns-then-not-is_digit
-returns-then-not-is_digit c = search decimals
-
-pub overflow_mul-v : goal.overflow_mul-v
-overflow_mul-v c = search decimals
+pub loop-i-init : goal.loop-i-init
+loop-i-init c = search read-start
 
 pub digit-requires : goal.digit-requires
-digit-requires c = search decimals
+digit-requires c = search is_digit_b
 
-pub overflow_add-v : goal.overflow_add-v
-overflow_add-v c = search decimals
+pub returns-then-goes_on : goal.returns-then-goes_on
+returns-then-goes_on c = search read_goes
 
-pub overflow_add-i : goal.overflow_add-i
-overflow_add-i c = search decimals
+pub returns-else-goes_on : goal.returns-else-goes_on
+returns-else-goes_on c = search read-ends
 
-pub returns-then-v-ge4294967296 : goal.returns-then-v-ge4294967296
-returns-then-v-ge4294967296 c = search decimals
+pub returns-in_err-checked_mul : goal.returns-in_err-checked_mul
+returns-in_err-checked_mul c = product-wide c.loop-i.invariant c.is_digit.ensures c.if-not-is_digit.false c.from_residual.ensures c.in_err-checked_mul.ensures
 
-pub loop-p-smaller : goal.loop-p-smaller
-loop-p-smaller c = search decimals
+pub returns-in_err-n : goal.returns-in_err-n
+returns-in_err-n c =
+    sum-wide c.loop-i.invariant c.is_digit.ensures c.if-not-is_digit.false c.in_ok-checked_mul.ensures.1 c.digit.ensures.0 c.from_residual-in_err-n.ensures c.in_err-n.ensures
 
-pub loop-p-preserved : goal.loop-p-preserved
-loop-p-preserved c = search decimals
+pub loop-i-preserved : goal.loop-i-preserved
+loop-i-preserved c =
+    let e = c.in_ok-n.ensures in
+    read-on c.loop-i.invariant c.is_digit.ensures c.if-not-is_digit.false c.in_ok-checked_mul.ensures.1 c.digit.ensures.0 e.1 (omega (arith, e.0, e.1))
+
+pub returns : goal.returns
+returns c = search read-past

@@ -1,10 +1,6 @@
-use Prim.Native.Nat.{◌-◌}
-use lib.ListN.{length}
+-- What is kept: the digits from p up to i write n.
 use Rattle.info.proofs.numbers.Numbering.{Reading}
 use Rattle.info.proofs.numbers.digits_from.Given as goal
 
-abbrev pub invariant-loop-p : goal.invariant-loop-p
-invariant-loop-p l = Reading l.s l.p l.v l.i
-
-abbrev pub decreases-loop-p : goal.decreases-loop-p
-decreases-loop-p l = length l.s - l.i
+abbrev pub invariant-loop-i : goal.invariant-loop-i
+invariant-loop-i l = Reading l.s l.p l.n l.i

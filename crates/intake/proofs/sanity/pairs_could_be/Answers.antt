@@ -19,23 +19,17 @@ returns-then-not-can_follow c = search sharing
 pub overflow_mul-i : goal.overflow_mul-i
 overflow_mul-i c = search sharing
 
-pub overflow_add-i : goal.overflow_add-i
-overflow_add-i c = search sharing
-
 pub read_u64-size-requires : goal.read_u64-size-requires
 read_u64-size-requires c = search sharing
 
 pub returns-then-left-size : goal.returns-then-left-size
 returns-then-left-size c = search sharing
 
-pub overflow_add-i-in-loop-i : goal.overflow_add-i-in-loop-i
-overflow_add-i-in-loop-i c = search sharing
-
-pub loop-i-smaller : goal.loop-i-smaller
-loop-i-smaller c = search sharing
-
 pub loop-i-preserved : goal.loop-i-preserved
 loop-i-preserved c = search sharing
 
 pub returns : goal.returns
 returns c = search sharing
+
+pub overflow_add-i : goal.overflow_add-i
+overflow_add-i c = search sharing

@@ -16,11 +16,5 @@ put_pair-requires c = search admitting
 pub overflow_add-next : goal.overflow_add-next
 overflow_add-next c = search admitting
 
-pub shape_of-out : goal.shape_of-out
-shape_of-out c = search admitting
-
-pub shape_of-waiting : goal.shape_of-waiting
-shape_of-waiting c = search admitting
-
 pub returns : goal.returns
 returns c = record { value = search admitting; out_after = search admitting; waiting_after = search admitting }

@@ -1,19 +1,9 @@
 use borrow.Author.Rules.{rules}
-use Rattle.json_text.proofs.tokens.Steps.{along_start, along_fits, along_less, along_on, along_end}
-use Rattle.json_text.proofs.tokens.Laws.{ws-zero}
+use Rattle.json_text.specs.tokens.Bytes.{is_ws}
+use Rattle.json_text.proofs.tokens.Laws.{span_found}
 use Rattle.json_text.proofs.tokens.skip_ws.Goals as goal
 
-pub loop-i-init : goal.loop-i-init
-loop-i-init c = search along_start
-
-pub overflow_add-i : goal.overflow_add-i
-overflow_add-i c = search (along_fits, ws-zero, rules)
-
-pub loop-i-smaller : goal.loop-i-smaller
-loop-i-smaller c = search (along_less, ws-zero)
-
-pub loop-i-preserved : goal.loop-i-preserved
-loop-i-preserved c = search (along_on, ws-zero)
-
 pub returns : goal.returns
-returns c = search along_end
+returns c =
+    let e = c.skip_class.ensures in
+    span_found is_ws c.args.s.now c.args.at e.range (λ k a l. let x = e.passed k a l in search rules) (λ l. let x = e.stopped l in search rules)

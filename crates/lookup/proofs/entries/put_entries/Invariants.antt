@@ -12,6 +12,3 @@ invariant-loop-i l =
     × (length l.out ≡ length l.initial.out)
     × (paste (3 * l.i) (triples_from l.base l.data l.p l.n l.i (l.n - l.i)) l.out
     ≡ paste 0 (triples_from l.base l.data l.p l.n 0 l.n) l.initial.out)
-
-abbrev pub decreases-loop-i : goal.decreases-loop-i
-decreases-loop-i l = l.n - l.i

@@ -1,4 +1,4 @@
-use Rattle.std.proofs.Common.{arith}
+use Rattle.std.proofs.Common.{refl, arith}
 use Rattle.shard.proofs.index.Tally.{tally-start, tally-turn}
 use Rattle.lookup.proofs.id_search.Seek.{seek_start, seek_hit, seek_turn, seek_end}
 use Rattle.lookup.proofs.row_judge.Laws.{row-place-fits}
@@ -13,31 +13,16 @@ overflow_add-result c = search row-place-fits
 -- entry i has the id: its start and size are the answer
 pub returns-then-cur-id : goal.returns-then-cur-id
 returns-then-cur-id c =
-    let at_size = c in
-    let at-start = at_size in
-    let at-id = at-start in
-    let at_test = at-id in
-    let v = at_test.loop-i.invariant in
-    seek_hit _ _ _ _ _ v.0 v.1 at_test.loop-i-test.true at-id.id_step.ensures.0 at-start.wrapping_add_u64-cur.ensures.value
-    at-start.start_step.ensures.0 at_size.wrapping_add_u64-start.ensures.value at_size.size_of-size.ensures.0 c.if-cur-id.true
-
-pub overflow_add-i : goal.overflow_add-i
-overflow_add-i c = omega arith
-
-pub loop-i-smaller : goal.loop-i-smaller
-loop-i-smaller c = omega arith
+    let v = c.loop-i.invariant in
+    seek_hit _ _ _ _ _ v.0 v.1 c.loop-i-test.true c.id_step-cur.ensures.0 refl
+    c.start_step.ensures.0 refl c.size_of-size.ensures.0 c.if-cur-id.true
 
 -- it has another
 pub loop-i-preserved : goal.loop-i-preserved
 loop-i-preserved c =
-    let at_size = c in
-    let at-start = at_size in
-    let at-id = at-start in
-    let v = at-id.loop-i.invariant in
-    let id = at-start.wrapping_add_u64-cur.ensures.value in
-    let start = at_size.wrapping_add_u64-start.ensures.value in (
-      tally-turn v.0 (omega arith) at-id.id_step.ensures.0 id at-start.start_step.ensures.0 start at_size.size_of-size.ensures.0 c.wrapping_add_u64-at.ensures.value,
-      seek_turn v.0 _ at-id.id_step.ensures.0 id v.1 c.if-cur-id.false,
+    let v = c.loop-i.invariant in (
+      tally-turn v.0 (omega arith) c.id_step-cur.ensures.0 refl c.start_step.ensures.0 refl c.size_of-size.ensures.0 refl,
+      seek_turn v.0 _ c.id_step-cur.ensures.0 refl v.1 c.if-cur-id.false,
     )
 
 pub returns : goal.returns

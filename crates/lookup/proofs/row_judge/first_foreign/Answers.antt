@@ -1,4 +1,3 @@
-use Rattle.std.proofs.Common.{arith}
 use Rattle.shard.proofs.Walks.{walk_start, walk_end, ours-turn, ours_hit}
 use Rattle.lookup.proofs.row_judge.first_foreign.Goals as goal
 
@@ -7,12 +6,6 @@ loop-j-init c = walk_start _ _ _
 
 pub returns-then-is_foreign : goal.returns-then-is_foreign
 returns-then-is_foreign c = search ours_hit
-
-pub overflow_add-j : goal.overflow_add-j
-overflow_add-j c = omega arith
-
-pub loop-j-smaller : goal.loop-j-smaller
-loop-j-smaller c = omega arith
 
 pub loop-j-preserved : goal.loop-j-preserved
 loop-j-preserved c = search ours-turn

@@ -14,12 +14,6 @@ returns-then-room-start-2 c = search span-past
 pub overflow_add-end : goal.overflow_add-end
 overflow_add-end c = omega arith
 
-pub overflow_add-k : goal.overflow_add-k
-overflow_add-k c = omega arith
-
-pub loop-k-smaller : goal.loop-k-smaller
-loop-k-smaller c = omega arith
-
 pub loop-k-preserved : goal.loop-k-preserved
 loop-k-preserved c = search span-turn
 

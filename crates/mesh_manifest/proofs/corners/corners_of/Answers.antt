@@ -1,12 +1,11 @@
 -- The corners' answer, by what the judge gave and by whether there is such a node.
-use Rattle.mesh_manifest.proofs.corners.Boxed.{boxes}
+use Rattle.mesh_manifest.proofs.corners.Boxed.{corners-refused, boxes}
+use Rattle.std.proofs.Common.{◌∙◌}
+use Rattle.refusal.proofs.Passed.{handed}
 use Rattle.mesh_manifest.proofs.corners.corners_of.Goals as goal
 
-pub judge-verdict-requires : goal.judge-verdict-requires
-judge-verdict-requires c = search boxes
-
-pub returns-then-verdict-ne0 : goal.returns-then-verdict-ne0
-returns-then-verdict-ne0 c = search boxes
+pub returns-in_err-judge : goal.returns-in_err-judge
+returns-in_err-judge c = record { answer = handed c.from_residual.ensures ∙ corners-refused _ _ _ c.in_err-judge.ensures }
 
 pub has_node-requires : goal.has_node-requires
 has_node-requires c = search boxes

@@ -1,5 +1,5 @@
 -- The loop's invariant: `first` is where level l begins, and the total is the sum of all sizes before it.
-use Prim.Native.Nat.{◌-◌, ◌*◌, ◌≤◌}
+use Prim.Native.Nat.{◌*◌, ◌≤◌}
 use mathlib.Core.Path.{◌≡◌}
 use lib.ListN.{length}
 use Rattle.endian.specs.Range.{sum_to}
@@ -9,7 +9,4 @@ use Rattle.mesh_manifest.proofs.fragment_sums.bytes_before.Given as goal
 
 abbrev pub invariant-loop-l : goal.invariant-loop-l
 invariant-loop-l l =
-    (l.l ≤ l.level) × (l.first ≡ level_item l.s l.l) × (4 * l.first ≤ length l.s) × (l.total ≡ sum_to (level_bytes l.s) l.l) × (l.total ≤ 4294967295 * l.first)
-
-abbrev pub decreases-loop-l : goal.decreases-loop-l
-decreases-loop-l l = l.level - l.l
+    (l.first ≡ level_item l.s l.l) × (4 * l.first ≤ length l.s) × (l.total ≡ sum_to (level_bytes l.s) l.l) × (l.total ≤ 4294967295 * l.first)

@@ -3,9 +3,6 @@ use Rattle.mesh_manifest.proofs.sound.Sounds.{sound}
 use Rattle.mesh_manifest.proofs.sound.Ways.{ways}
 use Rattle.mesh_manifest.proofs.judge.judge.Goals as goal
 
-pub right_length-requires : goal.right_length-requires
-right_length-requires c = search ways
-
 pub returns-then-not-right_length : goal.returns-then-not-right_length
 returns-then-not-right_length c = search ways
 

@@ -1,12 +1,9 @@
 -- The loop's invariant: the total is the sum of the counts so far, each below 2^32.
-use Prim.Native.Nat.{◌-◌, ◌*◌, ◌≤◌}
+use Prim.Native.Nat.{◌*◌, ◌≤◌}
 use mathlib.Core.Path.{◌≡◌}
 use Rattle.endian.specs.Range.{sum_to}
 use Rattle.mesh_manifest.specs.layout.Layout.{count_of}
 use Rattle.mesh_manifest.proofs.layout.nodes_before.Given as goal
 
 abbrev pub invariant-loop-l : goal.invariant-loop-l
-invariant-loop-l l = (l.l ≤ l.level) × (l.total ≡ sum_to (count_of l.s) l.l) × (l.total ≤ 4294967296 * l.l)
-
-abbrev pub decreases-loop-l : goal.decreases-loop-l
-decreases-loop-l l = l.level - l.l
+invariant-loop-l l = (l.total ≡ sum_to (count_of l.s) l.l) × (l.total ≤ 4294967296 * l.l)

@@ -2,11 +2,13 @@
 use borrow.Author.Rules.{rules}
 use Rattle.mesh_manifest.proofs.nodes.Levels.{sound}
 use Rattle.mesh_manifest.proofs.sound.Judged.{told-sound}
-use Rattle.mesh_manifest.proofs.level.Asked.{listing}
+use Rattle.mesh_manifest.proofs.level.Asked.{nodes-refused, nodes-refused-kept, listing}
+use Rattle.std.proofs.Common.{◌∙◌}
+use Rattle.refusal.proofs.Passed.{handed}
 use Rattle.mesh_manifest.proofs.level.nodes_of.Goals as goal
 
-pub returns-then-verdict-ne0 : goal.returns-then-verdict-ne0
-returns-then-verdict-ne0 c = record { answer = search listing; out = search listing }
+pub returns-in_err-judge : goal.returns-in_err-judge
+returns-in_err-judge c = record { answer = handed c.from_residual.ensures ∙ nodes-refused _ _ _ c.in_err-judge.ensures; out = nodes-refused-kept _ _ _ c.in_err-judge.ensures }
 
 pub item-levels-requires : goal.item-levels-requires
 item-levels-requires c = search (told-sound, sound)

@@ -10,11 +10,7 @@ use Rattle.mesh_manifest.proofs.node_numbers.put_nodes.Given as goal
 
 abbrev pub invariant-loop-i : goal.invariant-loop-i
 invariant-loop-i l =
-    (l.i ≤ l.n)
-    × (l.at ≡ l.start + sum_to (size_at l.s l.first l.n) l.i)
+    (l.at ≡ l.start + sum_to (size_at l.s l.first l.n) l.i)
     × (l.at ≤ l.start + 4294967295 * l.i)
     × (length l.out ≡ length l.initial.out)
     × (paste (5 * l.i) (numbers_from (node_from l.s l.first l.n l.start) l.i (l.n - l.i)) l.out ≡ paste 0 (numbers_from (node_from l.s l.first l.n l.start) 0 l.n) l.initial.out)
-
-abbrev pub decreases-loop-i : goal.decreases-loop-i
-decreases-loop-i l = l.n - l.i

@@ -1,12 +1,11 @@
 -- A node's answer, by what the judge gave and by whether there is such a node.
-use Rattle.mesh_manifest.proofs.nodes.Asked.{asked}
+use Rattle.mesh_manifest.proofs.nodes.Asked.{node-refused, asked}
+use Rattle.std.proofs.Common.{◌∙◌}
+use Rattle.refusal.proofs.Passed.{handed}
 use Rattle.mesh_manifest.proofs.nodes.node_of.Goals as goal
 
-pub judge-verdict-requires : goal.judge-verdict-requires
-judge-verdict-requires c = search asked
-
-pub returns-then-verdict-ne0 : goal.returns-then-verdict-ne0
-returns-then-verdict-ne0 c = search asked
+pub returns-in_err-judge : goal.returns-in_err-judge
+returns-in_err-judge c = record { answer = handed c.from_residual.ensures ∙ node-refused _ _ _ c.in_err-judge.ensures }
 
 pub has_node-requires : goal.has_node-requires
 has_node-requires c = search asked

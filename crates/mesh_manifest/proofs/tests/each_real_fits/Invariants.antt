@@ -1,5 +1,4 @@
 -- The loop's invariant: each item so far is finite where it is a real.
-use Prim.Native.Nat.{◌-◌, ◌+◌, ◌*◌, ◌≤◌}
 use mathlib.Core.Path.{◌≡◌}
 use mathlib.Core.Bool.{true}
 use Rattle.endian.specs.Range.{every}
@@ -7,7 +6,4 @@ use Rattle.mesh_manifest.specs.sound.Verdict.{real_fits}
 use Rattle.mesh_manifest.proofs.tests.each_real_fits.Given as goal
 
 abbrev pub invariant-loop-i : goal.invariant-loop-i
-invariant-loop-i l = (l.i ≤ 7 + 4 * l.levels) × (every (real_fits l.s) l.i ≡ true)
-
-abbrev pub decreases-loop-i : goal.decreases-loop-i
-decreases-loop-i l = 7 + 4 * l.levels - l.i
+invariant-loop-i l = every (real_fits l.s) l.i ≡ true

@@ -1,8 +1,5 @@
--- `morton::scan::fill` meets its contract. The keys of the cells from i on are left to write.
-use Prim.Native.Nat.{◌-◌, ◌/◌, ◌≤◌}
-use mathlib.Core.Path.{◌≡◌}
-use mathlib.Core.List.{map}
-use lib.ListN.{length, drop}
+-- The keys of the cells from i on are left to write.
+use Rattle.std.proofs.Common.{◌≡◌, map, drop}
 use Rattle.endian.specs.Place.{paste}
 use Rattle.morton.specs.Key.{key_of}
 use Rattle.morton.specs.batch.Batch.{cells_of}
@@ -10,8 +7,4 @@ use Rattle.morton.proofs.scan.fill.Given as goal
 
 abbrev pub invariant-loop-i : goal.invariant-loop-i
 invariant-loop-i l =
-    (l.n ≡ length l.cells / 3) × (l.i ≤ l.n) × (length l.keys ≡ length l.initial.keys)
-    × (paste l.i (map (key_of l.plan.grid) (drop l.i (cells_of l.cells))) l.keys ≡ paste 0 (map (key_of l.plan.grid) (cells_of l.cells)) l.initial.keys)
-
-abbrev pub decreases-loop-i : goal.decreases-loop-i
-decreases-loop-i l = l.n - l.i
+    paste l.i (map (key_of l.plan.grid) (drop l.i (cells_of l.cells))) l.keys ≡ paste 0 (map (key_of l.plan.grid) (cells_of l.cells)) l.initial.keys

@@ -4,5 +4,5 @@ use Rattle.morton.proofs.spread.spread_byte.Goals as goal
 
 pub returns : goal.returns
 returns c =
-    let e = entry-is c.requires.0 _ c.requires.1 c.wide.ensures in
+    let e = entry-is c.requires.0 _ c.requires.1 c.from.ensures in
     (e, byte_most _ e)

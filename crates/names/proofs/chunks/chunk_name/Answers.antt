@@ -1,23 +1,14 @@
-use Rattle.names.proofs.chunks.Chunked.{celling}
+use Rattle.std.proofs.Common.{◌∙◌}
+use Rattle.refusal.proofs.Passed.{handed}
+use Rattle.names.proofs.chunks.Chunked.{no_name, no-name-left, cell-name, cell-name-left}
 use Rattle.names.proofs.chunks.chunk_name.Goals as goal
 
-pub bounds_of-requires : goal.bounds_of-requires
-bounds_of-requires c = search celling
+pub returns-in_err-bounds : goal.returns-in_err-bounds
+returns-in_err-bounds c =
+    let refused = c.in_err-bounds.ensures.answer in
+    record { answer = handed c.from_residual.ensures ∙ no_name _ _ _ _ refused; out = no-name-left _ _ _ _ refused }
 
-pub enum_known-bounds : goal.enum_known-bounds
-enum_known-bounds c = search celling
-
-pub bounds_name-requires : goal.bounds_name-requires
-bounds_name-requires c = search celling
-
-pub enum_known-number : goal.enum_known-number
-enum_known-number c = search celling
-
-pub shape_of-out : goal.shape_of-out
-shape_of-out c = search celling
-
-pub returns-in-Within : goal.returns-in-Within
-returns-in-Within c = search celling
-
-pub returns-in-Refused : goal.returns-in-Refused
-returns-in-Refused c = search celling
+pub returns : goal.returns
+returns c =
+    let within = c.in_ok-bounds.ensures.answer in
+    record { answer = cell-name _ _ _ _ within _ c.bounds_name.ensures.value; out = cell-name-left _ _ _ _ within _ c.bounds_name.ensures.out_after }

@@ -10,12 +10,6 @@ trouble_of-fault-requires c = search looking
 pub returns-then-fault-ne0 : goal.returns-then-fault-ne0
 returns-then-fault-ne0 c = search looking
 
-pub overflow_add-m : goal.overflow_add-m
-overflow_add-m c = search looking
-
-pub loop-m-smaller : goal.loop-m-smaller
-loop-m-smaller c = search looking
-
 pub loop-m-preserved : goal.loop-m-preserved
 loop-m-preserved c = search looking
 

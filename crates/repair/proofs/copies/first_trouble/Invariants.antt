@@ -1,10 +1,6 @@
-use Rattle.std.proofs.Common.{◌-◌}
 use Rattle.repair.specs.Trouble.{trouble_of}
 use Rattle.repair.proofs.Troubles.{Looking}
 use Rattle.repair.proofs.copies.first_trouble.Given as goal
 
 abbrev pub invariant-loop-m : goal.invariant-loop-m
 invariant-loop-m l = Looking (trouble_of l.spec l.shard l.ia l.da l.ib l.db) l.n l.m
-
-abbrev pub decreases-loop-m : goal.decreases-loop-m
-decreases-loop-m l = l.n - l.m

@@ -1,10 +1,6 @@
-use Rattle.std.proofs.Common.{◌-◌}
 use Rattle.repair.specs.form.Chosen.{chosen}
 use Rattle.repair.proofs.form.AllMinishards.{Summing}
 use Rattle.repair.proofs.form.length_of_all.Given as goal
 
 abbrev pub invariant-loop-m : goal.invariant-loop-m
 invariant-loop-m l = Summing (chosen l.spec l.shard l.ia l.da l.ib l.db) l.n l.m l.sum
-
-abbrev pub decreases-loop-m : goal.decreases-loop-m
-decreases-loop-m l = l.n - l.m

@@ -1,9 +1,6 @@
 use Rattle.repair.proofs.form.AllMinishards.{writing}
 use Rattle.repair.proofs.form.repair_all.Goals as goal
 
-pub overflow_mul-base : goal.overflow_mul-base
-overflow_mul-base c = search writing
-
 pub loop-m-init : goal.loop-m-init
 loop-m-init c = search writing
 
@@ -13,20 +10,8 @@ repair_one-p-requires c = record { pair = (search writing, search writing, searc
 pub overflow_add-p : goal.overflow_add-p
 overflow_add-p c = search writing
 
-pub overflow_add-m : goal.overflow_add-m
-overflow_add-m c = search writing
-
-pub loop-m-smaller : goal.loop-m-smaller
-loop-m-smaller c = search writing
-
 pub loop-m-preserved : goal.loop-m-preserved
 loop-m-preserved c = search writing
-
-pub overflow_add-result : goal.overflow_add-result
-overflow_add-result c = search writing
-
-pub shape_of-out : goal.shape_of-out
-shape_of-out c = search writing
 
 pub returns : goal.returns
 returns c = search writing

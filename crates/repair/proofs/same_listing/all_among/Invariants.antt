@@ -1,9 +1,5 @@
-use Rattle.std.proofs.Common.{◌-◌}
 use Rattle.repair.proofs.same_listing.Entries.{Covering}
 use Rattle.repair.proofs.same_listing.all_among.Given as goal
 
 abbrev pub invariant-loop-i : goal.invariant-loop-i
-invariant-loop-i l = Covering l.spec l.a l.p l.n l.b l.s l.k l.i l.own l.at
-
-abbrev pub decreases-loop-i : goal.decreases-loop-i
-decreases-loop-i l = l.n - l.i
+invariant-loop-i l = Covering l.spec l.a l.p l.n l.b l.s l.k l.i l.before.id l.before.end

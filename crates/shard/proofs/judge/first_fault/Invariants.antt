@@ -4,7 +4,7 @@
 -- 'ends keeps `Testing` with 11 and those of a mesh left; and `Span`: end is where the chunk before entry k ends, and no chunk passed ends outside.
 -- A loop over the entries that runs to its end has passed its test. Each break has found the first test that fails, and its first entry: by `Searching` or `Testing` that is the fault asked for.
 -- Only a break sets `found`, so at each head it is still no fault. `Rows` bounds s, e and both lengths: no place and no sum passes 2^64.
-use Rattle.std.proofs.Common.{◌≡◌, ◌+◌, ◌-◌, ◌≤◌, ◌∷◌, length}
+use Rattle.std.proofs.Common.{◌≡◌, ◌+◌, ◌≤◌, ◌∷◌, length}
 use Rattle.shard.specs.index.Index.{most_shard_bytes, id_steps}
 use Rattle.endian.specs.Little.{row_at}
 use Rattle.shard.specs.Faults.{foreign_at, place_test, end_test, mesh_tests, fault_of, no_fault}
@@ -20,9 +20,6 @@ invariant-places l =
     × Walk (id_steps l.data l.p) (foreign_at l.spec l.shard l.m (id_steps l.data l.p)) l.n l.j l.own
     × Rows l.s l.e (length l.data) (length l.index)
 
-abbrev pub decreases-places : goal.decreases-places
-decreases-places l = l.n - l.j
-
 abbrev pub invariant-ends : goal.invariant-ends
 invariant-ends l =
     (l.found ≡ no_fault)
@@ -30,13 +27,7 @@ invariant-ends l =
     × Span (row_at l.data l.q) (row_at l.data l.t) (length l.data) l.n l.k l.end
     × Rows l.s l.e (length l.data) (length l.index)
 
-abbrev pub decreases-ends : goal.decreases-ends
-decreases-ends l = l.n - l.k
-
--- ---- what the loops keep, and what falls in each
+-- ---- what the loop over minishards keeps
 abbrev pub invariant-minishards : goal.invariant-minishards
 invariant-minishards l =
     (l.found ≡ no_fault) × Searching (fault_of l.spec l.shard l.index l.data) l.from l.to l.m × (length l.data ≤ most_shard_bytes) × (length l.index ≤ most_shard_bytes)
-
-abbrev pub decreases-minishards : goal.decreases-minishards
-decreases-minishards l = l.to - l.m

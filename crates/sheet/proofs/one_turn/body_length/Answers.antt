@@ -4,12 +4,6 @@ use Rattle.sheet.proofs.one_turn.body_length.Goals as goal
 pub returns-then-head-lt17 : goal.returns-then-head-lt17
 returns-then-head-lt17 c = (search asking, search asking)
 
-pub read_u32-n-requires : goal.read_u32-n-requires
-read_u32-n-requires c = search asking
-
-pub overflow_cast-n : goal.overflow_cast-n
-overflow_cast-n c = search asking
-
 pub returns-then-n-gt65536 : goal.returns-then-n-gt65536
 returns-then-n-gt65536 c = (search asking, search asking)
 

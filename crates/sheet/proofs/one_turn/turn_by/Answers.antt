@@ -1,14 +1,8 @@
 use Rattle.sheet.proofs.one_turn.Turning.{answering}
 use Rattle.sheet.proofs.one_turn.turn_by.Goals as goal
 
-pub enum_known-answer : goal.enum_known-answer
-enum_known-answer c = search answering
+pub returns-in-Ok : goal.returns-in-Ok
+returns-in-Ok c = search answering
 
-pub enum_told-1 : goal.enum_told-1
-enum_told-1 c = search answering
-
-pub returns-in-Total : goal.returns-in-Total
-returns-in-Total c = search answering
-
-pub returns-in-Refused : goal.returns-in-Refused
-returns-in-Refused c = search answering
+pub returns-in-Err : goal.returns-in-Err
+returns-in-Err c = search answering

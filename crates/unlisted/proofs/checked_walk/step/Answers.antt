@@ -1,9 +1,6 @@
 use Rattle.std.proofs.Common.{rules}
-use Rattle.unlisted.proofs.Judging.{step-empty, step-faulty, step-ordered, step_ranged, step-walk}
+use Rattle.unlisted.proofs.Judging.{step-faulty, step-ordered, step_ranged, step-walk}
 use Rattle.unlisted.proofs.checked_walk.step.Goals as goal
-
-pub returns-then-s-e : goal.returns-then-s-e
-returns-then-s-e c = search step-empty
 
 pub returns-then-found-ne0 : goal.returns-then-found-ne0
 returns-then-found-ne0 c = search step-faulty

@@ -1,9 +1,5 @@
-use Rattle.std.proofs.Common.{◌-◌, ◌≤◌}
 use Rattle.unlisted.specs.rising_walk.Order.{Extends, part_at}
 use Rattle.unlisted.proofs.rising_walk.over_all.Given as goal
 
 abbrev pub invariant-loop-m : goal.invariant-loop-m
-invariant-loop-m l = (l.m ≤ l.n) × Extends (part_at l.items l.rows l.spec l.index l.data l.m) l.initial.at l.at
-
-abbrev pub decreases-loop-m : goal.decreases-loop-m
-decreases-loop-m l = l.n - l.m
+invariant-loop-m l = Extends (part_at l.items l.rows l.spec l.index l.data l.m) l.initial.at l.at

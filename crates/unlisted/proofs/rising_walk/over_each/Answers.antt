@@ -1,63 +1,34 @@
-use Rattle.unlisted.proofs.stretches.Walk.{walk_inside, walk-led, walk-next}
-use Rattle.unlisted.proofs.rising_walk.Parts.{items_next, going}
+use Rattle.std.proofs.Common.{refl, ap, ◌∙◌}
+use Rattle.unlisted.specs.chunks.Left.{chunks_left}
+use Rattle.unlisted.proofs.chunks.Steps.{left_first, left_last, left_next, met_inside, met_fits, met_led, met_test, taken-more}
+use Rattle.unlisted.proofs.rising_walk.Runs.{extends_then}
+use Rattle.unlisted.proofs.rising_walk.Parts.{items_first}
 use Rattle.unlisted.proofs.rising_walk.over_each.Goals as goal
 
-pub overflow_mul-starts : goal.overflow_mul-starts
-overflow_mul-starts c = search going
-
-pub overflow_add-starts : goal.overflow_add-starts
-overflow_add-starts c = search going
-
-pub overflow_mul-sizes : goal.overflow_mul-sizes
-overflow_mul-sizes c = search going
-
-pub overflow_add-sizes : goal.overflow_add-sizes
-overflow_add-sizes c = search going
-
-pub loop-i-init : goal.loop-i-init
-loop-i-init c = search going
-
-pub overflow_mul-i : goal.overflow_mul-i
-overflow_mul-i c = search going
-
-pub overflow_add-starts-in-loop-i : goal.overflow_add-starts-in-loop-i
-overflow_add-starts-in-loop-i c = search going
-
-pub read_u64-requires : goal.read_u64-requires
-read_u64-requires c = search going
-
-pub wrapping_add_u64-start-requires : goal.wrapping_add_u64-start-requires
-wrapping_add_u64-start-requires c = search going
-
-pub overflow_mul-i-in-loop-i : goal.overflow_mul-i-in-loop-i
-overflow_mul-i-in-loop-i c = search going
-
-pub overflow_add-sizes-in-loop-i : goal.overflow_add-sizes-in-loop-i
-overflow_add-sizes-in-loop-i c = search going
-
-pub read_u64-size-requires : goal.read_u64-size-requires
-read_u64-size-requires c = search going
+pub loop-chunk-init : goal.loop-chunk-init
+loop-chunk-init c =
+    let r = c.requires.ranged in (
+      left_first _ _ _ _ r.1 (ap chunks_left c.into_iter-chunk-iterator.ensures.into_iter_gives ∙ c.new-chunk-items.ensures),
+      items_first _ _ _ _ _ c.requires.gaps_le_to,
+    )
 
 pub item_start-begin-requires : goal.item_start-begin-requires
-item_start-begin-requires c = (search walk_inside, search walk-led)
+item_start-begin-requires c =
+    let v = c.loop-chunk.invariant in
+    let e = c.in-Some.ensures.steps in
+    (met_inside v.0 e c.requires.ranged.0, met_led v.0 e c.requires.ranged.0)
 
-pub overflow_add-end : goal.overflow_add-end
-overflow_add-end c = search going
+pub overflow_add-start : goal.overflow_add-start
+overflow_add-start c = met_fits c.loop-chunk.invariant.0 c.in-Some.ensures.steps c.requires.ranged.0
 
-pub extend-at-requires : goal.extend-at-requires
-extend-at-requires c = search going
-
-pub returns-then-at : goal.returns-then-at
-returns-then-at c = search going
-
-pub overflow_add-i : goal.overflow_add-i
-overflow_add-i c = search going
-
-pub loop-i-smaller : goal.loop-i-smaller
-loop-i-smaller c = search going
-
-pub loop-i-preserved : goal.loop-i-preserved
-loop-i-preserved c = (search walk-next, search items_next)
+pub loop-chunk-preserved : goal.loop-chunk-preserved
+loop-chunk-preserved c =
+    let v = c.loop-chunk.invariant in
+    let e = c.in-Some.ensures.steps in
+    rw (taken-more c.loop-chunk.yielded c.in-Some.chunk)
+    (left_next v.0 e refl, extends_then v.1 c.extend-at.ensures (met_test v.0 e c.requires.ranged.0 c.item_start-begin.ensures))
 
 pub returns : goal.returns
-returns c = search going
+returns c =
+    let v = c.loop-chunk.invariant in
+    rw (left_last v.0 c.in-None.ensures.steps.0) at v.1

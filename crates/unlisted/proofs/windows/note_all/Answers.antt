@@ -5,20 +5,11 @@ use Rattle.unlisted.proofs.windows.note_all.Goals as goal
 pub limit_of-limit-requires : goal.limit_of-limit-requires
 limit_of-limit-requires c = search covering
 
-pub minishard_count-n-requires : goal.minishard_count-n-requires
-minishard_count-n-requires c = search covering
-
 pub loop-m-init : goal.loop-m-init
 loop-m-init c = search covering
 
 pub note_minishard-requires : goal.note_minishard-requires
 note_minishard-requires c = record { map_len = (search rules, search rules); ranged_in = search covering }
-
-pub overflow_add-m : goal.overflow_add-m
-overflow_add-m c = search covering
-
-pub loop-m-smaller : goal.loop-m-smaller
-loop-m-smaller c = search covering
 
 pub loop-m-preserved : goal.loop-m-preserved
 loop-m-preserved c = search covering

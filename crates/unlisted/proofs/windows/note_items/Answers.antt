@@ -1,61 +1,27 @@
-use Rattle.std.proofs.Common.{rules}
-use Rattle.unlisted.proofs.stretches.Walk.{walk_inside, walk-led, walk-next}
-use Rattle.unlisted.proofs.windows.Noting.{items_next, going}
+use Rattle.std.proofs.Common.{refl, ap, ◌∙◌, arith}
+use Rattle.unlisted.specs.chunks.Left.{chunks_left}
+use Rattle.unlisted.proofs.chunks.Steps.{left_first, left_last, left_next, met_inside, met_led, met_test, taken-more}
+use Rattle.unlisted.proofs.windows.Noting.{items_first, items_next}
 use Rattle.unlisted.proofs.windows.note_items.Goals as goal
 
-pub overflow_mul-starts : goal.overflow_mul-starts
-overflow_mul-starts c = search going
+pub loop-chunk-init : goal.loop-chunk-init
+loop-chunk-init c =
+    (left_first _ _ _ _ (omega arith) (ap chunks_left c.into_iter-chunk-iterator.ensures.into_iter_gives ∙ c.new-chunk-items.ensures), items_first _ _ _ _ _ _)
 
-pub overflow_add-starts : goal.overflow_add-starts
-overflow_add-starts c = search going
+pub note_item-requires-clause-size_in_bounds : goal.note_item-requires-clause-size_in_bounds
+note_item-requires-clause-size_in_bounds c =
+    let v = c.loop-chunk.invariant in
+    let e = c.in-Some.ensures.steps in
+    (met_inside v.0 e c.requires.ranged, c.requires.ranged.short, met_led v.0 e c.requires.ranged)
 
-pub overflow_mul-sizes : goal.overflow_mul-sizes
-overflow_mul-sizes c = search going
-
-pub overflow_add-sizes : goal.overflow_add-sizes
-overflow_add-sizes c = search going
-
-pub loop-i-init : goal.loop-i-init
-loop-i-init c = search going
-
-pub overflow_mul-i : goal.overflow_mul-i
-overflow_mul-i c = search going
-
-pub overflow_add-starts-in-loop-i : goal.overflow_add-starts-in-loop-i
-overflow_add-starts-in-loop-i c = search going
-
-pub read_u64-requires : goal.read_u64-requires
-read_u64-requires c = search going
-
-pub wrapping_add_u64-start-requires : goal.wrapping_add_u64-start-requires
-wrapping_add_u64-start-requires c = search going
-
-pub overflow_mul-i-in-loop-i : goal.overflow_mul-i-in-loop-i
-overflow_mul-i-in-loop-i c = search going
-
-pub overflow_add-sizes-in-loop-i : goal.overflow_add-sizes-in-loop-i
-overflow_add-sizes-in-loop-i c = search going
-
-pub read_u64-size-requires : goal.read_u64-size-requires
-read_u64-size-requires c = search going
-
-pub note_item-requires : goal.note_item-requires
-note_item-requires c = record { map_len = (search rules, search rules); size_in_bounds = (search walk_inside, search rules, search walk-led) }
-
-pub overflow_add-end : goal.overflow_add-end
-overflow_add-end c = search going
-
-pub overflow_add-i : goal.overflow_add-i
-overflow_add-i c = search going
-
-pub loop-i-smaller : goal.loop-i-smaller
-loop-i-smaller c = search going
-
-pub loop-i-preserved : goal.loop-i-preserved
-loop-i-preserved c = (search walk-next, search items_next)
-
-pub shape_of-map : goal.shape_of-map
-shape_of-map c = search going
+pub loop-chunk-preserved : goal.loop-chunk-preserved
+loop-chunk-preserved c =
+    let v = c.loop-chunk.invariant in
+    let e = c.in-Some.ensures.steps in
+    rw (taken-more c.loop-chunk.yielded c.in-Some.chunk)
+    (left_next v.0 e refl, items_next _ _ _ _ _ _ _ _ (met_test v.0 e c.requires.ranged refl) v.1 c.note_item.ensures)
 
 pub returns : goal.returns
-returns c = search going
+returns c =
+    let v = c.loop-chunk.invariant in
+    rw (left_last v.0 c.in-None.ensures.steps.0) at v.1

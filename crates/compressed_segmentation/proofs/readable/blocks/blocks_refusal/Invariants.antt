@@ -1,4 +1,3 @@
-use Prim.Native.Nat.{◌-◌}
 use mathlib.Core.Path.{◌≡◌}
 use lib.ListN.{length}
 use Rattle.compressed_segmentation.proofs.block.Mild.{Passed}
@@ -6,7 +5,4 @@ use Rattle.compressed_segmentation.proofs.block.Visited.{Visiting}
 use Rattle.compressed_segmentation.proofs.readable.blocks.blocks_refusal.Given as goal
 
 abbrev pub invariant-loop-c : goal.invariant-loop-c
-invariant-loop-c l = (length l.seen ≡ length l.initial.seen) × Passed l.chunk l.shape l.count l.c l.seen × Visiting l.chunk l.c l.seen
-
-abbrev pub decreases-loop-c : goal.decreases-loop-c
-decreases-loop-c l = l.n - l.c
+invariant-loop-c l = (length l.seen ≡ length l.initial.seen) × Passed l.chunk l.voxels.shape l.count l.c l.seen × Visiting l.chunk l.c l.seen

@@ -1,10 +1,6 @@
-use Prim.Native.Nat.{◌-◌, ◌≤◌}
 use mathlib.Core.Path.{◌≡◌}
 use Rattle.compressed_segmentation.specs.block.Checks.{greatest, block_refusal}
 use Rattle.compressed_segmentation.proofs.readable.blocks.channel_refusal.Given as goal
 
 abbrev pub invariant-loop-n : goal.invariant-loop-n
-invariant-loop-n l = (l.n ≤ l.count) × (0 ≡ greatest (block_refusal l.chunk l.shape l.o) l.n)
-
-abbrev pub decreases-loop-n : goal.decreases-loop-n
-decreases-loop-n l = l.count - l.n
+invariant-loop-n l = 0 ≡ greatest (block_refusal l.chunk l.voxels.shape l.o) l.n

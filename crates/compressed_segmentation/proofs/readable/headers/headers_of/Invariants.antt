@@ -1,4 +1,3 @@
-use Prim.Native.Nat.{◌-◌}
 use mathlib.Core.Path.{◌≡◌}
 use lib.ListN.{length}
 use Rattle.compressed_segmentation.proofs.readable.Offsets.{Walked}
@@ -7,6 +6,3 @@ use Rattle.compressed_segmentation.proofs.readable.headers.headers_of.Given as g
 
 abbrev pub invariant-loop-c : goal.invariant-loop-c
 invariant-loop-c l = (length l.seen ≡ length l.initial.seen) × Walked l.chunk l.count l.n l.c l.worst l.seen × Visiting l.chunk l.c l.seen
-
-abbrev pub decreases-loop-c : goal.decreases-loop-c
-decreases-loop-c l = l.n - l.c

@@ -1,10 +1,8 @@
-use borrow.Author.Rules.{rules}
-use Rattle.compressed_segmentation.proofs.block.Visited.{visits_cut}
 use Rattle.compressed_segmentation.proofs.readable.Offsets.{headers_cut, headers_whole}
 use Rattle.compressed_segmentation.proofs.readable.headers.headers_refusal.Goals as goal
 
-pub returns-then-whole-shape : goal.returns-then-whole-shape
-returns-then-whole-shape c = record { value = search headers_cut; visits = search visits_cut }
+pub returns-then-whole-channels-clause-value : goal.returns-then-whole-channels-clause-value
+returns-then-whole-channels-clause-value c = search headers_cut
 
-pub returns : goal.returns
-returns c = record { value = search headers_whole; visits = search rules }
+pub returns-clause-value : goal.returns-clause-value
+returns-clause-value c = search headers_whole

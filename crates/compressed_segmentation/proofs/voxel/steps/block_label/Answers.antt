@@ -1,5 +1,3 @@
-use borrow.Author.Rules.{rules}
-use Rattle.refusal.proofs.Tests.{told-yes}
 use Rattle.compressed_segmentation.proofs.packed_values.Numbers.{told_below, told-before, told-some}
 use Rattle.compressed_segmentation.proofs.voxel.Asked.{header-cut, header_bad, header_good}
 use Rattle.compressed_segmentation.proofs.voxel.steps.block_label.Goals as goal
@@ -18,9 +16,6 @@ returns-then-not-is_width c = search header_bad
 
 pub word_at-requires : goal.word_at-requires
 word_at-requires c = search told_below
-
-pub value_label-requires : goal.value_label-requires
-value_label-requires c = record { o_bound = (search rules, search rules, search told-yes, search rules); low_bound = search rules }
 
 pub returns : goal.returns
 returns c = search header_good

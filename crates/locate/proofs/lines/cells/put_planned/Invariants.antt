@@ -12,6 +12,3 @@ invariant-loop-i l =
     (l.i ≤ l.n) × (l.at ≤ line_room * l.i) × (length l.out ≡ length l.initial.out)
     × (l.at + length (lines_by (line_in l.spec l.plan.grid) (l.n - l.i) l.cells (12 * l.i)) ≡ length (lines_by (line_in l.spec l.plan.grid) l.n l.cells 0))
     × (paste l.at (lines_by (line_in l.spec l.plan.grid) (l.n - l.i) l.cells (12 * l.i)) l.out ≡ paste 0 (lines_by (line_in l.spec l.plan.grid) l.n l.cells 0) l.initial.out)
-
-abbrev pub decreases-loop-i : goal.decreases-loop-i
-decreases-loop-i l = l.n - l.i

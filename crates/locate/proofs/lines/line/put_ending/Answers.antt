@@ -15,10 +15,6 @@ pub overflow_add-result : goal.overflow_add-result
 unfolding ending
 overflow_add-result c = search ended
 
-pub shape_of-out : goal.shape_of-out
-unfolding ending
-shape_of-out c = search ended
-
 pub returns : goal.returns
 unfolding ending
 returns c = search ended

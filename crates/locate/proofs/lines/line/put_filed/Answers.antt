@@ -19,10 +19,6 @@ pub put_ending-requires : goal.put_ending-requires
 unfolding filed
 put_ending-requires c = search joining
 
-pub shape_of-out : goal.shape_of-out
-unfolding filed
-shape_of-out c = search joining
-
 pub returns : goal.returns
 unfolding filed
 returns c = search joining

@@ -19,10 +19,6 @@ pub put_filed-requires : goal.put_filed-requires
 unfolding keyed
 put_filed-requires c = search joining
 
-pub shape_of-out : goal.shape_of-out
-unfolding keyed
-shape_of-out c = search joining
-
 pub returns : goal.returns
 unfolding keyed
 returns c = search joining

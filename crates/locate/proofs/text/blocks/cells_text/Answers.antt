@@ -7,8 +7,5 @@ use Rattle.locate.proofs.text.blocks.cells_text.Goals as goal
 pub put_text-requires : goal.put_text-requires
 put_text-requires c = search judged
 
-pub shape_of-out : goal.shape_of-out
-shape_of-out c = search judged
-
 pub returns : goal.returns
 returns c = record { value = (search (text-length, rules), omega arith); out_after = search (text-put, rules) }

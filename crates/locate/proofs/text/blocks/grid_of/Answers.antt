@@ -4,6 +4,3 @@ use Rattle.locate.proofs.text.blocks.grid_of.Goals as goal
 
 pub grid-requires : goal.grid-requires
 grid-requires c = search judged
-
-pub returns : goal.returns
-returns c = search judged

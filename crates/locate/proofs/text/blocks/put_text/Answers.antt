@@ -2,22 +2,10 @@
 use Rattle.locate.proofs.text.Printing.{whole_length_lem, cutting}
 use Rattle.locate.proofs.text.blocks.put_text.Goals as goal
 
-pub put_lines-m-requires : goal.put_lines-m-requires
-put_lines-m-requires c = search cutting
-
-pub shape_of-out-then-cells-eq0 : goal.shape_of-out-then-cells-eq0
-shape_of-out-then-cells-eq0 c = search cutting
-
 pub returns-then-cells-eq0 : goal.returns-then-cells-eq0
 returns-then-cells-eq0 c =
     let lines = c.put_lines-m.ensures.value.0 in
     record { value = (whole_length_lem _ _ _ lines c.if-cells-eq0.true, search cutting); out_after = search cutting }
-
-pub put_cut-requires : goal.put_cut-requires
-put_cut-requires c = search cutting
-
-pub shape_of-out : goal.shape_of-out
-shape_of-out c = search cutting
 
 pub returns : goal.returns
 returns c = search cutting

@@ -6,8 +6,5 @@ use Rattle.locate.proofs.text.frame.told_bytes.Goals as goal
 pub returns-then-readable : goal.returns-then-readable
 returns-then-readable c = (search ending, omega arith)
 
-pub overflow_sub-result : goal.overflow_sub-result
-overflow_sub-result c = search ending
-
 pub returns : goal.returns
 returns c = (search ending, omega arith)

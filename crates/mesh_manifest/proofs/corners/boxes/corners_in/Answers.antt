@@ -2,26 +2,17 @@
 use Rattle.mesh_manifest.proofs.corners.Boxed.{boxes}
 use Rattle.mesh_manifest.proofs.corners.boxes.corners_in.Goals as goal
 
-pub is_placed-requires : goal.is_placed-requires
-is_placed-requires c = search boxes
-
 pub returns-then-not-is_placed : goal.returns-then-not-is_placed
 returns-then-not-is_placed c = search boxes
 
 pub near_corner-near-requires : goal.near_corner-near-requires
 near_corner-near-requires c = search boxes
 
-pub is_finite_corner-requires : goal.is_finite_corner-requires
-is_finite_corner-requires c = search boxes
-
 pub returns-then-not-is_finite_corner : goal.returns-then-not-is_finite_corner
 returns-then-not-is_finite_corner c = search boxes
 
 pub far_corner-far-requires : goal.far_corner-far-requires
 far_corner-far-requires c = search boxes
-
-pub is_finite_corner-requires-2 : goal.is_finite_corner-requires-2
-is_finite_corner-requires-2 c = search boxes
 
 pub returns-then-not-is_finite_corner-2 : goal.returns-then-not-is_finite_corner-2
 returns-then-not-is_finite_corner-2 c = search boxes

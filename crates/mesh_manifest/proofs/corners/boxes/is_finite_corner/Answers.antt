@@ -2,20 +2,11 @@
 use Rattle.mesh_manifest.proofs.corners.Boxed.{boxes}
 use Rattle.mesh_manifest.proofs.corners.boxes.is_finite_corner.Goals as goal
 
-pub is_finite-requires : goal.is_finite-requires
-is_finite-requires c = search boxes
-
 pub returns-then-not-is_finite : goal.returns-then-not-is_finite
 returns-then-not-is_finite c = search boxes
 
-pub is_finite-requires-2 : goal.is_finite-requires-2
-is_finite-requires-2 c = search boxes
-
 pub returns-then-not-is_finite-2 : goal.returns-then-not-is_finite-2
 returns-then-not-is_finite-2 c = search boxes
-
-pub is_finite-requires-3 : goal.is_finite-requires-3
-is_finite-requires-3 c = search boxes
 
 pub returns : goal.returns
 returns c = search boxes

@@ -7,24 +7,14 @@ use Rattle.morton.proofs.scan.row.fill.Goals as goal
 ruleset adding = (key-sum, key-sum-fits, low-row, rules)
 
 pub loop-x-init : goal.loop-x-init
-loop-x-init c = (search rules, search rules, search rules, search rules, search rules, row-start _ _ _)
+loop-x-init c = record { rest = search rules; left = row-start _ _ _ }
 
 pub overflow_add-keys-in-loop-x : goal.overflow_add-keys-in-loop-x
 overflow_add-keys-in-loop-x c = search adding
 
-pub next_rest-rest-requires : goal.next_rest-rest-requires
-next_rest-rest-requires c = record { planned = search rules; rest_value = search rules }
-
 pub loop-x-preserved : goal.loop-x-preserved
 loop-x-preserved c =
-    let inv = c.loop-x.invariant in (
-      search rules,
-      search rules,
-      search rules,
-      search rules,
-      search rules,
-      row_next _ _ _ _ _ _ _ inv.5 (omega arith) (omega arith) (search adding) (omega arith),
-    )
+    record { rest = search rules; left = row_next _ _ _ _ _ _ _ c.loop-x.invariant.left (omega arith) (omega arith) (search adding) (omega arith) }
 
 pub returns : goal.returns
 returns c = search (row-end, rules)

@@ -12,22 +12,22 @@ ruleset short = (row_13, too_short, rules)
 ruleset enough = (row_0, long-enough, room, rules)
 
 pub returns-then-zero_extent : goal.returns-then-zero_extent
-returns-then-zero_extent c = record { answer = search (keys-refused, row_2_extent, rules); keys = keys_kept_lem _ _ _ 2 (omega arith) (search row_2_extent) }
+returns-then-zero_extent c = record { answer = keys-refused _ _ _ 2 (omega arith) (search row_2_extent); keys = keys_kept_lem _ _ _ 2 (omega arith) (search row_2_extent) }
 
 pub grid-grid-requires : goal.grid-grid-requires
 grid-grid-requires c = search tested
 
 pub returns-then-not-row_inside : goal.returns-then-not-row_inside
-returns-then-not-row_inside c = record { answer = search (keys-refused, row_2_cell, rules); keys = keys_kept_lem _ _ _ 2 (omega arith) (search row_2_cell) }
+returns-then-not-row_inside c = record { answer = keys-refused _ _ _ 2 (omega arith) (search row_2_cell); keys = keys_kept_lem _ _ _ 2 (omega arith) (search row_2_cell) }
 
 pub returns-then-too_many_bits : goal.returns-then-too_many_bits
-returns-then-too_many_bits c = record { answer = search (keys-refused, row_3, rules); keys = keys_kept_lem _ _ _ 3 (omega arith) (search row_3) }
+returns-then-too_many_bits c = record { answer = keys-refused _ _ _ 3 (omega arith) (search row_3); keys = keys_kept_lem _ _ _ 3 (omega arith) (search row_3) }
 
 pub returns-then-keys-row_length : goal.returns-then-keys-row_length
-returns-then-keys-row_length c = record { answer = search (keys-refused, short); keys = keys_kept_lem _ _ _ 13 (omega arith) (search short) }
+returns-then-keys-row_length c = record { answer = keys-refused _ _ _ 13 (omega arith) (search short); keys = keys_kept_lem _ _ _ 13 (omega arith) (search short) }
 
 pub fill_row-requires : goal.fill_row-requires
-fill_row-requires c = record { grid_bound = search few; from_in_bounds = search enough }
+fill_row-requires c = record { key_fits = search few; room = search enough }
 
 pub returns : goal.returns
 returns c = record { answer = search (row_written, enough); keys = search (keys-over, enough) }

@@ -1,6 +1,0 @@
-use borrow.Author.Rules.{rules}
-use Rattle.endian.proofs.Little.{le_at_join}
-use Rattle.endian.proofs.wide_u32.Goals as goal
-
-pub returns : goal.returns
-returns c = (search (le_at_join 2 2, rules), search rules)

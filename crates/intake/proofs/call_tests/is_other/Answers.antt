@@ -1,5 +1,0 @@
-use Rattle.intake.proofs.call_tests.Tested.{asking}
-use Rattle.intake.proofs.call_tests.is_other.Goals as goal
-
-pub returns : goal.returns
-returns c = search asking

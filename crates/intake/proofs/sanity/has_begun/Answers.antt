@@ -1,5 +1,0 @@
-use Rattle.intake.proofs.sanity.States.{testing}
-use Rattle.intake.proofs.sanity.has_begun.Goals as goal
-
-pub returns : goal.returns
-returns c = search testing

@@ -1,7 +1,0 @@
-use mathlib.Core.Path.{refl}
-use Rattle.json_text.specs.tokens.Bytes.{same, inside}
-use Rattle.json_text.specs.characters.Chars.{is_plain}
-use Rattle.json_text.proofs.characters.is_plain.Goals as goal
-
-pub returns : goal.returns
-returns c = unfold same inside is_plain in refl

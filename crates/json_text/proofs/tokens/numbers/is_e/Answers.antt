@@ -1,7 +1,0 @@
-use mathlib.Core.Path.{refl}
-use Rattle.json_text.specs.tokens.Bytes.{same}
-use Rattle.json_text.specs.tokens.Numbers.{is_e}
-use Rattle.json_text.proofs.tokens.numbers.is_e.Goals as goal
-
-pub returns : goal.returns
-returns c = unfold same is_e in refl

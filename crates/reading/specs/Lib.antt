@@ -1,0 +1,2 @@
+-- What a read tells of its input.
+pub mod End

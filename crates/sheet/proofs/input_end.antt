@@ -1,2 +1,0 @@
--- Laws of the end of an input.
-pub mod Ended

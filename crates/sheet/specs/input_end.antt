@@ -1,2 +1,0 @@
--- The end of an input (RULES H5).
-pub mod End

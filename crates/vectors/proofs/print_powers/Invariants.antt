@@ -1,9 +1,0 @@
--- The exponent stays a shift of a u64.
-use Rattle.std.proofs.Common.{◌≤◌, ◌-◌}
-use Rattle.vectors.proofs.print_powers.Given as goal
-
-abbrev pub invariant-loop-k : goal.invariant-loop-k
-invariant-loop-k g l = l.k ≤ 64
-
-abbrev pub decreases-loop-k : goal.decreases-loop-k
-decreases-loop-k g l = 64 - l.k
