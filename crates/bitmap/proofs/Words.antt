@@ -91,7 +91,17 @@ ones_zero : ones 0 ≡ 0
 unfolding ones
 ones_zero = refl
 
--- of a number below 2^k they are the bits that are set where each is turned over
+-- of a number below 2^k, they and those that are set are k
+pub zeros_ones : (k n : ℕ) → n < 2 ^ k → misses (bit_of n) k + ones n ≡ k
+unfolding sum_to
+zeros_ones zero n h = let z : n ≡ 0 = omega arith in omega (arith, ap ones z, ones_zero)
+zeros_ones (suc k) n h =
+    let e = zeros_ones k (n / 2) (omega (arith, pow-suc 2 k)) in
+    let s = sum_head (miss (bit_of n)) k in
+    let t = sum_same (λ i. miss (bit_of n) (suc i)) (miss (bit_of (n / 2))) k (λ i l. next-miss n i) in
+    omega (arith, digit_miss n, ones_step n)
+
+-- they are the bits that are set where each is turned over
 pub zeros_turned : (k n : ℕ) → n < 2 ^ k → ones (2 ^ k - 1 - n) ≡ misses (bit_of n) k
 unfolding sum_to
 zeros_turned zero n h = let z : 2 ^ 0 - 1 - n ≡ 0 = omega arith in ap ones z ∙ ones_zero

@@ -3,7 +3,7 @@ use Prim.Native.Nat.{ℕ, zero, suc, ◌+◌, ◌*◌, ◌/◌, ◌%◌, ◌^◌
 use mathlib.Core.Path.{◌≡◌, refl, sym, ap, ◌∙◌}
 use mathlib.Core.List.{List, [], ◌∷◌, ◌++◌}
 use native.Mathlib.Omega.{arith}
-use native.Mathlib.Nat.{add-zero, add-suc, mul_comm, pow-succ', div-one, div-div-eq-div-mul}
+use native.Mathlib.Nat.{add-zero, zero-add, add-suc, suc-add, mul_assoc, mul_comm, pow-succ', div-one, div-div-eq-div-mul}
 use lib.ListN.{length, get_or, take, drop, replicate, length-append}
 use lib.Seq.{get_or-drop, get_or-take, drop-append_seam, drop-cons}
 use Rattle.std.specs.Int.{bytes_low_first, from_le_bytes, w16, w32, w64}
@@ -70,6 +70,36 @@ le-le_at (suc k) s p b h =
     let f : (get_or s p 0 + 256 * le_at k s (suc p)) / 256 ≡ le_at k s (suc p) = omega (arith, b p) in
     let g : p < length s = omega arith in
     rw (drop-cons s p 0 g, e, f, t)
+
+-- ---- a number by its halves
+
+pub le_at_halves : (j k : ℕ) (s : List ℕ) (at : ℕ) → le_at (j + k) s at ≡ le_at j s at + 256 ^ j * le_at k s (at + j)
+unfolding le_at
+le_at_halves zero k s at = rw (zero-add, add-zero) (omega arith)
+le_at_halves (suc j) k s at =
+    rw (suc-add, pow-succ', le_at_halves j k s (suc at), suc-add at j, add-suc at j, mul_assoc) (omega arith)
+
+pub le_halves : (j k v : ℕ) → le (j + k) v ≡ le j v ++ le k (v / 256 ^ j)
+unfolding le
+le_halves zero k v = rw (zero-add, div-one)
+le_halves (suc j) k v = rw (suc-add, pow-succ', le_halves j k (v / 256), div-div-eq-div-mul)
+
+pub le_at_join : (j k : ℕ) (s : List ℕ) (at : ℕ) {a b : ℕ} → a ≡ le_at j s at → b ≡ le_at k s (at + j) → a + 256 ^ j * b ≡ le_at (j + k) s at
+le_at_join j k s at p q = rw (p, q) (sym (le_at_halves j k s at))
+
+-- a u64 by its two u32
+pub le_at_two : (s : List ℕ) (at : ℕ) {a b : ℕ} → a ≡ le_at 4 s at → b ≡ le_at 4 s (at + 4) → a + 4294967296 * b ≡ le_at 8 s at
+le_at_two s at p q = le_at_join 4 4 s at p q
+
+-- the low half of a u64 alone
+pub le_low : (v : ℕ) → le 4 (v % 4294967296) ≡ le 4 v
+unfolding le
+le_low v =
+    let a : v % 4294967296 % 256 ≡ v % 256 = omega arith in
+    let b : v % 4294967296 / 256 % 256 ≡ v / 256 % 256 = omega arith in
+    let c : v % 4294967296 / 256 / 256 % 256 ≡ v / 256 / 256 % 256 = omega arith in
+    let d : v % 4294967296 / 256 / 256 / 256 % 256 ≡ v / 256 / 256 / 256 % 256 = omega arith in
+    rw (a, b, c, d) refl
 
 -- ---- as the library has them
 

@@ -1,5 +1,5 @@
--- Laws of `paste`: lengths, one write after another, writes apart, a write to a part of a slice.
-use Prim.Native.Nat.{ℕ, ◌+◌, ◌-◌, ◌≤◌, ◌<◌}
+-- Laws of `paste`: lengths, one write after another, writes apart, a write to a part of a slice, and a number written by its halves.
+use Prim.Native.Nat.{ℕ, ◌+◌, ◌-◌, ◌/◌, ◌%◌, ◌^◌, ◌≤◌, ◌<◌}
 use mathlib.Core.Path.{◌≡◌, refl, sym, ap, ◌∙◌}
 use mathlib.Core.List.{List, [], ◌∷◌, ◌++◌, append_assoc}
 use native.Mathlib.Omega.{arith}
@@ -7,7 +7,9 @@ use native.Mathlib.Numerals.{add-one}
 use native.Mathlib.Nat.{zero-add, add-zero}
 use lib.ListN.{length, take, drop, set, length-append, length-take, length-drop, take-append-drop}
 use lib.Seq.{take-append-le, drop-append-le, length-take-le, take_at, drop-drop, set_split, drop-append-add, take-append-add, take-append_seam, drop-append_seam}
+use Rattle.endian.specs.Little.{le}
 use Rattle.endian.specs.Place.{Holds, paste}
+use Rattle.endian.proofs.Little.{length-le, le_halves, le_low}
 use borrow.Rule.Slice.PartMut.{put_mid}
 
 pub paste-nil : (at : ℕ) (d : List ℕ) → paste at [] d ≡ d
@@ -126,3 +128,20 @@ part_pasted at len xs d e l =
     let f : at + len - at ≡ len = omega arith in
     let g : at + len ≡ at + length xs = omega arith in
     rw (f, e, drop-drop len at d, g) refl
+
+-- ---- a number by its halves, low half first
+
+pub paste_byte : (v at : ℕ) (d : List ℕ) {b : ℕ} {e : List ℕ} → b ≡ v % 256 → e ≡ paste at (b ∷ []) d → e ≡ paste at (le 1 v) d
+unfolding le
+paste_byte v at d h f = f ∙ ap (λ (x : ℕ). paste at (x ∷ []) d) h
+
+pub paste_halves : (j k v at : ℕ) (d : List ℕ) {e f : List ℕ} → e ≡ paste at (le j v) d → f ≡ paste (at + j) (le k (v / 256 ^ j)) e → at + (j + k) ≤ length d
+    → f ≡ paste at (le (j + k) v) d
+paste_halves j k v at d u w h =
+    paste-then at (at + j) (le j v) (le k (v / 256 ^ j)) d u w (ap (◌+◌ at) (length-le j v)) (omega (arith, length-le j v))
+    ∙ ap (λ (x : List ℕ). paste at x d) (sym (le_halves j k v))
+
+-- a u64 by its two u32
+pub paste_two : (v at : ℕ) (d : List ℕ) {e f : List ℕ} → e ≡ paste at (le 4 (v % 4294967296)) d → f ≡ paste (at + 4) (le 4 (v / 4294967296)) e → at + 8 ≤ length d
+    → f ≡ paste at (le 8 v) d
+paste_two v at d u w h = paste_halves 4 4 v at d (u ∙ ap (λ (x : List ℕ). paste at x d) (le_low v)) w h

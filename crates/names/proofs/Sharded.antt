@@ -1,5 +1,5 @@
 -- Laws of shard names: their length, and that two numbers of one specification never share one.
-use Prim.Native.Nat.{ℕ, zero, suc, ◌+◌, ◌-◌, ◌*◌, ◌^◌, ◌≤◌, ◌<◌, max}
+use Prim.Native.Nat.{ℕ, zero, suc, ◌+◌, ◌-◌, ◌*◌, ◌/◌, ◌^◌, ◌≤◌, ◌<◌, max}
 use Rattle.std.specs.Int.{div_ceil}
 use mathlib.Core.Path.{◌≡◌, refl, sym, ap, ◌∙◌}
 use mathlib.Core.Bool.{true}
@@ -28,6 +28,11 @@ length-file-name kind spec n = rw (length-append, length_digits 16 (shard_digits
 pub digits_made : (spec : Sharding) → max (div_ceil (shard_bits_of spec) 4) 1 ≡ shard_digits spec
 unfolding shard_digits
 digits_made spec = omega arith
+
+-- the same by a sum
+pub digits_raised : (spec : Sharding) → max ((shard_bits_of spec + 3) / 4) 1 ≡ shard_digits spec
+unfolding shard_digits
+digits_raised spec = omega arith
 
 pub digits_most : (spec : Sharding) → shard_bits_of spec < 256 → shard_digits spec ≤ 64
 unfolding shard_digits

@@ -1,7 +1,7 @@
 // Standard input, read into a buffer of a fixed length, and whether it has ended.
 #![tactic(auto)]
 
-ghost use Rattle.std.specs.Prelude.{◌≡◌, ◌≤◌, length, take};
+ghost use Rattle.std.specs.Prelude.{◌≡◌, ◌≤◌, length, take, IfSome};
 ghost use Rattle.reading.specs.End.{is_end};
 
 use std::io::{Read, Stdin};
@@ -24,7 +24,9 @@ pub fn read_full(mut input: Stdin, buf: &mut [u8]) -> usize
 }
 
 // What a read of one byte more answers: how many came, or nothing where it failed.
-pub fn read_one(mut input: Stdin) -> Option<usize> {
+pub fn read_one(mut input: Stdin) -> Option<usize>
+    ensures { IfSome result (λ n. n ≤ 1) }
+{
     let mut one = [0u8; 1];
     input.read(&mut one).ok()
 }

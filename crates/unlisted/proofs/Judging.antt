@@ -16,7 +16,7 @@ use Rattle.unlisted.specs.declared.rising_walk.Run.{Run}
 use Rattle.unlisted.specs.declared.checked_walk.Judged.{Judged}
 use Rattle.unlisted.specs.stretches.Reading.{Ranged}
 use Rattle.unlisted.specs.rising_walk.Order.{Extends, in_part, part_at}
-use Rattle.unlisted.specs.Judging.{Steps, JudgedAs}
+use Rattle.unlisted.specs.Judging.{Steps, Skips, JudgedAs}
 use Rattle.unlisted.proofs.stretches.Covering.{ranged_in, read_ranged}
 use Rattle.unlisted.proofs.rising_walk.Runs.{extends_none}
 use Rattle.unlisted.proofs.rising_walk.Parts.{over_none, all-next, tells-each}
@@ -55,6 +55,31 @@ module _ (spec : Sharding) (shard : ℕ) (index d : List ℕ) (m : ℕ) {s e : �
             walk = λ q. rw (es, ee) at x;
           }
 
+-- ---- empty minishards
+
+pub record Passed (index : List ℕ) (m n j : ℕ) : Type 0 where
+  pub from : m ≤ j
+  pub below : j ≤ n
+  pub empty : (i : ℕ) → m ≤ i → i < j → entry_start_of index i ≡ entry_end_of index i
+
+pub skips_first : (index : List ℕ) (m n : ℕ) → m ≤ n → Passed index m n m
+skips_first index m n h = record { from = omega arith; below = h; empty = λ j a b. absurd (omega arith) }
+
+pub skips_next : {index : List ℕ} {m n j s e : ℕ} → Passed index m n j → j < n → s ≡ entry_start_of index j → e ≡ entry_end_of index j → s ≡ e → Passed index m n (j + 1)
+skips_next {index} {m} {n} {j} h l es ee q =
+    record { from = omega (arith, h.from); below = omega arith; empty = λ i a b. one i a (omega arith) }
+  where
+    one : (i : ℕ) → m ≤ i → i ≤ j → entry_start_of index i ≡ entry_end_of index i
+    one i a b = ⊎_elim (λ k. ap (λ (x : ℕ). entry_start_of index x) k ∙ sym es ∙ q ∙ ee ∙ ap (λ (x : ℕ). entry_end_of index x) (sym k)) (λ k. h.empty i a k) (eq-or-lt_of_le b)
+
+pub skips_found : {index : List ℕ} {m n j s e : ℕ} → Passed index m n j → s ≡ entry_start_of index j → e ≡ entry_end_of index j → (s ≡ e → ⊥) → Skips index m n j
+skips_found h es ee ne = record { from = h.from; below = h.below; empty = h.empty; some = λ l q. ne (es ∙ q ∙ sym ee) }
+
+pub skips_all : {index : List ℕ} {m n j : ℕ} → Passed index m n j → n ≤ j → Skips index m n n
+skips_all h l = record { from = omega (arith, h.from, h.below); below = omega arith; empty = λ i a b. h.empty i a (omega arith); some = λ b q. omega arith }
+
+pub ruleset skipping = (skips_first, skips_next, skips_found, skips_all, rules)
+
 -- ---- the first fault, of those that are left
 
 module _ (f : ℕ → Fault) (m n : ℕ) (l : m < n) where
@@ -82,6 +107,11 @@ pub record Judging (spec : Sharding) (shard : ℕ) (index d : List ℕ) (n m : �
   pub earlier : (j : ℕ) → j < m → (fault_of spec shard index d j).number ≡ 0
   pub walked : Extends (part_at true true spec index d m) (record { to = 0; gaps = 0; last = 0 }) at
 
+-- where the loop stands: at a minishard that is not empty, or behind all
+pub record JudgingAt (spec : Sharding) (shard : ℕ) (index d : List ℕ) (n m : ℕ) (at : Run) : Type 0 where
+  pub judging : Judging spec shard index d n m at
+  pub some : m < n → entry_start_of index m ≡ entry_end_of index m → ⊥
+
 module _ (spec : Sharding) (shard : ℕ) (index d : List ℕ) where
   judging_first : {n : ℕ} → n ≡ minishard_count_of spec → Judging spec shard index d n 0 (record { to = 0; gaps = 0; last = 0 })
   unfolding shard_fault part_at any_below
@@ -108,24 +138,39 @@ module _ (spec : Sharding) (shard : ℕ) (index d : List ℕ) where
         }
 
   -- an empty one
-  pub judging_empty : {n m s e : ℕ} {at : Run} → Judging spec shard index d n m at → m < n → s ≡ entry_start_of index m → e ≡ entry_end_of index m → s ≡ e → Judging spec shard index d n (m + 1) at
+  judging_empty : {n m s e : ℕ} {at : Run} → Judging spec shard index d n m at → m < n → s ≡ entry_start_of index m → e ≡ entry_end_of index m → s ≡ e → Judging spec shard index d n (m + 1) at
   judging_empty {n} {m} {s} {e} {at} g l es ee q =
       let t = step-empty spec shard index d m es ee q at g.walked.sums in
       judging_one g l (ap (λ (x : Fault). x.number) (sym t.told)) (t.walk refl)
 
-  pub judging_start : {n : ℕ} {none : Run} → n ≡ minishard_count_of spec → none ≡ record { to = 0; gaps = 0; last = 0 } → Judging spec shard index d n 0 none
-  judging_start {n} e z = rw z (judging_first e)
+  -- k empty ones more
+  judging-empties : (k : ℕ) {n m : ℕ} {at : Run} → Judging spec shard index d n m at → m + k ≤ n → ((j : ℕ) → m ≤ j → j < m + k → entry_start_of index j ≡ entry_end_of index j)
+      → Judging spec shard index d n (m + k) at
+  judging-empties zero {n} {m} {at} g h e = let q : m + 0 ≡ m = omega arith in rw q g
+  judging-empties (suc k) {n} {m} {at} g h e =
+      let q : m + suc k ≡ m + k + 1 = omega arith in
+      let b = judging-empties k g (omega arith) (λ j a c. e j a (omega arith)) in
+      rw q (judging_empty b (omega arith) refl refl (e (m + k) (omega arith) (omega arith)))
 
-  module _ {n m : ℕ} {at : Run} (g : Judging spec shard index d n m at) (l : m < n) {r : Judged} (s : Steps spec shard index d m at r) where
+  judging_skip : {n m r : ℕ} {at : Run} → Judging spec shard index d n m at → Skips index m n r → JudgingAt spec shard index d n r at
+  judging_skip {n} {m} {r} {at} g h =
+      let q : m + (r - m) ≡ r = omega (arith, h.from) in
+      let w : Judging spec shard index d n r at = rw q at (judging-empties (r - m) g (omega (arith, h.below, h.from)) (λ j a b. h.empty j a (omega arith))) in
+      record { judging = w; some = h.some }
+
+  pub judging_start : {n m : ℕ} {none : Run} → n ≡ minishard_count_of spec → none ≡ record { to = 0; gaps = 0; last = 0 } → Skips index 0 n m → JudgingAt spec shard index d n m none
+  judging_start {n} {m} e z h = rw z (judging_skip (judging_first e) h)
+
+  module _ {n m : ℕ} {at : Run} (t : JudgingAt spec shard index d n m at) (l : m < n) {r : Judged} (s : Steps spec shard index d m at r) where
     numbered : r.number ≡ (fault_of spec shard index d m).number
     numbered = ap (λ (x : Fault). x.number) s.told
 
-    pub judging_turn : r.number ≡ 0 → Judging spec shard index d n (m + 1) r.run
-    judging_turn z = judging_one g l (sym numbered ∙ z) (s.walk z)
+    pub judging_turn : r.number ≡ 0 → {k : ℕ} → Skips index (m + 1) n k → JudgingAt spec shard index d n k r.run
+    judging_turn z h = judging_skip (judging_one t.judging l (sym numbered ∙ z) (s.walk z)) h
 
     pub judged-found : (r.number ≡ 0 → ⊥) → JudgedAs spec shard index d r
     judged-found n =
-        let e = g.left ∙ left-found (fault_of spec shard index d) m _ l (λ z. n (numbered ∙ z)) in
+        let e = t.judging.left ∙ left-found (fault_of spec shard index d) m _ l (λ z. n (numbered ∙ z)) in
         record {
           number = numbered ∙ sym (ap (λ (x : ShardFault). x.number) e);
           position = ap (λ (x : Fault). x.position) s.told ∙ sym (ap (λ (x : ShardFault). x.position) e);
@@ -134,8 +179,9 @@ module _ (spec : Sharding) (shard : ℕ) (index d : List ℕ) where
           tells = λ z. absurd (n z);
         }
 
-  pub judged-none : {n m : ℕ} {at : Run} → Judging spec shard index d n m at → n ≤ m → JudgedAs spec shard index d (record { number = 0; position = 0; run = at })
-  judged-none {n} {m} g h =
+  pub judged-none : {n m : ℕ} {at : Run} → JudgingAt spec shard index d n m at → n ≤ m → JudgedAs spec shard index d (record { number = 0; position = 0; run = at })
+  judged-none {n} {m} t h =
+      let g = t.judging in
       let e = g.left ∙ left-none (fault_of spec shard index d) m n h in
       let q : m ≡ minishard_count_of spec = omega (arith, g.below, g.count) in
       record {
@@ -146,4 +192,4 @@ module _ (spec : Sharding) (shard : ℕ) (index d : List ℕ) where
         tells = λ z. tells-each spec index d refl (rw q at g.walked);
       }
 
-pub ruleset judging = (judging_start, judging_empty, judging_turn, judged-found, judged-none, rules)
+pub ruleset judging = (judging_start, judging_turn, judged-found, judged-none, rules)

@@ -17,6 +17,13 @@ pub record Steps (spec : Sharding) (shard : ℕ) (index d : List ℕ) (m : ℕ) 
   pub sums : r.run.gaps ≤ r.run.to
   pub walk : r.number ≡ 0 → Extends (in_part true true spec d (entry_start_of index m) (entry_end_of index m)) run r.run
 
+-- the minishards from m on and before r, of n, are empty, and r is not, unless it is n
+pub record Skips (index : List ℕ) (m n r : ℕ) : Type 0 where
+  pub from : m ≤ r
+  pub below : r ≤ n
+  pub empty : (j : ℕ) → m ≤ j → j < r → entry_start_of index j ≡ entry_end_of index j
+  pub some : r < n → entry_start_of index r ≢ entry_end_of index r
+
 -- of a shard: its fault; where it has none no minishard has one, and the walk went over all
 pub record JudgedAs (spec : Sharding) (shard : ℕ) (index d : List ℕ) (r : Judged) : Type 0 where
   pub number : r.number ≡ (shard_fault spec shard index d).number

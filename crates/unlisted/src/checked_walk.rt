@@ -6,7 +6,7 @@ ghost use Rattle.shard.specs.index.Index.{entry_start_of, entry_end_of, most_sha
 ghost use Rattle.shard.specs.File.{index_length_of};
 ghost use Rattle.unlisted.specs.stretches.Reading.{Ranged};
 ghost use Rattle.unlisted.specs.rising_walk.Order.{Extends, in_part};
-ghost use Rattle.unlisted.specs.Judging.{Steps, JudgedAs};
+ghost use Rattle.unlisted.specs.Judging.{Steps, Skips, JudgedAs};
 
 use crate::rising_walk::{BROKEN, Run, nothing, over_part};
 use shard::index::{entry_end, entry_start};
@@ -60,6 +60,19 @@ fn step(run: Run, spec: Sharding, shard: u64, index: &[u8], data: &[u8], m: u64)
     }
 }
 
+// The first minishard from m on that is not empty, or n. A loop of its own, which is short: nearly all minishards of a shard may be empty.
+fn next_some(index: &[u8], m: u64, n: u64) -> u64
+    requires { (m ≤ n) × (16 * n ≤ length index.now) }
+    ensures { Skips index.now m n result }
+{
+    for j in m..n {
+        if entry_start(index, j) != entry_end(index, j) {
+            return j;
+        }
+    }
+    n
+}
+
 // All minishards, up to the first with a fault. An empty one has none, wherever it points.
 pub fn judge_all(spec: Sharding, shard: u64, index: &[u8], data: &[u8]) -> Judged
     requires spec_value { allowed spec ≡ true }
@@ -68,15 +81,15 @@ pub fn judge_all(spec: Sharding, shard: u64, index: &[u8], data: &[u8]) -> Judge
 {
     let n = minishard_count(spec);
     let mut at = nothing();
-    for m in 0..n {
-        if entry_start(index, m) == entry_end(index, m) {
-            continue;
-        }
+    // m goes from one minishard that is not empty to the next.
+    let mut m = next_some(index, 0, n);
+    while m < n {
         let next = step(at, spec, shard, index, data, m);
         if next.number != 0 {
             return next;
         }
         at = next.run;
+        m = next_some(index, m + 1, n);
     }
     Judged {
         number: 0,

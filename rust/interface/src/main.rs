@@ -39,6 +39,9 @@ fn outputs(root: &Path) -> Result<Vec<(String, String)>, String> {
         &own.join("refusals.txt"),
         source.modules.iter().flat_map(|m| &m.functions),
     )?;
+    let library = "crates/refusal/src/lib.rt";
+    table::hold(&refusals, &text(&root.join(library))?)
+        .map_err(|why| format!("{library}: {why}"))?;
     let constants = table::constants(&own.join("constants.txt"))?;
     let document = text(&root.join("docs/ENTRY-POINTS.md"))?;
     let workspace = text(&root.join("rust/Cargo.toml"))?;

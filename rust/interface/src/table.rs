@@ -201,6 +201,32 @@ fn constant_name(name: &str) -> bool {
             .all(|c| c.is_ascii_uppercase() || c.is_ascii_digit() || c == '_')
 }
 
+/// A constant's name as the library's enum has it.
+fn variant(name: &str) -> String {
+    name.split('_')
+        .filter(|word| !word.is_empty())
+        .map(|word| word[..1].to_string() + &word[1..].to_lowercase())
+        .collect()
+}
+
+/// Sees that the library's own enum of refusals, in this source, has each of the table under the table's number and name. Those that
+/// the table leaves out, since no call of C gives them, stand in the enum alone.
+pub fn hold(refusals: &[Refusal], source: &str) -> Result<(), String> {
+    let (_, behind) = source
+        .split_once("pub enum Refusal {")
+        .ok_or("no enum Refusal")?;
+    let (variants, _) = behind.split_once('}').ok_or("the enum has no end")?;
+    for refusal in refusals {
+        let wanted = format!("{} = {},", variant(&refusal.name), refusal.number);
+        if !variants.lines().any(|line| line.trim() == wanted) {
+            return Err(format!(
+                "the enum Refusal has no `{wanted}` as refusals.txt says"
+            ));
+        }
+    }
+    Ok(())
+}
+
 #[cfg(test)]
 mod tests {
     use super::*;
@@ -242,6 +268,26 @@ mod tests {
         let numbers: Vec<u8> = found.iter().map(|refusal| refusal.number).collect();
         assert_eq!(numbers, [2, 30]);
         assert_eq!(found[0].says, "S and more.");
+    }
+
+    #[test]
+    fn the_library_has_the_numbers_and_names() {
+        let text = record("2", "TWO", "none") + &record("30", "TOO_LONG", "none");
+        let found = table("held", &text).expect("it is whole");
+        let source =
+            "// words\npub enum Refusal {\n    Two = 2,\n    TooLong = 30,\n    More = 31,\n}\n";
+        assert_eq!(hold(&found, source), Ok(()));
+        for (one, other) in [
+            ("Two = 2", "Two = 3"),
+            ("TooLong", "TooShort"),
+            ("    Two = 2,\n", ""),
+            ("enum Refusal", "enum Other"),
+        ] {
+            assert!(
+                hold(&found, &source.replace(one, other)).is_err(),
+                "{other}"
+            );
+        }
     }
 
     #[test]

@@ -63,9 +63,9 @@ module _ (s : List ℕ) (e o first second step high count : ℕ) (r : ReadableRu
         let l : o + table_in first ≡ o + table_in first + e * 0 = omega arith in
         ap (le (4 * e)) (ap (λ (x : ℕ). le_at (4 * e) s (4 * x)) l ∙ sym (entry-label s e (o + table_in first) 0 flat_read) ∙ ap label_in flat_value)
 
-    pub flat_on : {at : ℕ} {d out g : List ℕ} {p q : ℕ} → Filled (run_voxel s e o first second step high) (4 * e) count at d u p out → q ≡ p + 4 * e
-        → g ≡ paste p (le (4 * e) (le_at (4 * e) s (4 * (o + table_in first)))) out → Filled (run_voxel s e o first second step high) (4 * e) count at d (u + 1) q g
-    flat_on {out = out} {p = p} f qe ge = filled_on f h qe (ge ∙ ap (λ (x : List ℕ). paste p x out) flat_voxel)
+    pub flat_on : {at label : ℕ} {d out g : List ℕ} {p q : ℕ} → label ≡ le_at (4 * e) s (4 * (o + table_in first)) → Filled (run_voxel s e o first second step high) (4 * e) count at d u p out
+        → q ≡ p + 4 * e → g ≡ paste p (le (4 * e) label) out → Filled (run_voxel s e o first second step high) (4 * e) count at d (u + 1) q g
+    flat_on {out = out} {p = p} l f qe ge = filled_on f h qe (ge ∙ ap (λ (x : List ℕ). paste p x out) (ap (le (4 * e)) l ∙ flat_voxel))
 
 -- packed: the words of a run in which each voxel has a label are whole
 module _ (s : List ℕ) (e o first second step high count : ℕ) (r : ReadableRun s e o first second step high count) (is : is_width (width_in first) ≡ true) (some : 0 < width_in first) where

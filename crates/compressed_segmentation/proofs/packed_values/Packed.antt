@@ -4,7 +4,7 @@ use mathlib.Core.Path.{◌≡◌, refl, sym, ap, ◌∙◌, subst}
 use mathlib.Core.Bool.{Bool, true, false, ◌||◌}
 use mathlib.Core.Logic.{◌⊎◌, ⊎_elim, inl, inr}
 use native.Mathlib.Omega.{arith}
-use native.Mathlib.Nat.{mul-add, mul_left_comm, div-add-mod}
+use native.Mathlib.Nat.{mul-add, add-mul, mul_left_comm, mul_right_comm, add-mul-mod_self_left, div-add-mod, mod-lt, mul-div-mul_right, mod-eq_of_lt, mul-lt-mul_of_pos_right}
 use lib.Dec.{eqb}
 use borrow.Author.Tests.{eqb-true}
 use Rattle.compressed_segmentation.specs.Layout.{width_in, is_width}
@@ -35,6 +35,22 @@ widths w e h =
   where
     at : (k : ℕ) → eqb w k ≡ true → Width k → Width w
     at k q r = subst Width (sym (eqb-true w k q)) r
+
+-- the place of a value in voxels, and the same in bits: a width divides 32
+module _ (w m : ℕ) (some : 0 < w) (r : Width w) where
+  pub bits-word : m * w / 32 ≡ m / (32 / w)
+  bits-word = ap (λ (x : ℕ). m * w / x) (sym r.product) ∙ mul-div-mul_right m (32 / w) some
+
+  pub bits_shift : m * w % 32 ≡ m % (32 / w) * w
+  bits_shift =
+      let p = 32 / w in
+      let l : m % p < p = mod-lt m r.some in
+      let k : m % p * w < p * w = mul-lt-mul_of_pos_right l some in
+      let d = div-add-mod m p in
+      let f : p * (m / p) * w ≡ 32 * (m / p) = mul_right_comm p (m / p) w ∙ ap (λ (x : ℕ). x * (m / p)) r.product in
+      let g : m * w ≡ p * (m / p) * w + m % p * w = ap (λ (x : ℕ). x * w) (sym d) ∙ add-mul _ _ w in
+      let e : m * w ≡ m % p * w + 32 * (m / p) = omega arith in
+      ap (λ (x : ℕ). x % 32) e ∙ add-mul-mod_self_left _ 32 (m / p) ∙ mod-eq_of_lt (omega (arith, r.product))
 
 -- ---- the voxel number low + step * high, `per` to a word
 

@@ -101,7 +101,7 @@ pub data Reached : ℕ → Turn → Type 0 where
   begun : Reached 0 (turning empty More)
   went : {n : ℕ} {t r : Turn} {head before body : List ℕ} → Reached n t → t.ending ≡ More → Next t.sheet head before body r → Reached (suc n) r
 
--- the program counts its turns down from this number
+-- the program takes so many turns at most
 abbrev pub most_turns : ℕ
 most_turns = 2 ^ 64 - 1
 

@@ -12,6 +12,3 @@ loop-m-preserved c = search judging
 
 pub returns : goal.returns
 returns c = search judging
-
-pub loop-m-preserved-then-entry_start-entry_end : goal.loop-m-preserved-then-entry_start-entry_end
-loop-m-preserved-then-entry_start-entry_end c = search judging
