@@ -138,7 +138,7 @@ module _ (spec : Sharding) (shard : ℕ) (index d : List ℕ) where
         }
 
   -- an empty one
-  judging_empty : {n m s e : ℕ} {at : Run} → Judging spec shard index d n m at → m < n → s ≡ entry_start_of index m → e ≡ entry_end_of index m → s ≡ e → Judging spec shard index d n (m + 1) at
+  pub judging_empty : {n m s e : ℕ} {at : Run} → Judging spec shard index d n m at → m < n → s ≡ entry_start_of index m → e ≡ entry_end_of index m → s ≡ e → Judging spec shard index d n (m + 1) at
   judging_empty {n} {m} {s} {e} {at} g l es ee q =
       let t = step-empty spec shard index d m es ee q at g.walked.sums in
       judging_one g l (ap (λ (x : Fault). x.number) (sym t.told)) (t.walk refl)
@@ -158,19 +158,19 @@ module _ (spec : Sharding) (shard : ℕ) (index d : List ℕ) where
       let w : Judging spec shard index d n r at = rw q at (judging-empties (r - m) g (omega (arith, h.below, h.from)) (λ j a b. h.empty j a (omega arith))) in
       record { judging = w; some = h.some }
 
-  pub judging_start : {n m : ℕ} {none : Run} → n ≡ minishard_count_of spec → none ≡ record { to = 0; gaps = 0; last = 0 } → Skips index 0 n m → JudgingAt spec shard index d n m none
-  judging_start {n} {m} e z h = rw z (judging_skip (judging_first e) h)
+  pub judging_start : {n : ℕ} {none : Run} → n ≡ minishard_count_of spec → none ≡ record { to = 0; gaps = 0; last = 0 } → Judging spec shard index d n 0 none
+  judging_start {n} e z = rw z (judging_first e)
 
-  module _ {n m : ℕ} {at : Run} (t : JudgingAt spec shard index d n m at) (l : m < n) {r : Judged} (s : Steps spec shard index d m at r) where
+  module _ {n m : ℕ} {at : Run} (g : Judging spec shard index d n m at) (l : m < n) {r : Judged} (s : Steps spec shard index d m at r) where
     numbered : r.number ≡ (fault_of spec shard index d m).number
     numbered = ap (λ (x : Fault). x.number) s.told
 
-    pub judging_turn : r.number ≡ 0 → {k : ℕ} → Skips index (m + 1) n k → JudgingAt spec shard index d n k r.run
-    judging_turn z h = judging_skip (judging_one t.judging l (sym numbered ∙ z) (s.walk z)) h
+    pub judging_turn : r.number ≡ 0 → Judging spec shard index d n (m + 1) r.run
+    judging_turn z = judging_one g l (sym numbered ∙ z) (s.walk z)
 
     pub judged-found : (r.number ≡ 0 → ⊥) → JudgedAs spec shard index d r
     judged-found n =
-        let e = t.judging.left ∙ left-found (fault_of spec shard index d) m _ l (λ z. n (numbered ∙ z)) in
+        let e = g.left ∙ left-found (fault_of spec shard index d) m _ l (λ z. n (numbered ∙ z)) in
         record {
           number = numbered ∙ sym (ap (λ (x : ShardFault). x.number) e);
           position = ap (λ (x : Fault). x.position) s.told ∙ sym (ap (λ (x : ShardFault). x.position) e);
@@ -179,9 +179,8 @@ module _ (spec : Sharding) (shard : ℕ) (index d : List ℕ) where
           tells = λ z. absurd (n z);
         }
 
-  pub judged-none : {n m : ℕ} {at : Run} → JudgingAt spec shard index d n m at → n ≤ m → JudgedAs spec shard index d (record { number = 0; position = 0; run = at })
-  judged-none {n} {m} t h =
-      let g = t.judging in
+  pub judged-none : {n m : ℕ} {at : Run} → Judging spec shard index d n m at → n ≤ m → JudgedAs spec shard index d (record { number = 0; position = 0; run = at })
+  judged-none {n} {m} g h =
       let e = g.left ∙ left-none (fault_of spec shard index d) m n h in
       let q : m ≡ minishard_count_of spec = omega (arith, g.below, g.count) in
       record {
@@ -192,4 +191,18 @@ module _ (spec : Sharding) (shard : ℕ) (index d : List ℕ) where
         tells = λ z. tells-each spec index d refl (rw q at g.walked);
       }
 
-pub ruleset judging = (judging_start, judging_turn, judged-found, judged-none, rules)
+  -- the same where the loop stands
+  pub start_at : {n m : ℕ} {none : Run} → n ≡ minishard_count_of spec → none ≡ record { to = 0; gaps = 0; last = 0 } → Skips index 0 n m → JudgingAt spec shard index d n m none
+  start_at e z h = judging_skip (judging_start e z) h
+
+  module _ {n m : ℕ} {at : Run} (t : JudgingAt spec shard index d n m at) (l : m < n) {r : Judged} (s : Steps spec shard index d m at r) where
+    pub turn_at : r.number ≡ 0 → {k : ℕ} → Skips index (m + 1) n k → JudgingAt spec shard index d n k r.run
+    turn_at z h = judging_skip (judging_turn t.judging l s z) h
+
+    pub found_at : (r.number ≡ 0 → ⊥) → JudgedAs spec shard index d r
+    found_at n = judged-found t.judging l s n
+
+  pub none_at : {n m : ℕ} {at : Run} → JudgingAt spec shard index d n m at → n ≤ m → JudgedAs spec shard index d (record { number = 0; position = 0; run = at })
+  none_at t h = judged-none t.judging h
+
+pub ruleset judging = (start_at, turn_at, found_at, none_at, rules)
